@@ -1,0 +1,26 @@
+//! The namespace as data, and the machine that every other layer is proved against.
+//!
+//! Here are the values that all layers pass (messages, calls, replies, refusals, the state) and,
+//! in `specs/`, the definitions: what the machine answers to a call in a state, and which
+//! histories are legal. Contracts see each list type as a list, so the same records serve code
+//! and definitions. The laws are public functions with an empty body: each carries a statement
+//! over all states and histories.
+#![tactic(auto)]
+
+mod call;
+mod laws;
+mod message;
+mod reply;
+mod rows;
+mod state;
+mod text;
+mod worked;
+
+pub use call::{Act, By, Call, Description, Event, EventRef, Mode, Part, Path, TimedCall, Token};
+pub use laws::{answers_legally, answers_no_fault, goes_on, starts_consistent};
+pub use message::{Message, Name, Property, PropertyValue, SystemName, SystemText};
+pub use reply::{Answer, CopyShown, CopyState, Receipt, Refusal, Reply, Showing};
+pub use rows::Rows;
+pub use state::{Entity, Leaf, State, StoredCopy};
+pub use text::Text;
+pub use worked::worked_rows;
