@@ -110,6 +110,7 @@ pub enum Event {
 }
 
 /// An event that borrows its call, so that journaling a call takes no copy of it.
+#[derive(Clone, Copy)]
 pub enum EventRef<'a> {
     Tick { moment: u64 },
     Called { moment: u64, call: &'a Call },
