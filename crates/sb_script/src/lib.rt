@@ -1,0 +1,15 @@
+//! Lines of a script: from the text of a line to a call, and from an answer to the text of a
+//! reply.
+#![tactic(auto)]
+
+mod acts;
+mod fault;
+mod fields;
+mod keys;
+mod line;
+mod messages;
+mod worked;
+
+pub use fault::LineFault;
+pub use line::read_line;
+pub use worked::{worked_calls, worked_faults};

@@ -1,0 +1,29 @@
+// Rows worked through with the definitions alone.
+ghost use Rattle.std.specs.Prelude.{◌≡◌, ◌∷◌, [], codes, Ok, Err, None};
+ghost use Rattle.sb_model.specs.Namespace.{default_description, entity_path};
+ghost use Rattle.sb_model.specs.Worked.{at, body_only, take_from};
+ghost use Rattle.sb_model.specs.declared.call.Act.TheVariants.{CreateQueue, Send, Peek};
+ghost use Rattle.sb_script.specs.Lines.{line_of};
+
+/// Lines that spell a call: keys in any order, names folded, `at` absent or there, bodies as text
+/// and as digits, a count that only the machine judges.
+pub fn worked_calls()
+    ensures creates { line_of (codes "{\"at\":5,\"do\":\"create-queue\",\"name\":\"Q\"}")
+        ≡ Ok (at 5 (CreateQueue (codes "q") default_description)) }
+    ensures sends { line_of (codes "{\"at\":0,\"do\":\"send\",\"to\":\"q\",\"messages\":[{\"body\":\"a\"},{\"body_hex\":\"ff\"}]}")
+        ≡ Ok (at 0 (Send (entity_path (codes "q")) (body_only (codes "a") ∷ body_only (255 ∷ []) ∷ []) None)) }
+    ensures receives { line_of (codes "{\"at\":9,\"do\":\"receive\",\"from\":\"q\",\"mode\":\"delete\"}")
+        ≡ Ok (at 9 (take_from (codes "q"))) }
+    ensures peeks { line_of (codes "{\"do\":\"peek\",\"from\":\"q\",\"start\":1,\"count\":0}")
+        ≡ Ok (at 0 (Peek (entity_path (codes "q")) 1 0)) }
+{}
+
+/// Lines that spell no call, and the key at fault in each.
+pub fn worked_faults()
+    ensures bracket { line_of (codes "[") ≡ Err [] }
+    ensures moment { line_of (codes "{\"count\":0,\"do\":\"peek\",\"from\":\"q\",\"start\":1,\"at\":-1}")
+        ≡ Err (codes "at") }
+    ensures mode { line_of (codes "{\"do\":\"receive\",\"from\":\"q\"}") ≡ Err (codes "mode") }
+    ensures bodies { line_of (codes "{\"do\":\"send\",\"to\":\"q\",\"messages\":[{\"body\":\"a\",\"body_hex\":\"00\"}]}")
+        ≡ Err (codes "body_hex") }
+{}
