@@ -1,1 +1,2 @@
-pub mod Members
+pub mod UnknownKeys
+pub mod Floats

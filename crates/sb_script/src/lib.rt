@@ -7,9 +7,13 @@ mod fault;
 mod fields;
 mod keys;
 mod line;
+mod members;
 mod messages;
+mod reply;
+mod shown;
 mod worked;
 
 pub use fault::LineFault;
 pub use line::read_line;
+pub use reply::write_reply;
 pub use worked::{worked_calls, worked_faults};

@@ -1,6 +1,6 @@
 use Rattle.std.proofs.Common.{sym, ◌∙◌, ap, option_map, string_bytes}
 use Rattle.sb_script.specs.Lines as lines
-use Rattle.sb_script.proofs.Members.{bytes_of, unknown_in-members_view}
+use Rattle.sb_script.proofs.UnknownKeys.{bytes_of, unknown_in-members_view}
 use Rattle.sb_script.proofs.keys.unknown_in.Goals as goal
 
 pub returns : goal.returns
