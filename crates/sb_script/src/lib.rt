@@ -16,4 +16,4 @@ mod worked;
 pub use fault::LineFault;
 pub use line::read_line;
 pub use reply::write_reply;
-pub use worked::{worked_calls, worked_faults};
+pub use worked::{worked_calls, worked_faults, worked_replies};
