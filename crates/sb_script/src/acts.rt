@@ -82,7 +82,8 @@ fn send_of(alloc: Global, value: &Value) -> Result<Act, LineFault>
 }
 
 fn mode_of(value: &Value) -> Option<Mode>
-    ensures { result ≡ option_and_then lines.mode_named (fields.text_at (codes "mode") (view value.now)) }
+    ensures { result
+        ≡ option_and_then lines.mode_named (fields.text_at (codes "mode") (view value.now)) }
 {
     text_at(value, "mode").and_then(mode_named)
 }

@@ -107,7 +107,8 @@ fn put_state(members: &mut Members, alloc: Global, showing: Showing) -> Result<(
 
 fn put_digits(members: &mut Members, alloc: Global, body: &[u8]) -> Result<(), AllocError>
     ensures { OnOk result (members_view members.new.entries
-        ≡ with_member (codes "body_hex") (string (encode_lower body.now)) (members_view members.old.entries)) }
+        ≡ with_member (codes "body_hex") (string (encode_lower body.now))
+        (members_view members.old.entries)) }
 {
     let digits = hex::encode(alloc, body)?;
     put(members, alloc, "body_hex", Value::String(digits))
