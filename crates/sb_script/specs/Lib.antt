@@ -4,3 +4,4 @@ pub mod Messages
 pub mod Lines
 pub mod Shown
 pub mod Replies
+pub mod Laws

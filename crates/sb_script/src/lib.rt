@@ -17,6 +17,7 @@ mod acts;
 mod fault;
 mod fields;
 mod keys;
+mod laws;
 mod line;
 mod members;
 mod messages;
@@ -25,6 +26,7 @@ mod shown;
 mod worked;
 
 pub use fault::LineFault;
+pub use laws::each_is_one_line;
 pub use line::read_line;
 pub use reply::write_reply;
 pub use worked::{worked_calls, worked_faults, worked_replies};
