@@ -45,8 +45,11 @@ fn object_call(alloc: Global, value: &Value) -> Result<TimedCall, LineFault>
     call_of(alloc, value)
 }
 
-/// The call that the text of a line spells and the reading of the clock, in ms since 1970, at
-/// which it is made, or the first key at fault.
+/// The call that the text of a line spells, and the reading of the clock at which it is made, in
+/// ms since 1970 (0 to 2^64 - 1, and 0 where the line gives none).
+///
+/// Else the first key at fault: the empty one where the text is no JSON object, then `do`, then
+/// the unknown keys in byte order, then the act's own keys in their order, then `at`.
 pub fn read_line(alloc: Global, text: &str) -> Result<TimedCall, LineFault>
     ensures { Answers result (lines.line_of text.now) }
 {

@@ -116,7 +116,7 @@ fn line_text(alloc: Global, value: &Value) -> Result<String, AllocError>
     Ok(text)
 }
 
-/// The line of a reply, with its line feed.
+/// The line of a reply, with its line feed. It fails for want of memory alone.
 pub fn write_reply(alloc: Global, answer: &Answer) -> Result<String, AllocError>
     ensures { IfOk result (λ s. string_bytes s ≡ replies.answer_line answer.now) }
 {
