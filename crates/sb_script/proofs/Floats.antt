@@ -1,0 +1,119 @@
+-- No reply holds a float.
+use Rattle.std.proofs.Common.{◌≡◌, ℕ, List, [], ◌∷◌, Bool, true, false, Option, Some, None, map, codes, if◌then◌else◌, Result, Ok, Err, pos, negsuc, refl, ◌||◌, Ordering, Less, Equal, Greater, nat_cmp}
+use Rattle.std.specs.Cmp.Lexicographic.{slice_cmp}
+use Rattle.std.specs.Ordering.{match_ordering}
+use Rattle.std.specs.Str.{is_utf8}
+use Rattle.hex.specs.Hex.{encode_lower}
+use Rattle.serde_json.specs.Data.{Data, number, unsigned, string, Members, no_members, member, put}
+use Rattle.serde_json.specs.View.{items_of}
+use Rattle.serde_json.specs.Written.{has_float, items_have_float, members_have_float}
+use Rattle.sb_model.specs.declared.message.Property.{Property}
+use Rattle.sb_model.specs.declared.message.PropertyValue.{PropertyValue}
+use Rattle.sb_model.specs.declared.message.PropertyValue.TheVariants.{Int, Text, Bool as Truth}
+use Rattle.sb_model.specs.declared.message.SystemText.{SystemText}
+use Rattle.sb_model.specs.declared.reply.CopyShown.{CopyShown}
+use Rattle.sb_model.specs.declared.reply.Showing.{Showing}
+use Rattle.sb_model.specs.declared.reply.Showing.TheVariants.{Removed, Browsed}
+use Rattle.sb_model.specs.declared.reply.Receipt.{Receipt}
+use Rattle.sb_model.specs.declared.reply.Receipt.TheVariants.{Number, Duplicate}
+use Rattle.sb_model.specs.declared.reply.Reply.{Reply}
+use Rattle.sb_model.specs.declared.reply.Reply.TheVariants.{Done, Sent, Message, Empty, Copies}
+use Rattle.sb_model.specs.declared.reply.Refusal.{Refusal}
+use Rattle.sb_model.specs.declared.reply.Refusal.TheVariants.{BadCall, EntityNotFound, EntityExists, BadName, TooLarge, Exhausted, DiskFault, Stopped, OutOfMemory}
+use Rattle.sb_script.specs.Shown.{system_name, state_name, property_data, with_properties, with_texts, with_ttl, with_state, with_body, common_members, shown_data}
+use Rattle.sb_script.specs.Replies.{receipt_data, reply_data, refusal_data, answer_data}
+
+either_way : (o : Ordering) (a b c : Members) → members_have_float a ≡ false → members_have_float b ≡ false → members_have_float c ≡ false
+    → members_have_float (match_ordering o a b c) ≡ false
+either_way Less a b c x y z = x
+either_way Equal a b c x y z = y
+either_way Greater a b c x y z = z
+
+neither : (a b : Bool) → a ≡ false → b ≡ false → (a || b) ≡ false
+neither a b x y = rw (x, y) refl
+
+left : (a b : Bool) → (a || b) ≡ false → a ≡ false
+left true b h = h
+left false b h = refl
+
+right : (a b : Bool) → (a || b) ≡ false → b ≡ false
+right true b h = absurd cc
+right false b h = h
+
+put_whole : (k : List ℕ) (d : Data) (ms : Members) → has_float d ≡ false → members_have_float ms ≡ false → members_have_float (put k d ms) ≡ false
+put_whole k d no_members whole rest = neither _ _ whole rest
+put_whole k d (member l e ms) whole rest =
+    either_way (slice_cmp nat_cmp k l) _ _ _ (neither _ _ whole rest) (neither _ _ whole (right (has_float e) _ rest))
+    (neither _ _ (left _ _ rest) (put_whole k d ms whole (right (has_float e) _ rest)))
+
+property_whole : (v : PropertyValue) → has_float (property_data v) ≡ false
+property_whole (Int (pos n)) = refl
+property_whole (Int (negsuc n)) = refl
+property_whole (Text text) = refl
+property_whole (Truth b) = refl
+
+properties_whole : (ms : Members) (ps : List Property) → members_have_float ms ≡ false → members_have_float (with_properties ms ps) ≡ false
+properties_whole ms [] whole = whole
+properties_whole ms (p ∷ ps) whole = properties_whole (put p.name (property_data p.value) ms) ps (put_whole p.name (property_data p.value) ms (property_whole p.value) whole)
+
+texts_whole : (ms : Members) (ts : List SystemText) → members_have_float ms ≡ false → members_have_float (with_texts ms ts) ≡ false
+texts_whole ms [] whole = whole
+texts_whole ms (t ∷ ts) whole = texts_whole (put (system_name t.name) (string t.text) ms) ts (put_whole (system_name t.name) (string t.text) ms refl whole)
+
+common_whole : (c : CopyShown) → members_have_float (common_members c) ≡ false
+common_whole c = neither _ _ (properties_whole _ c.message.props refl) (neither _ _ (texts_whole _ c.message.sys refl) refl)
+
+ttl_whole : (ttl : Option ℕ) (ms : Members) → members_have_float ms ≡ false → members_have_float (with_ttl ttl ms) ≡ false
+ttl_whole None ms whole = whole
+ttl_whole (Some n) ms whole = put_whole (codes "ttl") (number (unsigned n)) ms refl whole
+
+state_whole : (showing : Showing) (ms : Members) → members_have_float ms ≡ false → members_have_float (with_state showing ms) ≡ false
+state_whole Removed ms whole = whole
+state_whole (Browsed state) ms whole = put_whole (codes "state") (string (state_name state)) ms refl whole
+
+chosen : (b : Bool) (x y : Members) → members_have_float x ≡ false → members_have_float y ≡ false → members_have_float (if b then x else y) ≡ false
+chosen true x y p q = p
+chosen false x y p q = q
+
+body_whole : (body : List ℕ) (ms : Members) → members_have_float ms ≡ false → members_have_float (with_body body ms) ≡ false
+body_whole body ms whole =
+    let text : Members = put (codes "body") (string body) ms in
+    let digits : Members = put (codes "body_hex") (string (encode_lower body)) ms in
+    chosen (is_utf8 body) text digits (put_whole (codes "body") (string body) ms refl whole) (put_whole (codes "body_hex") (string (encode_lower body)) ms refl whole)
+
+shown_whole : (c : CopyShown) → has_float (shown_data c) ≡ false
+shown_whole c =
+    let ttl : Members = with_ttl c.message.ttl (common_members c) in
+    let state : Members = with_state c.showing ttl in
+    body_whole c.message.body state (state_whole c.showing ttl (ttl_whole c.message.ttl (common_members c) (common_whole c)))
+
+copies_whole : (cs : List CopyShown) → items_have_float (items_of (map shown_data cs)) ≡ false
+copies_whole [] = refl
+copies_whole (c ∷ cs) = neither _ _ (shown_whole c) (copies_whole cs)
+
+receipts_whole : (rs : List Receipt) → items_have_float (items_of (map receipt_data rs)) ≡ false
+receipts_whole [] = refl
+receipts_whole (Number n ∷ rs) = receipts_whole rs
+receipts_whole (Duplicate ∷ rs) = receipts_whole rs
+
+reply_whole : (r : Reply) → has_float (reply_data r) ≡ false
+reply_whole Done = refl
+reply_whole (Sent rs) = neither _ _ (receipts_whole rs) refl
+reply_whole (Message c) = neither _ _ (shown_whole c) refl
+reply_whole Empty = refl
+reply_whole (Copies cs) = neither _ _ (copies_whole cs) refl
+
+refusal_whole : (r : Refusal) → has_float (refusal_data r) ≡ false
+refusal_whole (BadCall key) = refl
+refusal_whole EntityNotFound = refl
+refusal_whole EntityExists = refl
+refusal_whole BadName = refl
+refusal_whole (TooLarge size) = refl
+refusal_whole Exhausted = refl
+refusal_whole DiskFault = refl
+refusal_whole (Stopped faults) = refl
+refusal_whole OutOfMemory = refl
+
+pub answer_whole : (a : Result Reply Refusal) → has_float (answer_data a) ≡ false
+answer_whole (Ok r) = reply_whole r
+answer_whole (Err r) = refusal_whole r

@@ -1,0 +1,3 @@
+pub mod UnknownKeys
+pub mod Floats
+pub mod OneLine

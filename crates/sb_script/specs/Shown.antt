@@ -1,0 +1,76 @@
+-- A copy of a message as a reply shows it.
+use Rattle.std.specs.Prelude.{ℕ, List, [], ◌∷◌, if◌then◌else◌, codes, Option, Some, None}
+use Rattle.std.specs.Str.{is_utf8}
+use Rattle.hex.specs.Hex.{encode_lower}
+use Rattle.serde_json.specs.Data.{Data, number, unsigned, boolean, string, object, Members, no_members, member, put}
+use Rattle.serde_json.specs.Find.{of_integer}
+use Rattle.sb_model.specs.declared.message.Property.{Property}
+use Rattle.sb_model.specs.declared.message.PropertyValue.{PropertyValue}
+use Rattle.sb_model.specs.declared.message.PropertyValue.TheVariants.{Int, Text, Bool}
+use Rattle.sb_model.specs.declared.message.SystemName.{SystemName}
+use Rattle.sb_model.specs.declared.message.SystemName.TheVariants.{MessageId, Label, CorrelationId, SessionId, To, ReplyTo, ReplyToSessionId, ContentType}
+use Rattle.sb_model.specs.declared.message.SystemText.{SystemText}
+use Rattle.sb_model.specs.declared.reply.CopyShown.{CopyShown}
+use Rattle.sb_model.specs.declared.reply.CopyState.{CopyState}
+use Rattle.sb_model.specs.declared.reply.CopyState.TheVariants.{Ready}
+use Rattle.sb_model.specs.declared.reply.Showing.{Showing}
+use Rattle.sb_model.specs.declared.reply.Showing.TheVariants.{Removed, Browsed}
+
+-- ---- names and values
+
+abbrev pub system_name : SystemName → List ℕ
+system_name MessageId = codes "MessageId"
+system_name Label = codes "Label"
+system_name CorrelationId = codes "CorrelationId"
+system_name SessionId = codes "SessionId"
+system_name To = codes "To"
+system_name ReplyTo = codes "ReplyTo"
+system_name ReplyToSessionId = codes "ReplyToSessionId"
+system_name ContentType = codes "ContentType"
+
+-- a property's value: a whole number, a text or a truth value
+abbrev pub property_data : PropertyValue → Data
+property_data (Int z) = number (of_integer z)
+property_data (Text text) = string text
+property_data (Bool b) = boolean b
+
+abbrev pub state_name : CopyState → List ℕ
+state_name Ready = codes "ready"
+
+-- Each put in under its name: keys stand in byte order, and of equal ones the last stands.
+abbrev pub with_properties : Members → List Property → Members
+with_properties ms [] = ms
+with_properties ms (p ∷ ps) = with_properties (put p.name (property_data p.value) ms) ps
+
+abbrev pub with_texts : Members → List SystemText → Members
+with_texts ms [] = ms
+with_texts ms (t ∷ ts) = with_texts (put (system_name t.name) (string t.text) ms) ts
+
+-- ---- the copy
+
+-- what each copy has
+abbrev pub common_members : CopyShown → Members
+common_members c =
+    member (codes "delivery") (number (unsigned c.delivery))
+    (member (codes "enqueued") (number (unsigned c.enqueued))
+    (member (codes "enqueued_seq") (number (unsigned c.enqueued_seq))
+    (member (codes "props") (object (with_properties no_members c.message.props))
+    (member (codes "seq") (number (unsigned c.number))
+    (member (codes "sys") (object (with_texts no_members c.message.sys)) no_members)))))
+
+-- the time to live, in seconds, where there is one
+abbrev pub with_ttl : Option ℕ → Members → Members
+with_ttl None ms = ms
+with_ttl (Some ttl) ms = put (codes "ttl") (number (unsigned ttl)) ms
+
+-- the state, where the copy was looked at
+abbrev pub with_state : Showing → Members → Members
+with_state Removed ms = ms
+with_state (Browsed state) ms = put (codes "state") (string (state_name state)) ms
+
+-- the body as text where its bytes are UTF-8, else as hexadecimal digits
+abbrev pub with_body : List ℕ → Members → Members
+with_body bytes ms = if is_utf8 bytes then put (codes "body") (string bytes) ms else put (codes "body_hex") (string (encode_lower bytes)) ms
+
+abbrev pub shown_data : CopyShown → Data
+shown_data c = object (with_body c.message.body (with_state c.showing (with_ttl c.message.ttl (common_members c))))

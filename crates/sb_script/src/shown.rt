@@ -1,0 +1,136 @@
+// A copy of a message as a reply shows it.
+ghost use Rattle.std.specs.Prelude.{◌≡◌, IfOk, OnOk, codes};
+ghost use Rattle.hex.specs.Hex.{encode_lower};
+ghost use Rattle.serde_json.specs.Data.{object, string, no_members, put as with_member};
+ghost use Rattle.serde_json.specs.View.{view, members_view};
+ghost use Rattle.sb_script.specs.Shown as shown;
+
+use crate::members::{Members, put_number, put_text};
+use sb_model::{CopyShown, CopyState, Property, PropertyValue, Showing, SystemName, SystemText};
+use serde_json::{Map, Value, put};
+use std::alloc::{AllocError, Global};
+
+fn system_name(name: SystemName) -> &'static str
+    ensures { result.now ≡ shown.system_name name }
+{
+    match name {
+        SystemName::MessageId => "MessageId",
+        SystemName::Label => "Label",
+        SystemName::CorrelationId => "CorrelationId",
+        SystemName::SessionId => "SessionId",
+        SystemName::To => "To",
+        SystemName::ReplyTo => "ReplyTo",
+        SystemName::ReplyToSessionId => "ReplyToSessionId",
+        SystemName::ContentType => "ContentType",
+    }
+}
+
+fn state_name(state: CopyState) -> &'static str
+    ensures { result.now ≡ shown.state_name state }
+{
+    match state {
+        CopyState::Ready => "ready",
+    }
+}
+
+fn property_value(alloc: Global, value: &PropertyValue) -> Result<Value, AllocError>
+    ensures { IfOk result (λ v. view v ≡ shown.property_data value.now) }
+{
+    match value {
+        PropertyValue::Int(n) => Ok(Value::from(*n)),
+        PropertyValue::Text(text) => Value::try_from_str(alloc, text.as_str()),
+        PropertyValue::Bool(b) => Ok(Value::from(*b)),
+    }
+}
+
+fn properties_value(alloc: Global, properties: &[Property]) -> Result<Value, AllocError>
+    ensures { IfOk result (λ v. view v ≡ object (shown.with_properties no_members properties.now)) }
+{
+    let mut members = Map::new(alloc);
+    for property in properties {
+        let value = property_value(alloc, &property.value)?;
+        put(&mut members, alloc, property.name.as_str(), value)?;
+    }
+    Ok(Value::Object(members))
+}
+
+fn texts_value(alloc: Global, texts: &[SystemText]) -> Result<Value, AllocError>
+    ensures { IfOk result (λ v. view v ≡ object (shown.with_texts no_members texts.now)) }
+{
+    let mut members = Map::new(alloc);
+    for text in texts {
+        put_text(
+            &mut members,
+            alloc,
+            system_name(text.name),
+            text.text.as_str(),
+        )?;
+    }
+    Ok(Value::Object(members))
+}
+
+// What each copy has.
+fn common_members(alloc: Global, copy: &CopyShown) -> Result<Members, AllocError>
+    ensures { IfOk result (λ m. members_view m.entries ≡ shown.common_members copy.now) }
+{
+    let properties = properties_value(alloc, copy.message.props.as_slice())?;
+    let texts = texts_value(alloc, copy.message.sys.as_slice())?;
+    let mut members = Map::new(alloc);
+    put_number(&mut members, alloc, "delivery", copy.delivery)?;
+    put_number(&mut members, alloc, "enqueued", copy.enqueued)?;
+    put_number(&mut members, alloc, "enqueued_seq", copy.enqueued_seq)?;
+    put(&mut members, alloc, "props", properties)?;
+    put_number(&mut members, alloc, "seq", copy.number)?;
+    put(&mut members, alloc, "sys", texts)?;
+    Ok(members)
+}
+
+fn put_ttl(members: &mut Members, alloc: Global, ttl: Option<u64>) -> Result<(), AllocError>
+    ensures { OnOk result (members_view members.new.entries
+        ≡ shown.with_ttl ttl (members_view members.old.entries)) }
+{
+    match ttl {
+        None => Ok(()),
+        Some(seconds) => put_number(members, alloc, "ttl", seconds),
+    }
+}
+
+fn put_state(members: &mut Members, alloc: Global, showing: Showing) -> Result<(), AllocError>
+    ensures { OnOk result (members_view members.new.entries
+        ≡ shown.with_state showing (members_view members.old.entries)) }
+{
+    match showing {
+        Showing::Removed => Ok(()),
+        Showing::Browsed(state) => put_text(members, alloc, "state", state_name(state)),
+    }
+}
+
+fn put_digits(members: &mut Members, alloc: Global, body: &[u8]) -> Result<(), AllocError>
+    ensures { OnOk result (members_view members.new.entries
+        ≡ with_member (codes "body_hex") (string (encode_lower body.now))
+        (members_view members.old.entries)) }
+{
+    let digits = hex::encode(alloc, body)?;
+    put(members, alloc, "body_hex", Value::String(digits))
+}
+
+fn put_body(members: &mut Members, alloc: Global, body: &[u8]) -> Result<(), AllocError>
+    ensures { OnOk result (members_view members.new.entries
+        ≡ shown.with_body body.now (members_view members.old.entries)) }
+{
+    match std::str::from_utf8(body) {
+        Ok(text) => put_text(members, alloc, "body", text),
+        Err(_) => put_digits(members, alloc, body),
+    }
+}
+
+// A copy as an object.
+pub fn shown_value(alloc: Global, copy: &CopyShown) -> Result<Value, AllocError>
+    ensures { IfOk result (λ v. view v ≡ shown.shown_data copy.now) }
+{
+    let mut members = common_members(alloc, copy)?;
+    put_ttl(&mut members, alloc, copy.message.ttl)?;
+    put_state(&mut members, alloc, copy.showing)?;
+    put_body(&mut members, alloc, copy.message.body.as_slice())?;
+    Ok(Value::Object(members))
+}
