@@ -1,0 +1,5 @@
+pub mod Frames
+pub mod Heads
+pub mod Moments
+pub mod Parts
+pub mod Wholes

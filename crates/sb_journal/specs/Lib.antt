@@ -1,0 +1,4 @@
+pub mod Framing
+pub mod Laws
+pub mod Moments
+pub mod Text
