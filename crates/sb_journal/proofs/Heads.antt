@@ -7,6 +7,8 @@ use Rattle.std.proofs.lemmas.List.{append-nil}
 use Rattle.std.proofs.lemmas.Bool.Decides.{nat_tests}
 use Rattle.sb_journal.specs.Text.{File, new_file, with_payload, max_payload, max_count, magic, head, framed, records, file_text, IsWithin, AreShort, Ends}
 use Rattle.sb_journal.specs.Framing.{Framing, Whole, Damaged, Uncreated, first_failing, is_created, number_at, is_count, head_fault, read, payloads_in, file_with, whole_or_damaged, sound_or_damaged, framing}
+use Rattle.sb_outside.specs.Held.{Held}
+use Rattle.sb_journal.specs.Settled.{Rests}
 use Rattle.sb_journal.proofs.Frames.{read_ended, records-push, length-records, length-framed, AreShort-push}
 
 -- a file without a base
@@ -123,3 +125,6 @@ pub reads_cut : (f : File) → IsWithin f → f.payloads ≢ [] → framing (fil
 reads_cut f within some =
     let P : List ℕ → Type 0 = λ l. framing l ≡ Whole f in
     subst P (append-nil (file_text f)) (reads_whole f [] within tt (omega (arith, length-append (file_text f) [], length-file_text f, long_enough f.first f.payloads some)))
+
+pub rests_read : (h : Held) (end next : ℕ) (f : File) → Rests h end next f → framing h.seen ≡ Whole f
+rests_read h end next f rests = ap (λ k. framing k.seen) rests.held_is ∙ reads_closed f 0 rests.tail rests.within (omega arith)

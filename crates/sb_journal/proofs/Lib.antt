@@ -1,5 +1,7 @@
+pub mod Adding
 pub mod Frames
 pub mod Heads
+pub mod Images
 pub mod Moments
 pub mod Parts
 pub mod Wholes

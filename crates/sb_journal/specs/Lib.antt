@@ -1,4 +1,6 @@
 pub mod Framing
+pub mod Journals
 pub mod Laws
 pub mod Moments
+pub mod Settled
 pub mod Text

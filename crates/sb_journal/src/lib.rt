@@ -1,7 +1,10 @@
 //! A journal on a disk: payloads, each on the disk before it is acknowledged.
 #![tactic(auto)]
 
+mod append;
 mod bytes;
+mod journal;
 pub mod laws;
 
 pub use bytes::Bytes;
+pub use journal::Journal;

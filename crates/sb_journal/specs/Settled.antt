@@ -1,0 +1,20 @@
+-- When a disk has a whole file on it, and what a crash leaves while a record is added.
+use Rattle.std.specs.Prelude.{◌≡◌, ◌⊎◌, ◌+◌, ℕ, List, ◌∷◌, ◌++◌, length}
+use Rattle.sb_outside.specs.Held.{Held, at_rest}
+use Rattle.sb_journal.specs.Text.{File, file_text, with_payload, IsWithin}
+use Rattle.sb_journal.specs.Framing.{Framing, Whole, framing}
+
+-- The file and its closed end gate are on the disk, all of it safe. Behind the gate may stand what is left of a torn
+-- record.
+pub record Rests (held : Held) (end next : ℕ) (file : File) : Type 0 where
+  pub tail : List ℕ
+  pub held_is : held ≡ at_rest (file_text file ++ 0 ∷ tail)
+  -- the place of the end gate
+  pub end_is : end ≡ length (file_text file)
+  -- the number of the next record
+  pub next_is : next ≡ file.first + length file.payloads
+  pub within : IsWithin file
+
+-- the bytes stand for the file, with one payload more or without it
+abbrev pub IsBeforeOrAfter : File → List ℕ → List ℕ → Type 0
+IsBeforeOrAfter file payload bytes = (framing bytes ≡ Whole file) ⊎ (framing bytes ≡ Whole (with_payload file payload))
