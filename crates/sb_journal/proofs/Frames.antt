@@ -92,7 +92,7 @@ at_end : (turns place number : ℕ) → read turns place number [] ≡ Ok []
 at_end zero place number = refl
 at_end (suc turns) place number = refl
 
-ended : (turns place number : ℕ) (rest : List ℕ) → Ends rest → read turns place number rest ≡ Ok []
+pub ended : (turns place number : ℕ) (rest : List ℕ) → Ends rest → read turns place number rest ≡ Ok []
 ended turns place number [] ends = at_end turns place number
 ended turns place number (gate ∷ tail) ends = shut turns place number gate tail ends
 

@@ -4,4 +4,5 @@ pub mod Heads
 pub mod Images
 pub mod Moments
 pub mod Parts
+pub mod Scan
 pub mod Wholes

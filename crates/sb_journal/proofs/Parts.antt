@@ -51,7 +51,7 @@ tests number rest is =
     let c = both whole same b.1 in
     record { head = grind (arith, nat_tests, a.0); short = grind (arith, nat_tests, b.0); whole = grind (arith, nat_tests, c.0); number_is = grind (arith, nat_tests, c.1) }
 
-abbrev payload_of : List ℕ → List ℕ
+abbrev pub payload_of : List ℕ → List ℕ
 payload_of rest = take (payload_length rest) (drop 12 rest)
 
 length-payload : (number : ℕ) (rest : List ℕ) → Tests number rest → length (payload_of rest) ≡ payload_length rest
@@ -82,16 +82,16 @@ none_here : (number : ℕ) (ps : List (List ℕ)) (bytes : List ℕ) → Ends by
 none_here number [] bytes ends e = record { rest = bytes; is = refl; ends = ends; short = tt }
 none_here number (p ∷ ps) bytes ends e = absurd cc
 
-abbrev reads_on : ℕ → ℕ → ℕ → List ℕ → Result (List (List ℕ)) ℕ
+abbrev pub reads_on : ℕ → ℕ → ℕ → List ℕ → Result (List (List ℕ)) ℕ
 reads_on turns place number rest = read turns (place + (13 + payload_length rest)) (number + 1) (drop (12 + payload_length rest) rest)
 
-open_here : (turns place number : ℕ) (rest : List ℕ) → is_record number rest ≡ true → read (suc turns) place number (1 ∷ rest) ≡ with_first (payload_of rest) (reads_on turns place number rest)
+pub open_here : (turns place number : ℕ) (rest : List ℕ) → is_record number rest ≡ true → read (suc turns) place number (1 ∷ rest) ≡ with_first (payload_of rest) (reads_on turns place number rest)
 open_here turns place number rest is = ap (λ (b : Bool). if b then with_first (payload_of rest) (reads_on turns place number rest) else Err place) is
 
-broken_here : (turns place number : ℕ) (rest : List ℕ) → is_record number rest ≡ false → read (suc turns) place number (1 ∷ rest) ≡ Err place
+pub broken_here : (turns place number : ℕ) (rest : List ℕ) → is_record number rest ≡ false → read (suc turns) place number (1 ∷ rest) ≡ Err place
 broken_here turns place number rest is = ap (λ (b : Bool). if b then with_first (payload_of rest) (reads_on turns place number rest) else Err place) is
 
-closed_here : (turns place number gate : ℕ) (rest : List ℕ) → gate ≢ 1 → read (suc turns) place number (gate ∷ rest) ≡ Ok []
+pub closed_here : (turns place number gate : ℕ) (rest : List ℕ) → gate ≢ 1 → read (suc turns) place number (gate ∷ rest) ≡ Ok []
 closed_here turns place number gate rest closed = grind (arith, nat_tests)
 
 first_of_all : (p : List ℕ) (r : Result (List (List ℕ)) ℕ) (ps : List (List ℕ)) → with_first p r ≡ Ok ps → (qs : List (List ℕ)) × (r ≡ Ok qs) × (ps ≡ p ∷ qs)

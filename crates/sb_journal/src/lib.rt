@@ -5,6 +5,7 @@ mod append;
 mod bytes;
 mod journal;
 pub mod laws;
+mod reading;
 
 pub use bytes::Bytes;
 pub use journal::Journal;
