@@ -2,6 +2,7 @@ pub mod Adding
 pub mod Frames
 pub mod Heads
 pub mod Images
+pub mod Making
 pub mod Moments
 pub mod Parts
 pub mod Scan

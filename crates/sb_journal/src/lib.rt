@@ -3,9 +3,11 @@
 
 mod append;
 mod bytes;
+mod creating;
 mod journal;
 pub mod laws;
 mod reading;
 
 pub use bytes::Bytes;
+pub use creating::create;
 pub use journal::Journal;
