@@ -137,3 +137,34 @@ spells_only bytes f are fits e =
     let c = where_whole bytes (payloads_in bytes) f b.1 in
     let t = created_is bytes a.0 in
     subst (λ g. Spells g bytes) (sym c.2) (spells bytes c.0 t.0 fits t.1 (sound bytes b.0) are c.1)
+
+pub not_created : (bytes : List ℕ) → is_created bytes ≡ false → framing bytes ≡ Uncreated
+unfolding framing
+not_created bytes isnt = ap (λ (b : Bool). if b then sound_or_damaged bytes (head_fault bytes) else Uncreated) isnt
+
+was_created : (bytes : List ℕ) (o : Option ℕ) → is_created bytes ≡ true → head_fault bytes ≡ o → framing bytes ≡ sound_or_damaged bytes o
+unfolding framing
+was_created bytes o created fault =
+    ap (λ (b : Bool). if b then sound_or_damaged bytes (head_fault bytes) else Uncreated) created ∙ ap (sound_or_damaged bytes) fault
+
+pub head_damaged : (bytes : List ℕ) (place : ℕ) → is_created bytes ≡ true → head_fault bytes ≡ Some place → framing bytes ≡ Damaged place
+head_damaged bytes place created fault = was_created bytes (Some place) created fault
+
+pub with_records : (bytes : List ℕ) (first : ℕ) (r : Result (List (List ℕ)) ℕ) → is_created bytes ≡ true → head_fault bytes ≡ None → first ≡ number_at 26 bytes → read (length bytes) 42 first (drop 42 bytes) ≡ r → framing bytes ≡ whole_or_damaged bytes r
+unfolding payloads_in
+with_records bytes first r created sound first_is is =
+    was_created bytes None created sound
+    ∙ ap (whole_or_damaged bytes) (ap (λ n. read (length bytes) 42 n (drop 42 bytes)) (sym first_is) ∙ is)
+
+pub test_created : (bytes : List ℕ) → 43 ≤ length bytes → slice_index bytes 0 ≡ 1 → is_created bytes ≡ true
+test_created bytes long gate = grind (arith, nat_tests)
+
+pub test_short : (bytes : List ℕ) → length bytes < 43 → is_created bytes ≡ false
+test_short bytes short = grind (arith, nat_tests)
+
+pub test_closed : (bytes : List ℕ) → slice_index bytes 0 ≢ 1 → is_created bytes ≡ false
+test_closed bytes shut = grind (arith, nat_tests)
+
+pub same_file : (bytes : List ℕ) (salt generation first : ℕ) (ps qs : List (List ℕ)) → salt ≡ number_at 10 bytes → generation ≡ number_at 18 bytes → first ≡ number_at 26 bytes → qs ≡ ps
+    → Whole (file_with bytes ps) ≡ Whole (record { salt = salt; generation = generation; first = first; base = []; payloads = qs })
+same_file bytes salt generation first ps qs salt_is generation_is first_is ps_is = cc

@@ -4,10 +4,12 @@
 mod append;
 mod bytes;
 mod creating;
+mod found;
 mod journal;
 pub mod laws;
 mod reading;
 
 pub use bytes::Bytes;
 pub use creating::create;
+pub use found::{Found, OpenFault, OpenWhy, Side};
 pub use journal::Journal;

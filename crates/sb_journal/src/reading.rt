@@ -4,10 +4,11 @@ ghost use Rattle.std.specs.Int.{w32, w64, from_be_bytes};
 ghost use Rattle.std.specs.Str.{bytes_eq};
 ghost use Rattle.sb_journal.specs.Text.{max_payload, magic, records};
 ghost use Rattle.sb_journal.specs.Framing.{is_created, is_count, head_fault, payload_length, is_record, read};
+ghost use Rattle.sb_journal.specs.Opened.{IsReading};
 ghost use Rattle.sb_journal.specs.declared.reading.RecordsFault.TheVariants.{Broken};
 
 use crate::Bytes;
-use std::alloc::Global;
+use std::alloc::{AllocError, Global};
 
 // The bytes from a file's gate to its base.
 pub(crate) const HEAD_BYTES: usize = 42;
@@ -61,7 +62,8 @@ fn is_counted(number: u64) -> bool
 #[tactic(auto, unfolding(crate::specs::Framing::head_fault))]
 fn damage_of_head(bytes: &[u8]) -> Option<u64>
     requires { 43 ≤ length bytes.now }
-    ensures { result ≡ head_fault bytes.now }
+    ensures place { result ≡ head_fault bytes.now }
+    ensures first { IfNone result (from_be_bytes w64 (take 8 (drop 26 bytes.now)) ≤ 2 ^ 62) }
 {
     if !is_magic(bytes) {
         return Some(1);
@@ -143,4 +145,63 @@ fn records_of(alloc: Global, bytes: &[u8], first: u64) -> Result<Records, Record
         end: place,
         next: number,
     })
+}
+
+// A file that can be read.
+#[derive(Drop)]
+pub(crate) struct Stand {
+    pub(crate) salt: u64,
+    pub(crate) generation: u64,
+    pub(crate) first: u64,
+    pub(crate) payloads: Vec<Bytes>,
+    // The place of the end gate.
+    pub(crate) end: u64,
+    // The number of the next record.
+    pub(crate) next: u64,
+}
+
+#[derive(Drop)]
+pub(crate) enum Reading {
+    NoFile,
+    AFile(Stand),
+    // The place of the damage.
+    BadFile(u64),
+}
+
+// The file with this head and these records.
+fn stand_of(bytes: &[u8], records: Records) -> Stand
+    requires { 43 ≤ length bytes.now }
+    ensures salt { result.salt ≡ from_be_bytes w64 (take 8 (drop 10 bytes.now)) }
+    ensures generation { result.generation ≡ from_be_bytes w64 (take 8 (drop 18 bytes.now)) }
+    ensures first { result.first ≡ from_be_bytes w64 (take 8 (drop 26 bytes.now)) }
+    ensures payloads { result.payloads.items ≡ records.payloads.items }
+    ensures end { result.end ≡ records.end }
+    ensures next { result.next ≡ records.next }
+{
+    Stand {
+        salt: number_at(bytes, 10),
+        generation: number_at(bytes, 18),
+        first: number_at(bytes, 26),
+        payloads: records.payloads,
+        end: records.end as u64,
+        next: records.next,
+    }
+}
+
+// What the bytes of a disk stand for.
+pub(crate) fn reading_of(alloc: Global, bytes: &[u8]) -> Result<Reading, AllocError>
+    ensures { IfOk result (λ r. IsReading r bytes.now) }
+{
+    if bytes.len() < 43 || bytes[0] != 1 {
+        return Ok(Reading::NoFile);
+    }
+    if let Some(place) = damage_of_head(bytes) {
+        return Ok(Reading::BadFile(place));
+    }
+    let first = number_at(bytes, 26);
+    match records_of(alloc, bytes, first) {
+        Ok(records) => Ok(Reading::AFile(stand_of(bytes, records))),
+        Err(RecordsFault::Broken(place)) => Ok(Reading::BadFile(place)),
+        Err(RecordsFault::OutOfMemory) => Err(AllocError),
+    }
 }
