@@ -7,7 +7,7 @@ use Rattle.std.proofs.lemmas.List.{append-nil}
 use Rattle.std.proofs.lemmas.Bool.Decides.{nat_tests}
 use Rattle.sb_journal.specs.Text.{File, new_file, with_payload, max_payload, max_count, magic, head, framed, records, file_text, IsWithin, AreShort, Ends}
 use Rattle.sb_journal.specs.Framing.{Framing, Whole, Damaged, Uncreated, first_failing, is_created, number_at, is_count, head_fault, read, payloads_in, file_with, whole_or_damaged, sound_or_damaged, framing}
-use Rattle.sb_outside.specs.Held.{Held}
+use Rattle.sb_outside.specs.Held.{Held, at_rest}
 use Rattle.sb_journal.specs.Settled.{Rests}
 use Rattle.sb_journal.proofs.Frames.{read_ended, records-push, length-records, length-framed, AreShort-push}
 
@@ -128,3 +128,13 @@ reads_cut f within some =
 
 pub rests_read : (h : Held) (end next : ℕ) (f : File) → Rests h end next f → framing h.seen ≡ Whole f
 rests_read h end next f rests = ap (λ k. framing k.seen) rests.held_is ∙ reads_closed f 0 rests.tail rests.within (omega arith)
+
+-- a new file on the disk
+pub new_rests : (h : Held) (salt generation first : ℕ) → salt < 2 ^ 64 → 1 ≤ generation → generation ≤ 2 ^ 62 → 1 ≤ first → first ≤ 2 ^ 62 → h ≡ at_rest (file_text (new_file salt generation first []) ++ 0 ∷ []) → Rests h 42 first (new_file salt generation first [])
+new_rests h salt generation first fits g_least g_greatest f_least f_greatest is = record {
+  tail = [];
+  held_is = is;
+  end_is = omega (arith, length-file_text (new_file salt generation first []));
+  next_is = omega arith;
+  within = record { salt = fits; generation_least = g_least; generation_greatest = g_greatest; first_least = f_least; first_greatest = f_greatest; no_base = refl; few = omega arith; short = tt };
+}

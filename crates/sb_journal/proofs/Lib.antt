@@ -4,6 +4,7 @@ pub mod Heads
 pub mod Images
 pub mod Making
 pub mod Moments
+pub mod Onward
 pub mod Parts
 pub mod Scan
 pub mod Wholes

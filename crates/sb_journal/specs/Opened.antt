@@ -7,6 +7,7 @@ use Rattle.sb_journal.specs.declared.reading.Stand.{Stand}
 use Rattle.sb_journal.specs.declared.reading.Reading.{Reading}
 use Rattle.sb_journal.specs.declared.reading.Reading.TheVariants.{NoFile, AFile, BadFile}
 use Rattle.sb_journal.specs.Text.{File, new_file, file_text}
+use Rattle.sb_journal.specs.Laws.{Spells}
 use Rattle.sb_journal.specs.Framing.{Framing, Uncreated, Whole, Damaged, framing}
 
 pub data Opened : Type 0 where
@@ -40,6 +41,7 @@ pub record IsStand (s : Stand) : Type 0 where
 
 pub record IsWholeStand (s : Stand) (bytes : List ℕ) : Type 0 where
   pub whole : framing bytes ≡ Whole (stand_file s)
+  pub spells : length bytes ≤ 2 ^ 62 → Spells (stand_file s) bytes
   pub stand : IsStand s
   pub inside : s.end ≤ length bytes
 

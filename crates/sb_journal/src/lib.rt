@@ -7,6 +7,7 @@ mod creating;
 mod found;
 mod journal;
 pub mod laws;
+mod opening;
 mod reading;
 
 pub use bytes::Bytes;

@@ -29,8 +29,10 @@ returns-in-Ok c =
     let whole = wholes.with_records c.args.bytes.now c.number_at-first.result (Ok ps) (wholes.test_created c.args.bytes.now c.if-bytes-lt43.false c.if-bytes-ne1.false) (sym c.in_default.ensures.place) c.number_at-first.ensures c.in-Ok.ensures.ok in
     let first_is : s.first ≡ c.number_at-first.result = c.stand_of.ensures.first ∙ sym c.number_at-first.ensures in
     let text = ap length (ap (records s.first) c.stand_of.ensures.payloads ∙ ap (λ n. records n ps) first_is) in
+    let is_whole = whole ∙ wholes.same_file c.args.bytes.now s.salt s.generation s.first ps s.payloads.items c.stand_of.ensures.salt c.stand_of.ensures.generation c.stand_of.ensures.first c.stand_of.ensures.payloads in
     record {
-      whole = whole ∙ wholes.same_file c.args.bytes.now s.salt s.generation s.first ps s.payloads.items c.stand_of.ensures.salt c.stand_of.ensures.generation c.stand_of.ensures.first c.stand_of.ensures.payloads;
+      whole = is_whole;
+      spells = λ small. wholes.spells_only c.args.bytes.now (stand_file s) (λ k. (c.type_inv.bytes k).fits) small is_whole;
       stand = record {
         end_is = omega (arith, c.stand_of.ensures.end, c.in-Ok.ensures.end, text, length-file_text (stand_file s));
         next_is = omega (arith, c.stand_of.ensures.next, c.in-Ok.ensures.next, first_is, ap length c.stand_of.ensures.payloads);

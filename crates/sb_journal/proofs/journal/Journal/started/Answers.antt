@@ -1,0 +1,11 @@
+use Rattle.std.proofs.Common.{refl}
+use Rattle.sb_journal.proofs.Heads.{rests_read}
+use Rattle.sb_journal.proofs.journal.Journal.started.Goals as goal
+
+pub returns-clause-settled : goal.returns-clause-settled
+returns-clause-settled g c honest rests = record {
+  honest = honest;
+  running = refl;
+  rests = rests;
+  reads = rests_read _ _ _ _ rests;
+}
