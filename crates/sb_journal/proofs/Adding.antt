@@ -12,6 +12,14 @@ use Rattle.sb_journal.proofs.Frames.{length-records}
 use Rattle.sb_journal.proofs.Heads.{reads_closed, file_text-push, length-file_text, IsWithin-push}
 use Rattle.sb_journal.proofs.Images.{rest_image, front_stays, one_place, written_behind, written_at}
 
+-- what is read there, and what a crash leaves
+pub rests_read : (h : Held) (end next : ℕ) (f : File) → Rests h end next f → framing h.seen ≡ Whole f
+rests_read h end next f rests = ap (λ k. framing k.seen) rests.held_is ∙ reads_closed f 0 rests.tail rests.within (omega arith)
+
+pub rests_leave : (h : Held) (end next : ℕ) (f : File) → Rests h end next f → (image : List ℕ) → IsImage h image → framing image ≡ Whole f
+rests_leave h end next f rests image left =
+    ap framing (rest_image (file_text f ++ 0 ∷ rests.tail) image (subst (λ k. IsImage k image) rests.held_is left)) ∙ reads_closed f 0 rests.tail rests.within (omega arith)
+
 -- what an append begins with
 pub record Begins (file : File) (payload : List ℕ) (end next : ℕ) (h0 : Held) : Type 0 where
   pub rests : Rests h0 end next file

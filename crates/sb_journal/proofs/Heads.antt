@@ -126,9 +126,6 @@ reads_cut f within some =
     let P : List ℕ → Type 0 = λ l. framing l ≡ Whole f in
     subst P (append-nil (file_text f)) (reads_whole f [] within tt (omega (arith, length-append (file_text f) [], length-file_text f, long_enough f.first f.payloads some)))
 
-pub rests_read : (h : Held) (end next : ℕ) (f : File) → Rests h end next f → framing h.seen ≡ Whole f
-rests_read h end next f rests = ap (λ k. framing k.seen) rests.held_is ∙ reads_closed f 0 rests.tail rests.within (omega arith)
-
 -- a new file on the disk
 pub new_rests : (h : Held) (salt generation first : ℕ) → salt < 2 ^ 64 → 1 ≤ generation → generation ≤ 2 ^ 62 → 1 ≤ first → first ≤ 2 ^ 62 → h ≡ at_rest (file_text (new_file salt generation first []) ++ 0 ∷ []) → Rests h 42 first (new_file salt generation first [])
 new_rests h salt generation first fits g_least g_greatest f_least f_greatest is = record {

@@ -1,6 +1,6 @@
 -- What contracts say of a journal.
 use Rattle.std.specs.Prelude.{◌≡◌, ◌+◌, ℕ, List, Bool, false, IsTrue, length, if◌then◌else◌}
-use Rattle.sb_outside.specs.Held.{Held}
+use Rattle.sb_outside.specs.Held.{Held, IsImage}
 use Rattle.sb_outside.specs.declared.disk.Disk.{Ghosts}
 use Rattle.sb_journal.specs.declared.journal.Journal.{Journal}
 use Rattle.sb_journal.specs.Text.{File}
@@ -29,3 +29,5 @@ pub record IsSettled {D : Type 0} {B : Ghosts D} (j : Journal D B) (file : File)
   pub running : j.failed ≡ false
   pub rests : Rests (B.held j.disk_a) j.end j.next file
   pub reads : framing (B.held j.disk_a).seen ≡ Whole file
+  -- a crash now leaves the file too
+  pub leaves : (image : List ℕ) → IsImage (B.held j.disk_a) image → framing image ≡ Whole file

@@ -4,6 +4,7 @@ ghost use Rattle.std.specs.Prelude.{◌≡◌, ◌≤◌, ◌+◌, ◌++◌, [],
 ghost use Rattle.sb_outside.specs.Causes.{HasCause};
 ghost use Rattle.sb_outside.specs.Held.{at_rest};
 ghost use Rattle.sb_journal.specs.Text.{head, new_file, file_text};
+ghost use Rattle.sb_journal.specs.Framing.{Whole, framing};
 
 use sb_outside::{Disk, DiskFault};
 
@@ -91,8 +92,10 @@ pub fn create<D: Disk>(
     requires first_greatest { first ≤ 2 ^ 62 }
     ensures honesty { D.honest disk.new ≡ D.honest disk.old }
     ensures ok { IsTrue (D.honest disk.old) → OnOk result (D.held disk.new ≡ at_rest (file_text (new_file salt generation first base.now) ++ 0 ∷ [])) }
+    ensures reads { IsTrue (D.honest disk.old) → base.now ≡ [] → OnOk result (framing (D.held disk.new).seen ≡ Whole (new_file salt generation first [])) }
     ensures cause { HasCause (D.count disk.old) (D.count disk.new) result }
 {
     disk.sync()?;
-    make_file(disk, salt, generation, first, base)
+    make_file(disk, salt, generation, first, base)?;
+    Ok(())
 }

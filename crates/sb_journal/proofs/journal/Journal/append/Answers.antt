@@ -1,7 +1,7 @@
 use Rattle.std.proofs.Common.{◌≡◌, ℕ, List, ◌+◌, ◌∷◌, ◌++◌, [], length, ap, sym, ◌∙◌, subst, arith}
 use Rattle.sb_journal.specs.Text.{File, framed, with_payload}
 use Rattle.sb_journal.specs.Settled.{Rests}
-use Rattle.sb_journal.proofs.Heads.{rests_read}
+use Rattle.sb_journal.proofs.Adding.{rests_read, rests_leave}
 use Rattle.sb_journal.proofs.journal.Journal.append.Goals as goal
 
 pub returns-in_default-clause-any_moment : goal.returns-in_default-clause-any_moment
@@ -23,4 +23,5 @@ returns-clause-ok g c file settled =
       running = settled.running;
       rests = rests_on;
       reads = rests_read _ _ _ _ rests_on;
+      leaves = rests_leave _ _ _ _ rests_on;
     }
