@@ -51,6 +51,7 @@ impl<D: Disk> Journal<D> {
         ensures ok { IfOk result (λ x. IsTrue (D.honest disk_a)
             → (opened (D.held disk_a).seen (D.held disk_b).seen salt ≡ Stands x.1.disk (found_file x.1)) × IsSettled x.0 (found_file x.1)) }
         ensures running { IfOk result (λ x. has_failed x.0 ≡ false) }
+        ensures faults { IfOk result (λ x. fault_count x.0 ≡ 0) }
         ensures damaged { IfErr result (λ e. IsTrue (D.honest disk_a) → (side : Side) (place : ℕ) → e.why ≡ OpenWhy.Damaged side place
             → (opened (D.held disk_a).seen (D.held disk_b).seen salt ≡ Damage side place) × ((D.held e.disk_a).seen ≡ (D.held disk_a).seen)) }
         ensures cause { IfErr result (λ e. e.why ≡ OpenWhy.DiskFault → Rose (D.count disk_a) (D.count e.disk_a)) }
@@ -90,6 +91,8 @@ impl<D: Disk> Journal<D> {
         ensures disk_b { journal_disk_b self.new ≡ journal_disk_b self.old }
         ensures failed { OnErr result (has_failed self.new ≡ true) }
         ensures running { OnOk result (has_failed self.new ≡ has_failed self.old) }
+        ensures faults { OnErr result (fault_count self.new ≡ D.count (journal_disk_a self.new)) }
+        ensures faults_cause { HasCause (fault_count self.old) (fault_count self.new) result }
     {
         let number = self.next;
         frame_in(&mut self.buffer, number, payload);
