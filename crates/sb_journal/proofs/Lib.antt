@@ -7,4 +7,5 @@ pub mod Moments
 pub mod Onward
 pub mod Parts
 pub mod Scan
+pub mod Shut
 pub mod Wholes

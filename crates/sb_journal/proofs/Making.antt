@@ -3,8 +3,9 @@ use Rattle.std.proofs.Common.{◌≡◌, ◌≢◌, ℕ, zero, suc, ◌+◌, ◌
 use Rattle.std.specs.Int.{to_be_bytes}
 use Rattle.std.proofs.lemmas.List.{append-nil, take_at, drop_all}
 use Rattle.sb_outside.specs.Held.{Held, Moves, overwritten, touched, shortened, at_rest}
-use Rattle.sb_journal.specs.Text.{head, new_file, file_text}
-use Rattle.sb_journal.proofs.Heads.{length-head}
+use Rattle.sb_journal.specs.Text.{head, new_file, file_text, IsWithin}
+use Rattle.sb_journal.specs.Framing.{Framing, Whole, framing}
+use Rattle.sb_journal.proofs.Heads.{length-head, reads_closed}
 use Rattle.sb_journal.proofs.Images.{written_at}
 
 -- a write from a place to the end or past it
@@ -26,14 +27,17 @@ gate_written bytes base long =
     ∙ overwritten_end (0 ∷ (bytes ++ base)) [] (0 ∷ []) (42 + length base) (omega (arith, long, length-append bytes base)) (omega arith)
     ∙ ap (λ (l : List ℕ). 0 ∷ l) (append_assoc bytes base (0 ∷ []))
 
--- the file's gate is opened
-pub file_opened : (salt generation first : ℕ) (base : List ℕ) → overwritten (0 ∷ (head salt generation first (length base) ++ (base ++ 0 ∷ []))) 0 (1 ∷ []) ≡ file_text (new_file salt generation first base) ++ 0 ∷ []
+-- the new file, with its gate open
+pub opened_text : (salt generation first : ℕ) (base : List ℕ) → 1 ∷ (head salt generation first (length base) ++ (base ++ 0 ∷ [])) ≡ file_text (new_file salt generation first base) ++ 0 ∷ []
 unfolding file_text
-file_opened salt generation first base =
+opened_text salt generation first base =
     let h = head salt generation first (length base) in
-    written_at [] (h ++ (base ++ 0 ∷ [])) 0 1 0 refl
-    ∙ ap (λ (l : List ℕ). 1 ∷ (h ++ (l ++ 0 ∷ []))) (sym (append-nil base))
+    ap (λ (l : List ℕ). 1 ∷ (h ++ (l ++ 0 ∷ []))) (sym (append-nil base))
     ∙ ap (λ (l : List ℕ). 1 ∷ l) (sym (append_assoc h (base ++ []) (0 ∷ [])))
+
+pub file_opened : (salt generation first : ℕ) (base : List ℕ) → overwritten (0 ∷ (head salt generation first (length base) ++ (base ++ 0 ∷ []))) 0 (1 ∷ []) ≡ file_text (new_file salt generation first base) ++ 0 ∷ []
+file_opened salt generation first base =
+    written_at [] (head salt generation first (length base) ++ (base ++ 0 ∷ [])) 0 1 0 refl ∙ opened_text salt generation first base
 
 pub length-overwritten : (old : List ℕ) (place : ℕ) (bytes : List ℕ) → place ≤ length old → place + length bytes ≤ length (overwritten old place bytes)
 length-overwritten old place bytes inside = omega (arith, length-append (take place old ++ bytes) (drop (place + length bytes) old), length-append (take place old) bytes, length-take place old)
@@ -52,3 +56,8 @@ head_spelled s g f b salt generation first n s_is g_is f_is b_is =
     ∙ ap (λ (l : List ℕ). bytes_of_head (to_be_bytes w64 salt) l f b) g_is
     ∙ ap (λ (l : List ℕ). bytes_of_head (to_be_bytes w64 salt) (to_be_bytes w64 generation) l b) f_is
     ∙ ap (λ (l : List ℕ). bytes_of_head (to_be_bytes w64 salt) (to_be_bytes w64 generation) (to_be_bytes w64 first) l) b_is
+
+pub new_whole : (salt generation first : ℕ) (base : List ℕ) → base ≡ [] → IsWithin (new_file salt generation first []) → framing (1 ∷ (head salt generation first (length base) ++ (base ++ 0 ∷ []))) ≡ Whole (new_file salt generation first [])
+new_whole salt generation first base empty within =
+    ap framing (opened_text salt generation first base ∙ ap (λ (b : List ℕ). file_text (new_file salt generation first b) ++ 0 ∷ []) empty)
+    ∙ reads_closed (new_file salt generation first []) 0 [] within (omega arith)

@@ -1,8 +1,8 @@
 -- When a disk has a whole file on it, and what a crash leaves while a record is added.
-use Rattle.std.specs.Prelude.{◌≡◌, ◌⊎◌, ◌+◌, ℕ, List, ◌∷◌, ◌++◌, length}
-use Rattle.sb_outside.specs.Held.{Held, at_rest}
+use Rattle.std.specs.Prelude.{◌≡◌, ◌⊎◌, ◌+◌, ◌≤◌, ℕ, List, ◌∷◌, ◌++◌, length, slice_index, false}
+use Rattle.sb_outside.specs.Held.{Held, at_rest, is_written}
 use Rattle.sb_journal.specs.Text.{File, file_text, with_payload, IsWithin}
-use Rattle.sb_journal.specs.Framing.{Framing, Whole, framing}
+use Rattle.sb_journal.specs.Framing.{Framing, Uncreated, Whole, framing}
 
 -- The file and its closed end gate are on the disk, all of it safe. Behind the gate may stand what is left of a torn
 -- record.
@@ -18,3 +18,14 @@ pub record Rests (held : Held) (end next : ℕ) (file : File) : Type 0 where
 -- the bytes stand for the file, with one payload more or without it
 abbrev pub IsBeforeOrAfter : File → List ℕ → List ℕ → Type 0
 IsBeforeOrAfter file payload bytes = (framing bytes ≡ Whole file) ⊎ (framing bytes ≡ Whole (with_payload file payload))
+
+-- a file is being made in the place of these bytes: they stand unchanged, or no file counts, or the new one does
+abbrev pub IsOldNoneOrNew : List ℕ → File → List ℕ → Type 0
+IsOldNoneOrNew old file bytes = (bytes ≡ old) ⊎ ((framing bytes ≡ Uncreated) ⊎ (framing bytes ≡ Whole file))
+
+-- the file's gate is closed in each image of this disk
+pub record IsShut (held : Held) : Type 0 where
+  pub some : 1 ≤ held.least
+  pub kept : 1 ≤ length held.synced
+  pub gate : slice_index held.synced 0 ≡ 0
+  pub free : is_written 0 held.ranges ≡ false

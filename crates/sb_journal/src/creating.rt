@@ -1,10 +1,12 @@
 // Making a new file: what stands on the disk counts no more, then all of the new file behind a
 // closed gate, and once that is safe, the gate.
-ghost use Rattle.std.specs.Prelude.{◌≡◌, ◌≤◌, ◌+◌, ◌++◌, [], ◌∷◌, ◌^◌, List, ℕ, IsTrue, length, take, OnOk};
+ghost use Rattle.std.specs.Prelude.{◌≡◌, ◌≢◌, ◌≤◌, ◌+◌, ◌++◌, [], ◌∷◌, ◌^◌, List, ℕ, IsTrue, length, take, slice_index, true, false, IfOk, OnOk};
 ghost use Rattle.sb_outside.specs.Causes.{HasCause};
 ghost use Rattle.sb_outside.specs.Held.{at_rest};
-ghost use Rattle.sb_journal.specs.Text.{head, new_file, file_text};
+ghost use Rattle.sb_journal.specs.Text.{File, head, new_file, file_text, IsWithin};
 ghost use Rattle.sb_journal.specs.Framing.{Whole, framing};
+ghost use Rattle.sb_journal.specs.Settled.{IsShut, IsOldNoneOrNew};
+ghost use Rattle.sb_journal.specs.Moments.{EachMoment};
 
 use sb_outside::{Disk, DiskFault};
 
@@ -23,15 +25,31 @@ fn head_bytes(salt: u64, generation: u64, first: u64, base_length: u64) -> [u8; 
     ]
 }
 
-// Makes sure that the file's gate is closed, unless it is.
-fn close_file<D: Disk>(disk: &mut D) -> Result<(), DiskFault>
+// Whether the disk has a first byte and it is 00.
+fn has_closed_gate<D: Disk>(disk: &mut D) -> Result<bool, DiskFault>
     ensures honesty { D.honest disk.new ≡ D.honest disk.old }
-    ensures ok { IsTrue (D.honest disk.old) → OnOk result (take 1 (D.held disk.new).seen ≡ 0 ∷ []) }
+    ensures closed { IsTrue (D.honest disk.old) → IfOk result (λ b. b ≡ true → take 1 (D.held disk.old).seen ≡ 0 ∷ []) }
+    ensures not { IsTrue (D.honest disk.old) → IfOk result (λ b. b ≡ false → 1 ≤ length (D.held disk.old).seen → slice_index (D.held disk.old).seen 0 ≢ 0) }
+    ensures same { IsTrue (D.honest disk.old) → (D.held disk.new ≡ D.held disk.old) × (D.past disk.new ≡ D.past disk.old) }
     ensures cause { HasCause (D.count disk.old) (D.count disk.new) result }
 {
     let mut byte = [1];
     let count = disk.read(0, &mut byte)?;
-    if count == 1 && byte[0] == 0 {
+    Ok(count == 1 && byte[0] == 0)
+}
+
+// Makes sure that the file's gate is closed, unless it is.
+fn close_file<D: Disk>(disk: &mut D) -> Result<(), DiskFault>
+    ensures honesty { D.honest disk.new ≡ D.honest disk.old }
+    ensures ok { IsTrue (D.honest disk.old) → OnOk result (take 1 (D.held disk.new).seen ≡ 0 ∷ []) }
+    ensures rest { IsTrue (D.honest disk.old) → D.held disk.old ≡ at_rest (D.held disk.old).seen → OnOk result (D.held disk.new ≡ at_rest (D.held disk.new).seen) }
+
+    // Where the gate was open or closed, nothing else counts at any moment.
+    ensures any_moment { (file : File) → IsTrue (D.honest disk.old) → D.held disk.old ≡ at_rest (D.held disk.old).seen → slice_index (D.held disk.old).seen 0 ≤ 1
+        → EachMoment (D.past disk.old) (D.past disk.new) (D.held disk.new) (IsOldNoneOrNew (D.held disk.old).seen file) }
+    ensures cause { HasCause (D.count disk.old) (D.count disk.new) result }
+{
+    if has_closed_gate(disk)? {
         return Ok(());
     }
     disk.write_at(0, &[0])?;
@@ -44,6 +62,9 @@ fn fill<D: Disk>(disk: &mut D, head: &[u8], base: &[u8]) -> Result<(), DiskFault
     requires gate { IsTrue (D.honest disk.old) → (D.held disk.old).seen ≡ 0 ∷ [] }
     requires head { length head.now ≡ 42 }
     ensures honesty { D.honest disk.new ≡ D.honest disk.old }
+    ensures shut { IsTrue (D.honest disk.old) → IsShut (D.held disk.old) → IsShut (D.held disk.new) }
+    ensures any_moment { (old : List ℕ) (file : File) → IsTrue (D.honest disk.old) → IsShut (D.held disk.old)
+        → EachMoment (D.past disk.old) (D.past disk.new) (D.held disk.new) (IsOldNoneOrNew old file) }
     ensures ok { (bytes : List ℕ) → IsTrue (D.honest disk.old) → head.now ≡ bytes ++ 0 ∷ [] → OnOk result ((D.held disk.new).seen ≡ 0 ∷ (bytes ++ (base.now ++ 0 ∷ []))) }
     ensures cause { HasCause (D.count disk.old) (D.count disk.new) result }
 {
@@ -65,6 +86,11 @@ pub(crate) fn make_file<D: Disk>(
 ) -> Result<(), DiskFault>
     ensures honesty { D.honest disk.new ≡ D.honest disk.old }
     ensures ok { IsTrue (D.honest disk.old) → OnOk result (D.held disk.new ≡ at_rest (file_text (new_file salt generation first base.now) ++ 0 ∷ [])) }
+
+    // Where the file's gate was open or closed, nothing but the old bytes and the new file counts at any moment.
+    ensures any_moment { IsTrue (D.honest disk.old) → D.held disk.old ≡ at_rest (D.held disk.old).seen → slice_index (D.held disk.old).seen 0 ≤ 1
+        → base.now ≡ [] → IsWithin (new_file salt generation first [])
+        → EachMoment (D.past disk.old) (D.past disk.new) (D.held disk.new) (IsOldNoneOrNew (D.held disk.old).seen (new_file salt generation first [])) }
     ensures cause { HasCause (D.count disk.old) (D.count disk.new) result }
 {
     let head = head_bytes(salt, generation, first, base.len() as u64);
