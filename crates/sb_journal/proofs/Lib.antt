@@ -1,4 +1,5 @@
 pub mod Adding
+pub mod Ending
 pub mod Frames
 pub mod Heads
 pub mod Images

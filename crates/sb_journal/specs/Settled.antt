@@ -1,8 +1,8 @@
 -- When a disk has a whole file on it, and what a crash leaves while a record is added.
-use Rattle.std.specs.Prelude.{◌≡◌, ◌⊎◌, ◌+◌, ◌≤◌, ℕ, List, ◌∷◌, ◌++◌, length, slice_index, false}
+use Rattle.std.specs.Prelude.{◌≡◌, ◌⊎◌, ◌+◌, ◌≤◌, ℕ, List, [], ◌∷◌, ◌++◌, length, slice_index, false}
 use Rattle.sb_outside.specs.Held.{Held, at_rest, is_written}
-use Rattle.sb_journal.specs.Text.{File, file_text, with_payload, IsWithin}
-use Rattle.sb_journal.specs.Framing.{Framing, Uncreated, Whole, framing}
+use Rattle.sb_journal.specs.Text.{File, new_file, file_text, with_payload, IsWithin}
+use Rattle.sb_journal.specs.Framing.{Framing, Uncreated, Whole, Damaged, framing}
 
 -- The file and its closed end gate are on the disk, all of it safe. Behind the gate may stand what is left of a torn
 -- record.
@@ -29,3 +29,15 @@ pub record IsShut (held : Held) : Type 0 where
   pub kept : 1 ≤ length held.synced
   pub gate : slice_index held.synced 0 ≡ 0
   pub free : is_written 0 held.ranges ≡ false
+
+-- The file's end gate was missing, or neither open nor closed: any bytes may stand from there on.
+pub record IsTornEnd (file : File) (seen bytes : List ℕ) : Type 0 where
+  pub rest : List ℕ
+  pub is : bytes ≡ file_text file ++ rest
+  pub torn : (tail : List ℕ) → seen ≡ file_text file ++ 0 ∷ tail → ⊥
+
+-- What a crash during an opening may leave of the bytes that it found.
+abbrev pub MayLeave : ℕ → List ℕ → Framing → List ℕ → Type 0
+MayLeave salt seen Uncreated bytes = IsOldNoneOrNew seen (new_file salt 1 1 []) bytes
+MayLeave salt seen (Whole file) bytes = (bytes ≡ seen) ⊎ IsTornEnd file seen bytes
+MayLeave salt seen (Damaged place) bytes = bytes ≡ seen

@@ -6,7 +6,7 @@ ghost use Rattle.sb_outside.specs.Held.{at_rest};
 ghost use Rattle.sb_journal.specs.Text.{File, head, new_file, file_text, IsWithin};
 ghost use Rattle.sb_journal.specs.Framing.{Whole, framing};
 ghost use Rattle.sb_journal.specs.Settled.{IsShut, IsOldNoneOrNew};
-ghost use Rattle.sb_journal.specs.Moments.{EachMoment};
+ghost use Rattle.sb_journal.specs.Moments.{EachMoment, FromSync};
 
 use sb_outside::{Disk, DiskFault};
 
@@ -119,6 +119,10 @@ pub fn create<D: Disk>(
     ensures honesty { D.honest disk.new ≡ D.honest disk.old }
     ensures ok { IsTrue (D.honest disk.old) → OnOk result (D.held disk.new ≡ at_rest (file_text (new_file salt generation first base.now) ++ 0 ∷ [])) }
     ensures reads { IsTrue (D.honest disk.old) → base.now ≡ [] → OnOk result (framing (D.held disk.new).seen ≡ Whole (new_file salt generation first [])) }
+
+    // From the first sync on a crash leaves the old bytes, no file, or the new one, where the file's gate was open or closed.
+    ensures any_moment { IsTrue (D.honest disk.old) → slice_index (D.held disk.old).seen 0 ≤ 1 → base.now ≡ []
+        → FromSync (D.past disk.old) (D.held disk.old) (D.past disk.new) (D.held disk.new) (IsOldNoneOrNew (D.held disk.old).seen (new_file salt generation first [])) }
     ensures cause { HasCause (D.count disk.old) (D.count disk.new) result }
 {
     disk.sync()?;

@@ -1,8 +1,9 @@
 // A journal that is open on its disks.
-ghost use Rattle.std.specs.Prelude.{◌≡◌, ◌≤◌, ◌+◌, ◌^◌, List, ℕ, Bool, true, false, IsTrue, length, [], vec_capacity, IfOk, IfErr, OnOk, OnErr};
+ghost use Rattle.std.specs.Prelude.{◌≡◌, ◌≤◌, ◌+◌, ◌^◌, List, ℕ, Bool, true, false, IsTrue, length, slice_index, [], vec_capacity, IfOk, IfErr, OnOk, OnErr};
 ghost use Rattle.std.specs.Result.{MatchResult};
 ghost use Rattle.sb_outside.specs.Causes.{HasCause, Rose};
 ghost use Rattle.sb_journal.specs.Text.{File, max_payload, with_payload};
+ghost use Rattle.sb_journal.specs.Framing.{Uncreated, framing};
 
 use crate::append::{FRAME_BYTES, append_frame, frame_in};
 use crate::opening::recover;
@@ -33,8 +34,8 @@ impl<D: Disk> Journal<D> {
     ghost use Rattle.sb_journal.specs.declared.found.Side.{Side};
     ghost use Rattle.sb_journal.specs.declared.found.Side.TheVariants.{A};
     ghost use Rattle.sb_journal.specs.Opened.{Stands, Damage, opened, found_file, stand_file};
-    ghost use Rattle.sb_journal.specs.Settled.{Rests, IsBeforeOrAfter};
-    ghost use Rattle.sb_journal.specs.Moments.{EachMoment};
+    ghost use Rattle.sb_journal.specs.Settled.{Rests, IsBeforeOrAfter, MayLeave};
+    ghost use Rattle.sb_journal.specs.Moments.{EachMoment, FromSync};
     ghost use Rattle.sb_journal.specs.Journals.{journal_disk_a, journal_disk_b, has_failed, fault_count, IsSettled};
 
     /// Opens the journal that stands on these disks, from what they hold: its file, and the
@@ -54,6 +55,13 @@ impl<D: Disk> Journal<D> {
         ensures faults { IfOk result (λ x. fault_count x.0 ≡ 0) }
         ensures damaged { IfErr result (λ e. IsTrue (D.honest disk_a) → (side : Side) (place : ℕ) → e.why ≡ OpenWhy.Damaged side place
             → (opened (D.held disk_a).seen (D.held disk_b).seen salt ≡ Damage side place) × ((D.held e.disk_a).seen ≡ (D.held disk_a).seen)) }
+
+        // From the first sync on a crash leaves what was found, up to the end gate; where there was no file, no file or
+        // the new one. What is no file of this kind, and begins with neither 00 nor 01, is taken over with no such word.
+        ensures any_moment { IsTrue (D.honest disk_a) → (framing (D.held disk_a).seen ≡ Uncreated → slice_index (D.held disk_a).seen 0 ≤ 1)
+            → MatchResult result
+            (λ x. FromSync (D.past disk_a) (D.held disk_a) (D.past (journal_disk_a x.0)) (D.held (journal_disk_a x.0)) (MayLeave salt (D.held disk_a).seen (framing (D.held disk_a).seen)))
+            (λ e. FromSync (D.past disk_a) (D.held disk_a) (D.past e.disk_a) (D.held e.disk_a) (MayLeave salt (D.held disk_a).seen (framing (D.held disk_a).seen))) }
         ensures cause { IfErr result (λ e. e.why ≡ OpenWhy.DiskFault → Rose (D.count disk_a) (D.count e.disk_a)) }
         ensures later { MatchResult result (λ x. D.count disk_a ≤ D.count (journal_disk_a x.0)) (λ e. D.count disk_a ≤ D.count e.disk_a) }
         ensures honesty { MatchResult result (λ x. D.honest (journal_disk_a x.0) ≡ D.honest disk_a) (λ e. D.honest e.disk_a ≡ D.honest disk_a) }

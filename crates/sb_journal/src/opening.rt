@@ -1,12 +1,13 @@
 // Opening a journal: all of its file is read, a torn end is closed, and where there is no file one
 // is made.
-ghost use Rattle.std.specs.Prelude.{◌≡◌, ◌≢◌, ◌≤◌, ◌<◌, ◌+◌, ◌++◌, [], ◌∷◌, ◌^◌, List, ℕ, IsTrue, length, take, IfOk, IfErr, OnOk};
+ghost use Rattle.std.specs.Prelude.{◌≡◌, ◌≢◌, ◌⊎◌, ◌≤◌, ◌<◌, ◌==◌, ◌&&◌, nat_lt, slice_index, ◌+◌, ◌++◌, [], ◌∷◌, ◌^◌, List, ℕ, IsTrue, length, take, IfOk, IfErr, OnOk};
 ghost use Rattle.sb_outside.specs.Causes.{HasCause, Rose};
 ghost use Rattle.sb_outside.specs.Held.{Held, at_rest};
 ghost use Rattle.sb_journal.specs.Text.{File, new_file, file_text};
-ghost use Rattle.sb_journal.specs.Framing.{framing};
+ghost use Rattle.sb_journal.specs.Framing.{Uncreated, framing};
 ghost use Rattle.sb_journal.specs.Laws.{Spells};
-ghost use Rattle.sb_journal.specs.Settled.{Rests};
+ghost use Rattle.sb_journal.specs.Settled.{Rests, IsTornEnd, IsOldNoneOrNew, MayLeave};
+ghost use Rattle.sb_journal.specs.Moments.{EachMoment, FromSync};
 ghost use Rattle.sb_journal.specs.Opened.{Stands, Damage, opened_alone, stand_file, IsStand};
 ghost use Rattle.sb_journal.specs.declared.found.Side.{Side};
 ghost use Rattle.sb_journal.specs.declared.found.Side.TheVariants.{A};
@@ -67,6 +68,13 @@ fn bytes_of<D: Disk>(alloc: Global, disk: &mut D) -> Result<Vec<u8>, BytesFault>
     Ok(bytes)
 }
 
+// Whether this place has a closed gate.
+fn is_closed(bytes: &[u8], end: u64) -> bool
+    ensures { result ≡ (nat_lt end (length bytes.now) && (slice_index bytes.now end == 0)) }
+{
+    end < bytes.len() as u64 && bytes[end as usize] == 0
+}
+
 // Makes sure that the end gate is closed, unless it is.
 fn close_end<D: Disk>(disk: &mut D, bytes: &[u8], end: u64) -> Result<(), DiskFault>
     requires held { IsTrue (D.honest disk.old) → D.held disk.old ≡ at_rest bytes.now }
@@ -76,9 +84,11 @@ fn close_end<D: Disk>(disk: &mut D, bytes: &[u8], end: u64) -> Result<(), DiskFa
     ensures ok { (f : File) (next : ℕ) → IsTrue (D.honest disk.old) → Spells f bytes.now → end ≡ length (file_text f) → next ≡ f.first + length f.payloads
         → OnOk result (Rests (D.held disk.new) end next f) }
     ensures room { IsTrue (D.honest disk.old) → OnOk result (end + 1 ≤ (D.held disk.new).least) }
+    ensures any_moment { (f : File) → IsTrue (D.honest disk.old) → Spells f bytes.now → end ≡ length (file_text f)
+        → EachMoment (D.past disk.old) (D.past disk.new) (D.held disk.new) (λ image. (image ≡ bytes.now) ⊎ IsTornEnd f bytes.now image) }
     ensures cause { HasCause (D.count disk.old) (D.count disk.new) result }
 {
-    if end < bytes.len() as u64 && bytes[end as usize] == 0 {
+    if is_closed(bytes, end) {
         return Ok(());
     }
     disk.write_at(end, &[0])?;
@@ -94,6 +104,8 @@ fn new_stand<D: Disk>(alloc: Global, disk: &mut D, salt: u64) -> Result<Stand, O
     ensures ok { IsTrue (D.honest disk.old) → IfOk result (λ s. Rests (D.held disk.new) s.end s.next (stand_file s)) }
     ensures end_fits { IfOk result (λ s. s.end ≤ 2 ^ 62) }
     ensures undamaged { IfErr result (λ e. e ≡ OpenWhy.DiskFault) }
+    ensures any_moment { IsTrue (D.honest disk.old) → D.held disk.old ≡ at_rest (D.held disk.old).seen → slice_index (D.held disk.old).seen 0 ≤ 1
+        → EachMoment (D.past disk.old) (D.past disk.new) (D.held disk.new) (IsOldNoneOrNew (D.held disk.old).seen (new_file salt 1 1 [])) }
     ensures cause { HasCause (D.count disk.old) (D.count disk.new) result }
 {
     let Ok(()) = make_file(disk, salt, 1, 1, &[]) else {
@@ -119,6 +131,8 @@ pub(crate) fn recover<D: Disk>(alloc: Global, disk: &mut D, salt: u64) -> Result
     ensures next_fits { IfOk result (λ s. s.next ≤ 2 ^ 62 + s.end) }
     ensures damaged { IsTrue (D.honest disk.old) → IfErr result (λ e. (side : Side) (place : ℕ) → e ≡ OpenWhy.Damaged side place
         → (opened_alone salt (framing (D.held disk.old).seen) ≡ Damage side place) × ((D.held disk.new).seen ≡ (D.held disk.old).seen)) }
+    ensures any_moment { IsTrue (D.honest disk.old) → (framing (D.held disk.old).seen ≡ Uncreated → slice_index (D.held disk.old).seen 0 ≤ 1)
+        → FromSync (D.past disk.old) (D.held disk.old) (D.past disk.new) (D.held disk.new) (MayLeave salt (D.held disk.old).seen (framing (D.held disk.old).seen)) }
     ensures later { D.count disk.old ≤ D.count disk.new }
     ensures cause { IfErr result (λ e. e ≡ OpenWhy.DiskFault → Rose (D.count disk.old) (D.count disk.new)) }
 {
