@@ -13,6 +13,7 @@ use sb_outside::{Disk, DiskFault};
 use std::alloc::Global;
 
 /// A journal that is open: what was recorded on it, and where the next record goes.
+#[derive(Drop)]
 pub struct Journal<D: Disk> {
     disk_a: D,
     disk_b: D,

@@ -9,6 +9,8 @@ mod journal;
 pub mod laws;
 mod opening;
 mod reading;
+#[cfg(test)]
+mod tests;
 
 pub use bytes::Bytes;
 pub use creating::create;
