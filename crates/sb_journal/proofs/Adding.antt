@@ -1,10 +1,10 @@
 -- The four disk calls of an append, one after another.
-use Rattle.std.proofs.Common.{◌≡◌, ◌≢◌, ◌⊎◌, inl, inr, ℕ, ◌+◌, ◌^◌, ◌<◌, ◌≤◌, List, [], ◌∷◌, ◌++◌, length, get_or, take, drop, refl, sym, ◌∙◌, ap, subst, arith, append_assoc, length-append}
-use Rattle.std.proofs.lemmas.List.{append-nil, take_at}
+use Rattle.std.proofs.Common.{◌≡◌, ◌≢◌, inl, inr, ℕ, ◌+◌, ◌^◌, ◌≤◌, List, [], ◌∷◌, ◌++◌, length, get_or, take, drop, sym, ◌∙◌, ap, subst, arith, append_assoc, length-append}
+use Rattle.std.proofs.lemmas.List.{take_at}
 use Rattle.std.proofs.lemmas.Bool.{cases_eq}
 use Rattle.sb_outside.specs.Held.{Held, IsImage, Moves, MayMove, overwritten, touched, at_rest}
-use Rattle.sb_journal.specs.Text.{File, max_payload, framed, records, file_text, with_payload, IsWithin}
-use Rattle.sb_journal.specs.Framing.{Framing, Whole, framing}
+use Rattle.sb_journal.specs.Text.{File, max_payload, framed, file_text, with_payload, IsWithin}
+use Rattle.sb_journal.specs.Framing.{Whole, framing}
 use Rattle.sb_journal.specs.Settled.{Rests, IsBeforeOrAfter}
 use Rattle.sb_journal.specs.Moments.{EachMoment}
 use Rattle.sb_journal.proofs.Moments.{started, goes_on, stays, may_go_on}

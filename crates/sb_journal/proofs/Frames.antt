@@ -1,13 +1,11 @@
 -- Reading back what records spell.
-use Rattle.std.proofs.Common.{◌≡◌, ◌≢◌, ◌⊎◌, inl, inr, ℕ, zero, suc, ◌+◌, ◌*◌, ◌-◌, ◌^◌, ◌<◌, ◌≤◌, List, [], ◌∷◌, ◌++◌, length, take, drop, true, false, refl, sym, ◌∙◌, ap, subst, arith, append_assoc, length-append, w32, w64}
+use Rattle.std.proofs.Common.{◌≡◌, ◌≢◌, ℕ, zero, suc, ◌+◌, ◌-◌, ◌^◌, ◌<◌, ◌≤◌, List, [], ◌∷◌, ◌++◌, length, take, drop, true, refl, sym, ◌∙◌, ap, arith, append_assoc, length-append, w32, w64}
 use Rattle.std.specs.Prelude.{Bool, if◌then◌else◌, Result, Ok, Err}
 use Rattle.std.specs.Int.{to_be_bytes, from_be_bytes}
 use Rattle.std.proofs.lemmas.Nat.{from_be_bytes-to_be_bytes_4, from_be_bytes-to_be_bytes_8}
-use Rattle.std.proofs.lemmas.List.{append-nil, take_at, drop_at, take_all, drop_all}
-use Rattle.std.proofs.lemmas.Bool.{cases_eq}
+use Rattle.std.proofs.lemmas.List.{append-nil, take_at, drop_at}
 use Rattle.std.proofs.lemmas.Bool.Decides.{nat_tests}
-use Rattle.std.proofs.lemmas.Grind.{common_steps}
-use Rattle.sb_journal.specs.Text.{max_payload, framed, records, AreShort, Ends, AreBytes}
+use Rattle.sb_journal.specs.Text.{max_payload, framed, records, AreShort, Ends}
 use Rattle.sb_journal.specs.Framing.{with_first, payload_length, is_record, read}
 
 pub length-framed : (number : ℕ) (p : List ℕ) → length (framed number p) ≡ 12 + length p

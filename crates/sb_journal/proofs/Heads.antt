@@ -1,15 +1,14 @@
 -- A whole file is read back as itself.
-use Rattle.std.proofs.Common.{◌≡◌, ◌≢◌, ℕ, zero, suc, ◌+◌, ◌-◌, ◌^◌, ◌<◌, ◌≤◌, List, [], ◌∷◌, ◌++◌, length, get_or, take, drop, true, false, refl, sym, ◌∙◌, ap, subst, arith, append_assoc, length-append, w32, w64}
-use Rattle.std.specs.Prelude.{Bool, if◌then◌else◌, Option, Some, None, Result, Ok, Err, nat_le, ◌&&◌, ◌==◌}
-use Rattle.std.specs.Int.{to_be_bytes, from_be_bytes}
+use Rattle.std.proofs.Common.{◌≡◌, ◌≢◌, ℕ, ◌+◌, ◌^◌, ◌<◌, ◌≤◌, List, [], ◌∷◌, ◌++◌, length, drop, true, refl, sym, ◌∙◌, ap, subst, arith, append_assoc, length-append}
+use Rattle.std.specs.Prelude.{Bool, if◌then◌else◌, Some, None, Ok}
 use Rattle.std.proofs.lemmas.Nat.{from_be_bytes-to_be_bytes_8}
 use Rattle.std.proofs.lemmas.List.{append-nil}
 use Rattle.std.proofs.lemmas.Bool.Decides.{nat_tests}
-use Rattle.sb_journal.specs.Text.{File, new_file, with_payload, max_payload, max_count, magic, head, framed, records, file_text, IsWithin, AreShort, Ends}
-use Rattle.sb_journal.specs.Framing.{Framing, Whole, Damaged, Uncreated, first_failing, is_created, number_at, is_count, head_fault, read, payloads_in, file_with, whole_or_damaged, sound_or_damaged, framing}
+use Rattle.sb_journal.specs.Text.{File, new_file, with_payload, max_payload, head, framed, records, file_text, IsWithin, Ends}
+use Rattle.sb_journal.specs.Framing.{Whole, Uncreated, first_failing, is_created, number_at, is_count, head_fault, read, payloads_in, file_with, whole_or_damaged, sound_or_damaged, framing}
 use Rattle.sb_outside.specs.Held.{Held, at_rest}
 use Rattle.sb_journal.specs.Settled.{Rests}
-use Rattle.sb_journal.proofs.Frames.{read_ended, records-push, length-records, length-framed, AreShort-push}
+use Rattle.sb_journal.proofs.Frames.{read_ended, records-push, length-records, AreShort-push}
 
 -- a file without a base
 abbrev plain : (salt generation first : ℕ) → List (List ℕ) → File

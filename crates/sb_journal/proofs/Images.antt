@@ -1,10 +1,10 @@
 -- What a crash leaves of a disk at rest, and after one write on it.
-use Rattle.std.proofs.Common.{◌≡◌, ◌≢◌, ◌⊎◌, inl, inr, ℕ, zero, suc, ◌+◌, ◌-◌, ◌<◌, ◌≤◌, List, [], ◌∷◌, ◌++◌, length, get_or, take, drop, max, min, false, true, refl, sym, ◌∙◌, ap, subst, arith, append_assoc, length-append, length-take, length-drop, take-append-drop}
-use Rattle.std.proofs.lemmas.List.{append-nil, take_at, drop_at, drop-drop, get_or-take, get_or_at}
+use Rattle.std.proofs.Common.{◌≡◌, ◌≢◌, ◌⊎◌, inl, inr, ℕ, zero, suc, ◌+◌, ◌<◌, ◌≤◌, List, [], ◌∷◌, ◌++◌, length, get_or, take, drop, false, refl, sym, ◌∙◌, ap, arith, append_assoc, length-append, length-take, take-append-drop}
+use Rattle.std.proofs.lemmas.List.{take_at, drop_at, drop-drop, get_or-take, get_or_at}
 use Rattle.std.proofs.lemmas.Bool.{cases_eq}
 use Rattle.std.proofs.lemmas.Bool.Decides.{nat_tests}
 use Rattle.std.proofs.lemmas.Grind.{same_number_lists}
-use Rattle.sb_outside.specs.Held.{Held, IsImage, is_written, overwritten, touched, at_rest}
+use Rattle.sb_outside.specs.Held.{IsImage, is_written, overwritten, touched, at_rest}
 
 -- at rest there is one image
 pub rest_image : (bytes image : List ℕ) → IsImage (at_rest bytes) image → image ≡ bytes

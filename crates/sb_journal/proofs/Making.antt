@@ -1,11 +1,11 @@
 -- The bytes of a new file, write by write.
-use Rattle.std.proofs.Common.{◌≡◌, ◌≢◌, ℕ, zero, suc, ◌+◌, ◌-◌, ◌^◌, ◌<◌, ◌≤◌, List, [], ◌∷◌, ◌++◌, length, get_or, take, drop, refl, sym, ◌∙◌, ap, subst, arith, append_assoc, length-append, length-take, length-drop, w64}
+use Rattle.std.proofs.Common.{◌≡◌, ℕ, ◌+◌, ◌<◌, ◌≤◌, List, [], ◌∷◌, ◌++◌, length, get_or, take, drop, refl, sym, ◌∙◌, ap, arith, append_assoc, length-append, length-take, w64}
 use Rattle.std.specs.Int.{to_be_bytes}
 use Rattle.std.proofs.lemmas.List.{append-nil, take_at, drop_all}
-use Rattle.sb_outside.specs.Held.{Held, Moves, overwritten, touched, shortened, at_rest}
+use Rattle.sb_outside.specs.Held.{overwritten}
 use Rattle.sb_journal.specs.Text.{head, new_file, file_text, IsWithin}
-use Rattle.sb_journal.specs.Framing.{Framing, Whole, framing}
-use Rattle.sb_journal.proofs.Heads.{length-head, reads_closed}
+use Rattle.sb_journal.specs.Framing.{Whole, framing}
+use Rattle.sb_journal.proofs.Heads.{reads_closed}
 use Rattle.sb_journal.proofs.Images.{written_at}
 
 -- a write from a place to the end or past it

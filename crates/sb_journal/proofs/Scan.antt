@@ -1,12 +1,11 @@
 -- One record more is read.
-use Rattle.std.proofs.Common.{◌≡◌, ◌≢◌, ℕ, zero, suc, ◌+◌, ◌-◌, ◌^◌, ◌<◌, ◌≤◌, List, [], ◌∷◌, ◌++◌, length, get_or, take, drop, true, false, refl, sym, ◌∙◌, ap, subst, arith, append_assoc, length-append, length-drop, length-take}
-use Rattle.std.specs.Prelude.{Bool, if◌then◌else◌, Result, Ok, Err}
-use Rattle.std.proofs.lemmas.List.{drop-drop, drop_more, drop_all, take_all, append-nil, get_or-take, get_or-drop}
-use Rattle.std.proofs.lemmas.Bool.Decides.{nat_tests}
+use Rattle.std.proofs.Common.{◌≡◌, ◌≢◌, ℕ, suc, ◌+◌, ◌-◌, ◌<◌, ◌≤◌, List, [], ◌∷◌, ◌++◌, length, get_or, take, drop, true, false, sym, ◌∙◌, ap, arith, length-append, length-drop}
+use Rattle.std.specs.Prelude.{Result, Ok, Err}
+use Rattle.std.proofs.lemmas.List.{drop-drop, drop_more, drop_all, take_all, append-nil}
 use Rattle.sb_journal.specs.Text.{records, framed}
 use Rattle.sb_journal.specs.Framing.{with_first, payload_length, is_record, read}
 use Rattle.sb_journal.proofs.Frames.{with_all, with_all-push, with_all-Ok, with_all-Err, length-framed, length-records, records-push, ended}
-use Rattle.sb_journal.proofs.Parts.{open_here, broken_here, closed_here}
+use Rattle.sb_journal.proofs.Parts.{open_here, broken_here}
 
 -- a slice to the end
 pub rest_is : (n : ℕ) (xs : List ℕ) → take (length xs - n) (drop n xs) ≡ drop n xs

@@ -1,14 +1,14 @@
 -- While a file's gate is closed, no file counts.
-use Rattle.std.proofs.Common.{◌≡◌, ◌≢◌, ◌⊎◌, inl, inr, ℕ, ◌+◌, ◌<◌, ◌≤◌, List, [], ◌∷◌, ◌++◌, length, get_or, take, drop, max, min, false, true, refl, sym, ◌∙◌, ap, subst, arith, length-append}
+use Rattle.std.proofs.Common.{◌≡◌, ◌≢◌, inl, inr, ℕ, ◌≤◌, List, [], ◌∷◌, length, get_or, take, refl, sym, ◌∙◌, ap, subst, arith}
 use Rattle.std.specs.Prelude.{slice_index}
 use Rattle.std.proofs.lemmas.Bool.{cases_eq}
 use Rattle.std.proofs.lemmas.Bool.Decides.{nat_tests}
-use Rattle.sb_outside.specs.Held.{Held, IsImage, Moves, MayMove, is_written, overwritten, touched, shortened, at_rest}
-use Rattle.sb_journal.specs.Text.{File, head, new_file, file_text, IsWithin}
-use Rattle.sb_journal.specs.Framing.{Framing, Uncreated, Whole, framing}
-use Rattle.sb_journal.specs.Settled.{IsOldNoneOrNew, IsShut, Rests}
+use Rattle.sb_outside.specs.Held.{Held, IsImage, Moves, MayMove, overwritten, touched, shortened, at_rest}
+use Rattle.sb_journal.specs.Text.{File}
+use Rattle.sb_journal.specs.Framing.{Uncreated, Whole, framing}
+use Rattle.sb_journal.specs.Settled.{IsOldNoneOrNew, IsShut}
 use Rattle.sb_journal.specs.Moments.{EachMoment}
-use Rattle.sb_journal.proofs.Moments.{started, goes_on, stays, may_go_on, runs_on, weaker_moments}
+use Rattle.sb_journal.proofs.Moments.{started, goes_on, stays, may_go_on}
 use Rattle.sb_journal.proofs.Images.{rest_image, one_place, written_at}
 use Rattle.sb_journal.proofs.Wholes.{not_created, test_closed, test_short}
 

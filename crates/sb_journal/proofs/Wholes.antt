@@ -1,16 +1,16 @@
 -- A file that is read as whole is spelled so.
-use Rattle.std.proofs.Common.{◌≡◌, ◌≢◌, ◌⊎◌, inl, inr, ℕ, zero, suc, ◌+◌, ◌*◌, ◌-◌, ◌^◌, ◌<◌, ◌≤◌, List, [], ◌∷◌, ◌++◌, length, get_or, take, drop, true, false, refl, sym, ◌∙◌, ap, subst, arith, append_assoc, length-append, length-drop, w32, w64}
-use Rattle.std.specs.Prelude.{Bool, if◌then◌else◌, Option, Some, None, Result, Ok, Err, nat_le, ◌&&◌, ◌==◌, slice_index}
-use Rattle.std.specs.Int.{to_be_bytes, from_be_bytes}
+use Rattle.std.proofs.Common.{◌≡◌, ◌≢◌, ℕ, ◌+◌, ◌*◌, ◌^◌, ◌<◌, ◌≤◌, List, [], ◌∷◌, ◌++◌, length, take, drop, true, false, refl, sym, ◌∙◌, ap, subst, arith, append_assoc, length-append, length-drop, w64}
+use Rattle.std.specs.Prelude.{Bool, if◌then◌else◌, Option, Some, None, Result, Ok, Err, nat_le, ◌==◌, slice_index}
+use Rattle.std.specs.Int.{to_be_bytes}
 use Rattle.std.specs.Str.{bytes_eq}
 use Rattle.std.proofs.lemmas.List.{drop_more}
 use Rattle.std.proofs.lemmas.Bool.Decides.{nat_tests}
 use Rattle.std.proofs.lemmas.Slice.Eq.{bytes_eq-Decides}
-use Rattle.sb_journal.specs.Text.{File, magic, head, records, file_text, IsWithin, AreShort, Ends, AreBytes, max_count}
+use Rattle.sb_journal.specs.Text.{File, magic, head, records, file_text, AreBytes, max_count}
 use Rattle.sb_journal.specs.Framing.{Framing, Whole, Damaged, Uncreated, first_failing, is_created, number_at, is_count, head_fault, read, payloads_in, file_with, whole_or_damaged, sound_or_damaged, framing}
 use Rattle.sb_journal.specs.Laws.{Spells}
 use Rattle.sb_journal.proofs.Frames.{length-records}
-use Rattle.sb_journal.proofs.Parts.{Spelled, spelled, part, number_part, both, AreBytes-drop, AreBytes-take}
+use Rattle.sb_journal.proofs.Parts.{spelled, part, number_part, both, AreBytes-drop, AreBytes-take}
 
 where_created : (b : Bool) (x : Framing) (f : File) → (if b then x else Uncreated) ≡ Whole f → (b ≡ true) × (x ≡ Whole f)
 where_created true x f e = (refl, e)

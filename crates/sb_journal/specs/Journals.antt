@@ -1,10 +1,10 @@
 -- What contracts say of a journal.
-use Rattle.std.specs.Prelude.{◌≡◌, ◌+◌, ℕ, List, Bool, false, IsTrue, length, if◌then◌else◌}
-use Rattle.sb_outside.specs.Held.{Held, IsImage}
+use Rattle.std.specs.Prelude.{◌≡◌, ℕ, List, Bool, false, IsTrue, if◌then◌else◌}
+use Rattle.sb_outside.specs.Held.{IsImage}
 use Rattle.sb_outside.specs.declared.disk.Disk.{Ghosts}
 use Rattle.sb_journal.specs.declared.journal.Journal.{Journal}
 use Rattle.sb_journal.specs.Text.{File}
-use Rattle.sb_journal.specs.Framing.{Framing, Whole, framing}
+use Rattle.sb_journal.specs.Framing.{Whole, framing}
 use Rattle.sb_journal.specs.Settled.{Rests}
 
 -- the disk that it records on

@@ -1,7 +1,7 @@
 -- Reading and writing files belong together, and what a whole file's bytes are.
 use Rattle.std.specs.Prelude.{◌≡◌, ◌≢◌, ◌≤◌, ◌^◌, ℕ, List, [], ◌∷◌, ◌++◌, length}
 use Rattle.sb_journal.specs.Text.{File, new_file, file_text, IsWithin, Ends, AreBytes}
-use Rattle.sb_journal.specs.Framing.{Framing, Whole, framing}
+use Rattle.sb_journal.specs.Framing.{Whole, framing}
 
 -- a file is read back as itself: whatever stands behind a closed end gate
 abbrev pub ReadsBack : Type 0

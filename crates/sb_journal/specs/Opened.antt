@@ -1,7 +1,7 @@
 -- What two disks stand for, and what an opening says of it.
 use Rattle.std.specs.Prelude.{◌≡◌, ◌≤◌, ◌+◌, ◌^◌, ℕ, List, [], length}
 use Rattle.sb_journal.specs.declared.found.Side.{Side}
-use Rattle.sb_journal.specs.declared.found.Side.TheVariants.{A, B}
+use Rattle.sb_journal.specs.declared.found.Side.TheVariants.{A}
 use Rattle.sb_journal.specs.declared.found.Found.{Found}
 use Rattle.sb_journal.specs.declared.reading.Stand.{Stand}
 use Rattle.sb_journal.specs.declared.reading.Reading.{Reading}

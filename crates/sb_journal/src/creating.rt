@@ -8,6 +8,7 @@ ghost use Rattle.sb_journal.specs.Framing.{Whole, framing};
 ghost use Rattle.sb_journal.specs.Settled.{IsShut, IsOldNoneOrNew};
 ghost use Rattle.sb_journal.specs.Moments.{EachMoment, FromSync};
 
+use crate::reading::VERSION;
 use sb_outside::{Disk, DiskFault};
 
 // The bytes from behind the file's gate to the base, and a closed gate.
@@ -19,9 +20,9 @@ fn head_bytes(salt: u64, generation: u64, first: u64, base_length: u64) -> [u8; 
     let f = first.to_be_bytes();
     let b = base_length.to_be_bytes();
     [
-        83, 66, 78, 83, 74, 82, 78, 76, 1, s[0], s[1], s[2], s[3], s[4], s[5], s[6], s[7], g[0],
-        g[1], g[2], g[3], g[4], g[5], g[6], g[7], f[0], f[1], f[2], f[3], f[4], f[5], f[6], f[7],
-        b[0], b[1], b[2], b[3], b[4], b[5], b[6], b[7], 0,
+        b'S', b'B', b'N', b'S', b'J', b'R', b'N', b'L', VERSION, s[0], s[1], s[2], s[3], s[4],
+        s[5], s[6], s[7], g[0], g[1], g[2], g[3], g[4], g[5], g[6], g[7], f[0], f[1], f[2], f[3],
+        f[4], f[5], f[6], f[7], b[0], b[1], b[2], b[3], b[4], b[5], b[6], b[7], 0,
     ]
 }
 

@@ -11,13 +11,15 @@ use crate::Bytes;
 use std::alloc::{AllocError, Global};
 
 // The bytes from a file's gate to its base.
-pub(crate) const HEAD_BYTES: usize = 42;
+const HEAD_BYTES: usize = 42;
 
+// A payload has at most so many bytes.
 pub(crate) const MAX_PAYLOAD: usize = 1_048_576;
 
-pub(crate) const MAX_COUNT: u64 = 1 << 62;
+// A generation and a first number are 1 to this.
+const MAX_COUNT: u64 = 1 << 62;
 
-pub(crate) const MAGIC: [u8; 8] = [83, 66, 78, 83, 74, 82, 78, 76];
+const MAGIC: [u8; 8] = *b"SBNSJRNL";
 
 pub(crate) const VERSION: u8 = 1;
 

@@ -1,7 +1,7 @@
-use Rattle.std.proofs.Common.{◌≡◌, ℕ, List, ◌+◌, ◌∷◌, ◌++◌, [], length, ap, sym, ◌∙◌, subst}
+use Rattle.std.proofs.Common.{◌≡◌, ℕ, List, ◌+◌, length, sym, subst}
 use Rattle.std.specs.Prelude.{IsTrue}
 use Rattle.sb_outside.specs.Held.{Held, Moves, touched, overwritten}
-use Rattle.sb_journal.specs.Text.{File, with_payload}
+use Rattle.sb_journal.specs.Text.{with_payload}
 use Rattle.sb_journal.specs.Settled.{Rests}
 use Rattle.sb_journal.proofs.Adding as adding
 use Rattle.sb_journal.proofs.append.append_frame.Goals as goal

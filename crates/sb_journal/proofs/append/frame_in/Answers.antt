@@ -1,4 +1,4 @@
-use Rattle.std.proofs.Common.{ap, sym, ◌∙◌, append_assoc, arith, ◌++◌, []}
+use Rattle.std.proofs.Common.{arith}
 use Rattle.std.proofs.lemmas.Grind.{common_steps}
 use Rattle.sb_journal.specs.Text.{framed}
 use Rattle.sb_journal.proofs.append.frame_in.Goals as goal

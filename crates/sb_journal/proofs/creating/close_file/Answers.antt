@@ -1,6 +1,6 @@
-use Rattle.std.proofs.Common.{◌≡◌, ℕ, ◌+◌, List, [], ◌∷◌, length, refl, sym, ◌∙◌, ap, subst}
+use Rattle.std.proofs.Common.{[], ◌∷◌, refl, sym, subst}
 use Rattle.std.specs.Prelude.{IsTrue}
-use Rattle.sb_outside.specs.Held.{Held, Moves, MayMove, touched, overwritten}
+use Rattle.sb_outside.specs.Held.{touched, overwritten}
 use Rattle.sb_journal.proofs.Moments.{stays, Moves_from, MayMove_from}
 use Rattle.sb_journal.proofs.Shut as shut
 use Rattle.sb_journal.proofs.creating.close_file.Goals as goal

@@ -1,7 +1,7 @@
-use Rattle.std.proofs.Common.{◌≡◌, ℕ, ◌+◌, List, [], ◌∷◌, ◌++◌, length, ap, sym, ◌∙◌, subst, lit≤}
+use Rattle.std.proofs.Common.{◌≡◌, ℕ, List, [], ◌∷◌, ◌++◌, length, ap, sym, ◌∙◌, subst, lit≤}
 use Rattle.std.specs.Prelude.{IsTrue}
 use Rattle.sb_outside.specs.Held.{overwritten, at_rest}
-use Rattle.sb_journal.specs.Text.{head, new_file, file_text, IsWithin}
+use Rattle.sb_journal.specs.Text.{head, new_file}
 use Rattle.sb_journal.specs.Framing.{Whole, framing}
 use Rattle.sb_journal.proofs.Making as making
 use Rattle.sb_journal.proofs.Moments.{runs_on}

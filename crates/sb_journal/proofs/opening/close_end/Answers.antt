@@ -1,6 +1,5 @@
-use Rattle.std.proofs.Common.{◌≡◌, ℕ, List, sym, ◌∙◌, subst}
+use Rattle.std.proofs.Common.{sym, ◌∙◌, subst}
 use Rattle.std.specs.Prelude.{IsTrue}
-use Rattle.sb_journal.proofs.Moments.{stays}
 use Rattle.sb_journal.proofs.Ending as ending
 use Rattle.sb_journal.proofs.opening.close_end.Goals as goal
 

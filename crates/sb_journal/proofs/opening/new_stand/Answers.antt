@@ -1,7 +1,6 @@
 use Rattle.std.proofs.Common.{◌≡◌, ◌<◌, ◌^◌, ℕ, List, [], length, sym, ap, subst, arith}
 use Rattle.sb_journal.specs.Text.{File, new_file}
 use Rattle.sb_journal.specs.Settled.{Rests}
-use Rattle.sb_journal.specs.Opened.{stand_file}
 use Rattle.sb_journal.proofs.Heads.{length-file_text, new_rests}
 use Rattle.sb_journal.proofs.opening.new_stand.Goals as goal
 

@@ -1,7 +1,6 @@
-use Rattle.std.proofs.Common.{◌≡◌, ℕ, ◌+◌, ◌^◌, ◌≤◌, List, [], ◌∷◌, length, drop, ap, sym, ◌∙◌, arith}
-use Rattle.std.specs.Prelude.{Ok, Err, Some, None}
+use Rattle.std.proofs.Common.{◌≡◌, length, ap, sym, ◌∙◌, arith}
+use Rattle.std.specs.Prelude.{Ok, Err}
 use Rattle.sb_journal.specs.Text.{records}
-use Rattle.sb_journal.specs.Framing.{read}
 use Rattle.sb_journal.specs.Opened.{stand_file}
 use Rattle.sb_journal.proofs.Frames.{length-records}
 use Rattle.sb_journal.proofs.Heads.{length-file_text}

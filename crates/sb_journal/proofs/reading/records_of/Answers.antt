@@ -1,10 +1,7 @@
-use Rattle.std.proofs.Common.{◌≡◌, ℕ, ◌+◌, ◌-◌, List, [], ◌∷◌, ◌++◌, length, take, drop, ap, sym, ◌∙◌, subst, arith, length-append, get_or, false, true}
-use Rattle.std.specs.Prelude.{Ok, Err, is_ok}
-use Rattle.std.proofs.lemmas.Grind.{common_steps}
-use Rattle.std.proofs.lemmas.Bool.Decides.{nat_tests}
+use Rattle.std.proofs.Common.{◌≡◌, ℕ, ◌+◌, ◌-◌, List, [], ◌∷◌, ◌++◌, length, take, drop, ap, sym, ◌∙◌, subst, arith, length-append, false, true}
+use Rattle.std.specs.Prelude.{Err}
 use Rattle.sb_journal.specs.Text.{records}
 use Rattle.sb_journal.specs.Framing.{read, is_record, payload_length}
-use Rattle.sb_journal.specs.declared.reading.RecordsFault.TheVariants.{Broken}
 use Rattle.sb_journal.proofs.Frames.{with_all}
 use Rattle.sb_journal.proofs.Scan as scan
 use Rattle.sb_journal.proofs.reading.records_of.Goals.{then-records-test+else-bytes-place-eq1, else-records-test}

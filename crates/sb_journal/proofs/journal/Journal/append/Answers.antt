@@ -1,5 +1,5 @@
-use Rattle.std.proofs.Common.{◌≡◌, ℕ, List, ◌+◌, ◌∷◌, ◌++◌, [], length, ap, sym, ◌∙◌, subst, arith}
-use Rattle.sb_journal.specs.Text.{File, framed, with_payload}
+use Rattle.std.proofs.Common.{◌≡◌, ◌+◌, length, ap, sym, ◌∙◌, subst, arith}
+use Rattle.sb_journal.specs.Text.{with_payload}
 use Rattle.sb_journal.specs.Settled.{Rests}
 use Rattle.sb_journal.proofs.Adding.{rests_read, rests_leave}
 use Rattle.sb_journal.proofs.journal.Journal.append.Goals as goal
