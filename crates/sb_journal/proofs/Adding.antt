@@ -1,11 +1,11 @@
 -- The four disk calls of an append, one after another.
-use Rattle.std.proofs.Common.{◌≡◌, ◌≢◌, inl, inr, ℕ, ◌+◌, ◌^◌, ◌≤◌, List, [], ◌∷◌, ◌++◌, length, get_or, take, drop, sym, ◌∙◌, ap, subst, arith, append_assoc, length-append}
+use Rattle.std.proofs.Common.{◌≡◌, ◌⊎◌, inl, inr, ℕ, ◌+◌, ◌^◌, ◌≤◌, List, [], ◌∷◌, ◌++◌, length, get_or, take, drop, sym, ◌∙◌, ap, subst, arith, append_assoc, length-append}
 use Rattle.std.proofs.lemmas.List.{take_at}
 use Rattle.std.proofs.lemmas.Bool.{cases_eq}
 use Rattle.sb_outside.specs.Held.{Held, IsImage, Moves, MayMove, overwritten, touched, at_rest}
 use Rattle.sb_journal.specs.Text.{File, max_payload, framed, file_text, with_payload, IsWithin}
 use Rattle.sb_journal.specs.Framing.{Whole, framing}
-use Rattle.sb_journal.specs.Settled.{Rests, IsBeforeOrAfter}
+use Rattle.sb_journal.specs.Settled.{Rests, IsBeforeOrAfter, IsTornAppend}
 use Rattle.sb_journal.specs.Moments.{EachMoment}
 use Rattle.sb_journal.proofs.Moments.{started, goes_on, stays, may_go_on}
 use Rattle.sb_journal.proofs.Frames.{length-records}
@@ -20,6 +20,17 @@ pub rests_leave : (h : Held) (end next : ℕ) (f : File) → Rests h end next f 
 rests_leave h end next f rests image left =
     ap framing (rest_image (file_text f ++ 0 ∷ rests.tail) image (subst (λ k. IsImage k image) rests.held_is left)) ∙ reads_closed f 0 rests.tail rests.within (omega arith)
 
+-- what a crash during an append left is read as the file before it or after
+pub torn_read : (f : File) (p bytes : List ℕ) → IsTornAppend f p bytes → IsBeforeOrAfter f p bytes
+torn_read f p bytes t = torn_as t.stands
+  where
+    torn_as : ((tail : List ℕ) × (bytes ≡ file_text f ++ 0 ∷ tail)) ⊎ ((gate : ℕ) × (tail : List ℕ) × (bytes ≡ file_text f ++ gate ∷ (framed (f.first + length f.payloads) p ++ 0 ∷ tail))) → IsBeforeOrAfter f p bytes
+    torn_as (inl shut) = inl (ap framing shut.1 ∙ reads_closed f 0 shut.0 t.within (omega arith))
+    torn_as (inr whole) = elim (cases_eq whole.0 1) [
+      | inl opened ↦ inr (ap framing (whole.2 ∙ ap (λ g. file_text f ++ g ∷ (framed (f.first + length f.payloads) p ++ 0 ∷ whole.1)) opened ∙ sym (file_text-push f p (0 ∷ whole.1))) ∙ reads_closed (with_payload f p) 0 whole.1 t.within_after (omega arith))
+      | inr shut ↦ inl (ap framing whole.2 ∙ reads_closed f whole.0 (framed (f.first + length f.payloads) p ++ 0 ∷ whole.1) t.within shut)
+    ]
+
 -- what an append begins with
 pub record Begins (file : File) (payload : List ℕ) (end next : ℕ) (h0 : Held) : Type 0 where
   pub rests : Rests h0 end next file
@@ -28,7 +39,7 @@ pub record Begins (file : File) (payload : List ℕ) (end next : ℕ) (h0 : Held
 
 module _ (file : File) (payload : List ℕ) (end next : ℕ) (p0 : List Held) (h0 : Held) (b : Begins file payload end next h0) where
   abbrev P : List ℕ → Type 0
-  P = IsBeforeOrAfter file payload
+  P = IsTornAppend file payload
 
   abbrev pub Frame : List ℕ
   Frame = framed next payload ++ 0 ∷ []
@@ -61,11 +72,15 @@ module _ (file : File) (payload : List ℕ) (end next : ℕ) (p0 : List Held) (h
       let end_is = b.rests.end_is in
       IsWithin-push file payload b.rests.within b.short (omega (arith, b.small, length-file_text file, length-records file.payloads file.first))
 
-  closed : (gate : ℕ) (tail image : List ℕ) → gate ≢ 1 → image ≡ Text ++ gate ∷ tail → P image
-  closed gate tail image shut is = inl (ap framing is ∙ reads_closed file gate tail b.rests.within shut)
+  closed : (tail image : List ℕ) → image ≡ Text ++ 0 ∷ tail → P image
+  closed tail image is = record { within = b.rests.within; within_after = within_after; stands = inl (tail, is) }
 
-  counted : (image : List ℕ) → image ≡ Text ++ 1 ∷ (Frame ++ Rest) → P image
-  counted image is = inr (ap framing (is ∙ opened_is) ∙ reads_closed (with_payload file payload) 0 Rest within_after (omega arith))
+  gated : (gate : ℕ) (image : List ℕ) → image ≡ Text ++ gate ∷ (Frame ++ Rest) → P image
+  gated gate image is = record {
+    within = b.rests.within;
+    within_after = within_after;
+    stands = inr (gate, Rest, is ∙ ap (λ (l : List ℕ). Text ++ gate ∷ l) (append_assoc (framed next payload) (0 ∷ []) Rest) ∙ ap (λ n. Text ++ gate ∷ (framed n payload ++ 0 ∷ Rest)) b.rests.next_is);
+  }
 
   -- the closed gate stands while the record is written behind it
   behind : (n : ℕ) (seen image : List ℕ) → IsImage (touched h0 (end + 1) n seen) image → P image
@@ -74,13 +89,13 @@ module _ (file : File) (payload : List ℕ) (end next : ℕ) (p0 : List Held) (h
       let end_is = b.rests.end_is in
       let lengths : length (Text ++ 0 ∷ []) ≡ end + 1 = omega (arith, length-append Text (0 ∷ [])) in
       let front : take (end + 1) Old ≡ Text ++ 0 ∷ [] = ap (λ (l : List ℕ). take (end + 1) l) (sym (append_assoc Text (0 ∷ []) b.rests.tail)) ∙ take_at (Text ++ 0 ∷ []) b.rests.tail (end + 1) lengths in
-      closed 0 (drop (end + 1) image) image (omega arith) (
+      closed (drop (end + 1) image) image (
       front_stays Old image (end + 1) n seen (omega (arith, end_is, length-append Text (0 ∷ b.rests.tail))) at
       ∙ ap (λ (l : List ℕ). l ++ drop (end + 1) image) front
       ∙ append_assoc Text (0 ∷ []) (drop (end + 1) image))
 
   at_start : EachMoment p0 p0 h0 P
-  at_start = started p0 h0 P (λ image left. closed 0 b.rests.tail image (omega arith) (rest_image Old image (subst (λ h. IsImage h image) was left)))
+  at_start = started p0 h0 P (λ image left. closed b.rests.tail image (rest_image Old image (subst (λ h. IsImage h image) was left)))
 
   pub failed_1 : (p1 : List Held) (h1 : Held) (n : ℕ) → MayMove p0 h0 p1 h1 (touched h0 (end + 1) n) → EachMoment p0 p1 h1 P
   failed_1 p1 h1 n moved = may_go_on p0 p0 p1 h0 h1 (touched h0 (end + 1) n) P at_start moved (behind n)
@@ -102,17 +117,14 @@ module _ (file : File) (payload : List ℕ) (end next : ℕ) (p0 : List Held) (h
       at_2 = synced.now_is ∙ ap at_rest seen_1
 
       done_2 : EachMoment p0 p2 h2 P
-      done_2 = goes_on p0 p1 p2 h1 h2 _ P done_1 synced (λ image left. closed 0 (Frame ++ Rest) image (omega arith) (rest_image Staged image (subst (λ s. IsImage (at_rest s) image) seen_1 left)))
+      done_2 = goes_on p0 p1 p2 h1 h2 _ P done_1 synced (λ image left. closed (Frame ++ Rest) image (rest_image Staged image (subst (λ s. IsImage (at_rest s) image) seen_1 left)))
 
       -- the record counts or it doesn't, whatever stands at its gate
       opening : (seen image : List ℕ) → IsImage (touched h2 end 1 seen) image → P image
       opening seen image left =
           let at : IsImage (touched (at_rest Staged) (length Text) 1 seen) image = subst (λ n. IsImage (touched (at_rest Staged) n 1 seen) image) b.rests.end_is (subst (λ h. IsImage (touched h end 1 seen) image) at_2 left) in
           let is = one_place Text (Frame ++ Rest) 0 seen image at in
-          elim (cases_eq (get_or image (length Text) 0) 1) [
-            | inl opened ↦ counted image (is ∙ ap (λ g. Text ++ g ∷ (Frame ++ Rest)) opened)
-            | inr shut ↦ closed (get_or image (length Text) 0) (Frame ++ Rest) image shut is
-          ]
+          gated (get_or image (length Text) 0) image is
 
       pub failed_3 : (p3 : List Held) (h3 : Held) → MayMove p2 h2 p3 h3 (touched h2 end 1) → EachMoment p0 p3 h3 P
       failed_3 p3 h3 moved = may_go_on p0 p2 p3 h2 h3 (touched h2 end 1) P done_2 moved opening
@@ -131,7 +143,7 @@ module _ (file : File) (payload : List ℕ) (end next : ℕ) (p0 : List Held) (h
               ∙ written_at Text (Frame ++ Rest) 0 1 end b.rests.end_is
 
           pub done_4 : EachMoment p0 p4 h4 P
-          done_4 = goes_on p0 p3 p4 h3 h4 _ P done_3 kept (λ image left. counted image (rest_image (Text ++ 1 ∷ (Frame ++ Rest)) image (subst (λ s. IsImage (at_rest s) image) seen_3 left)))
+          done_4 = goes_on p0 p3 p4 h3 h4 _ P done_3 kept (λ image left. gated 1 image (rest_image (Text ++ 1 ∷ (Frame ++ Rest)) image (subst (λ s. IsImage (at_rest s) image) seen_3 left)))
 
           pub rests_4 : Rests h4 (end + length Frame) (next + 1) (with_payload file payload)
           rests_4 = record {

@@ -1,7 +1,7 @@
 -- What a crash leaves while a file's end gate is closed, and during an opening.
 use Rattle.std.proofs.Common.{◌≡◌, ◌⊎◌, inl, inr, ℕ, ◌+◌, ◌<◌, List, [], ◌∷◌, ◌++◌, length, get_or, take, drop, false, sym, ◌∙◌, ap, subst, arith, append_assoc, length-append}
 use Rattle.std.specs.Prelude.{nat_lt, ◌&&◌, ◌==◌, slice_index}
-use Rattle.std.proofs.lemmas.List.{take_at, get_or_at}
+use Rattle.std.proofs.lemmas.List.{take_at, drop_at, get_or_at}
 use Rattle.std.proofs.lemmas.Bool.Decides.{nat_tests}
 use Rattle.sb_outside.specs.Held.{Held, IsImage, Moves, MayMove, overwritten, touched, at_rest}
 use Rattle.sb_journal.specs.Text.{File, new_file, file_text}
@@ -10,7 +10,7 @@ use Rattle.sb_journal.specs.Laws.{Spells}
 use Rattle.sb_journal.specs.Settled.{IsOldNoneOrNew, IsTornEnd, MayLeave}
 use Rattle.sb_journal.specs.Moments.{EachMoment, FromSync}
 use Rattle.sb_journal.proofs.Moments.{started, goes_on, stays, may_go_on, weaker_moments}
-use Rattle.sb_journal.proofs.Images.{rest_image, front_stays}
+use Rattle.sb_journal.proofs.Images.{rest_image, front_stays, one_place}
 
 module _ (f : File) (bytes : List ℕ) (end : ℕ) (spells : Spells f bytes) (end_is : end ≡ length (file_text f)) (p0 : List Held) (h0 : Held) (at : h0 ≡ at_rest bytes) where
   abbrev P : List ℕ → Type 0
@@ -29,14 +29,24 @@ module _ (f : File) (bytes : List ℕ) (end : ℕ) (spells : Spells f bytes) (en
         let zero : slice_index bytes end ≡ 0 = ap (λ (l : List ℕ). get_or l end 0) is ∙ get_or_at (file_text f) 0 tail 0 end (sym end_is) in
         grind (arith, nat_tests)
 
-    leaves : (rest image : List ℕ) → image ≡ file_text f ++ rest → P image
-    leaves rest image is = inr (record { rest = rest; is = is; torn = torn })
+    abbrev Behind : List ℕ → Type 0
+    Behind = λ image. (was : ℕ) (tail : List ℕ) → bytes ≡ file_text f ++ was ∷ tail → (gate : ℕ) × (image ≡ file_text f ++ gate ∷ tail)
+
+    leaves : (rest image : List ℕ) → image ≡ file_text f ++ rest → Behind image → P image
+    leaves rest image is behind = inr (record { rest = rest; is = is; torn = torn; behind = behind })
+
+    one_byte : (seen image : List ℕ) → IsImage (touched (at_rest bytes) end 1 seen) image → Behind image
+    one_byte seen image left was tail is =
+        let n_is : IsImage (touched (at_rest bytes) (length (file_text f)) 1 seen) image = subst (λ n. IsImage (touched (at_rest bytes) n 1 seen) image) end_is left in
+        let at_gate : IsImage (touched (at_rest (file_text f ++ was ∷ tail)) (length (file_text f)) 1 seen) image = subst (λ (l : List ℕ). IsImage (touched (at_rest l) (length (file_text f)) 1 seen) image) is n_is in
+        (get_or image (length (file_text f)) 0, one_place (file_text f) tail was seen image at_gate)
 
     writes : (seen image : List ℕ) → IsImage (touched h0 end 1 seen) image → P image
     writes seen image left =
+        let here : IsImage (touched (at_rest bytes) end 1 seen) image = subst (λ h. IsImage (touched h end 1 seen) image) at left in
         leaves (drop end image) image (
-        front_stays bytes image end 1 seen (omega (arith, end_is, ap length spells.is, length-append (file_text f) spells.rest)) (subst (λ h. IsImage (touched h end 1 seen) image) at left)
-        ∙ ap (λ (l : List ℕ). l ++ drop end image) front)
+        front_stays bytes image end 1 seen (omega (arith, end_is, ap length spells.is, length-append (file_text f) spells.rest)) here
+        ∙ ap (λ (l : List ℕ). l ++ drop end image) front) (one_byte seen image here)
 
     pub end_fails : (p1 : List Held) (h1 : Held) → MayMove p0 h0 p1 h1 (touched h0 end 1) → EachMoment p0 p1 h1 P
     end_fails p1 h1 moved = may_go_on p0 p0 p1 h0 h1 (touched h0 end 1) P end_starts moved writes
@@ -55,7 +65,15 @@ module _ (f : File) (bytes : List ℕ) (end : ℕ) (spells : Spells f bytes) (en
           ∙ ap (λ h. overwritten h.seen end (0 ∷ [])) at
           ∙ ap (λ (l : List ℕ). l ++ (0 ∷ []) ++ drop (end + 1) bytes) front
           ∙ append_assoc (file_text f) (0 ∷ []) (drop (end + 1) bytes) in
-          goes_on p0 p1 p2 h1 h2 _ P end_written synced (λ image left. leaves (0 ∷ drop (end + 1) bytes) image (rest_image h1.seen image left ∙ seen))
+          let behind : (image : List ℕ) → image ≡ h1.seen → Behind image = λ image same was tail is. (0, same ∙ seen ∙ ap (λ (l : List ℕ). file_text f ++ 0 ∷ l) (gone was tail is)) in
+          goes_on p0 p1 p2 h1 h2 _ P end_written synced (λ image left.
+          let same = rest_image h1.seen image left in
+          leaves (0 ∷ drop (end + 1) bytes) image (same ∙ seen) (behind image same))
+        where
+          gone : (was : ℕ) (tail : List ℕ) → bytes ≡ file_text f ++ was ∷ tail → drop (end + 1) bytes ≡ tail
+          gone was tail is =
+              ap (λ (l : List ℕ). drop (end + 1) l) (is ∙ sym (append_assoc (file_text f) (was ∷ []) tail))
+              ∙ drop_at (file_text f ++ was ∷ []) tail (end + 1) (omega (arith, end_is, length-append (file_text f) (was ∷ [])))
 
 pub unchanged : (salt : ℕ) (seen : List ℕ) (r : Framing) (image : List ℕ) → image ≡ seen → MayLeave salt seen r image
 unchanged salt seen Uncreated image is = inl is

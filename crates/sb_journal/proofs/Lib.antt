@@ -3,6 +3,7 @@ pub mod Ending
 pub mod Frames
 pub mod Heads
 pub mod Images
+pub mod Kept
 pub mod Making
 pub mod Moments
 pub mod Onward

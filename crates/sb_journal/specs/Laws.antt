@@ -1,6 +1,7 @@
 -- Reading and writing files belong together, and what a whole file's bytes are.
 use Rattle.std.specs.Prelude.{◌≡◌, ◌≢◌, ◌≤◌, ◌^◌, ℕ, List, [], ◌∷◌, ◌++◌, length}
 use Rattle.sb_journal.specs.Text.{File, new_file, file_text, IsWithin, Ends, AreBytes}
+use Rattle.sb_journal.specs.Settled.{IsBeforeOrAfter, IsTornAppend, MayLeave}
 use Rattle.sb_journal.specs.Framing.{Whole, framing}
 
 -- a file is read back as itself: whatever stands behind a closed end gate
@@ -30,3 +31,11 @@ NewFileBytes = file_text (new_file 11651590505119483672 1 1 []) ++ 0 ∷ []
     ∷ 0 ∷ 0 ∷ 0 ∷ 0 ∷ 0 ∷ 0 ∷ 0 ∷ 1
     ∷ 0 ∷ 0 ∷ 0 ∷ 0 ∷ 0 ∷ 0 ∷ 0 ∷ 0
     ∷ 0 ∷ []
+
+-- what a crash during an append left is the file with the record or without it
+abbrev pub TornIsBeforeOrAfter : Type 0
+TornIsBeforeOrAfter = (file : File) (payload bytes : List ℕ) → IsTornAppend file payload bytes → IsBeforeOrAfter file payload bytes
+
+-- and stays so through crashes during openings, however many
+abbrev pub TornIsKept : Type 0
+TornIsKept = (salt : ℕ) (file : File) (payload seen bytes : List ℕ) → IsTornAppend file payload seen → MayLeave salt seen (framing seen) bytes → IsTornAppend file payload bytes

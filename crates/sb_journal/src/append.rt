@@ -2,7 +2,7 @@
 ghost use Rattle.std.specs.Prelude.{◌≡◌, ◌≤◌, ◌+◌, ◌++◌, [], ◌∷◌, ◌^◌, List, ℕ, IsTrue, length, vec_capacity, OnOk};
 ghost use Rattle.sb_outside.specs.Causes.{HasCause};
 ghost use Rattle.sb_journal.specs.Text.{File, framed, max_payload, with_payload};
-ghost use Rattle.sb_journal.specs.Settled.{Rests, IsBeforeOrAfter};
+ghost use Rattle.sb_journal.specs.Settled.{Rests, IsTornAppend};
 ghost use Rattle.sb_journal.specs.Moments.{EachMoment};
 
 use sb_outside::{Disk, DiskFault};
@@ -39,7 +39,7 @@ pub(crate) fn append_frame<D: Disk>(disk: &mut D, end: u64, frame: &[u8]) -> Res
     // A crash at any moment of the call leaves the file from before it, or the one with the new record.
     ensures any_moment { (file : File) (payload : List ℕ) (next : ℕ) → IsTrue (D.honest disk.old) → Rests (D.held disk.old) end next file
         → frame.now ≡ framed next payload ++ 0 ∷ [] → length payload ≤ max_payload
-        → EachMoment (D.past disk.old) (D.past disk.new) (D.held disk.new) (IsBeforeOrAfter file payload) }
+        → EachMoment (D.past disk.old) (D.past disk.new) (D.held disk.new) (IsTornAppend file payload) }
     ensures cause { HasCause (D.count disk.old) (D.count disk.new) result }
 {
     disk.write_at(end + 1, frame)?;

@@ -35,7 +35,7 @@ impl<D: Disk> Journal<D> {
     ghost use Rattle.sb_journal.specs.declared.found.Side.{Side};
     ghost use Rattle.sb_journal.specs.declared.found.Side.TheVariants.{A};
     ghost use Rattle.sb_journal.specs.Opened.{Stands, Damage, opened, found_file, stand_file};
-    ghost use Rattle.sb_journal.specs.Settled.{Rests, IsBeforeOrAfter, MayLeave};
+    ghost use Rattle.sb_journal.specs.Settled.{Rests, IsBeforeOrAfter, IsTornAppend, MayLeave};
     ghost use Rattle.sb_journal.specs.Moments.{EachMoment, FromSync};
     ghost use Rattle.sb_journal.specs.Journals.{journal_disk_a, journal_disk_b, has_failed, fault_count, IsSettled};
 
@@ -95,6 +95,10 @@ impl<D: Disk> Journal<D> {
         // A crash at any moment of the call leaves the file from before it, or the one with the new record.
         ensures any_moment { (file : File) → IsSettled self.old file
             → EachMoment (D.past (journal_disk_a self.old)) (D.past (journal_disk_a self.new)) (D.held (journal_disk_a self.new)) (IsBeforeOrAfter file payload.now) }
+
+        // The same, said of the bytes: so that it stays through crashes during later openings.
+        ensures torn { (file : File) → IsSettled self.old file
+            → EachMoment (D.past (journal_disk_a self.old)) (D.past (journal_disk_a self.new)) (D.held (journal_disk_a self.new)) (IsTornAppend file payload.now) }
         ensures honesty { D.honest (journal_disk_a self.new) ≡ D.honest (journal_disk_a self.old) }
         ensures cause { HasCause (D.count (journal_disk_a self.old)) (D.count (journal_disk_a self.new)) result }
         ensures disk_b { journal_disk_b self.new ≡ journal_disk_b self.old }

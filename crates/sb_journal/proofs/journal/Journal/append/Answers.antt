@@ -1,16 +1,27 @@
 use Rattle.std.proofs.Common.{◌≡◌, ◌+◌, length, ap, sym, ◌∙◌, subst, arith}
 use Rattle.sb_journal.specs.Text.{with_payload}
-use Rattle.sb_journal.specs.Settled.{Rests}
-use Rattle.sb_journal.proofs.Adding.{rests_read, rests_leave}
+use Rattle.sb_journal.specs.Settled.{Rests, IsTornAppend}
+use Rattle.sb_journal.proofs.Moments.{weaker_moments}
+use Rattle.sb_journal.proofs.Adding.{torn_read, rests_read, rests_leave}
 use Rattle.sb_journal.proofs.journal.Journal.append.Goals as goal
+
+pub returns-in_default-clause-torn : goal.returns-in_default-clause-torn
+returns-in_default-clause-torn g c file settled =
+    c.append_frame.ensures.any_moment file c.args.payload.now c.args.self.now.next settled.honest settled.rests (c.deref.ensures.value ∙ c.frame_in.ensures.items) c.requires
+
+pub returns-clause-torn : goal.returns-clause-torn
+returns-clause-torn g c file settled =
+    c.append_frame.ensures.any_moment file c.args.payload.now c.args.self.now.next settled.honest settled.rests (c.deref.ensures.value ∙ c.frame_in.ensures.items) c.requires
 
 pub returns-in_default-clause-any_moment : goal.returns-in_default-clause-any_moment
 returns-in_default-clause-any_moment g c file settled =
-    c.append_frame.ensures.any_moment file c.args.payload.now c.args.self.now.next settled.honest settled.rests (c.deref.ensures.value ∙ c.frame_in.ensures.items) c.requires
+    weaker_moments _ _ _ (IsTornAppend file c.args.payload.now) _ (λ image left. torn_read file c.args.payload.now image left) (
+    c.append_frame.ensures.any_moment file c.args.payload.now c.args.self.now.next settled.honest settled.rests (c.deref.ensures.value ∙ c.frame_in.ensures.items) c.requires)
 
 pub returns-clause-any_moment : goal.returns-clause-any_moment
 returns-clause-any_moment g c file settled =
-    c.append_frame.ensures.any_moment file c.args.payload.now c.args.self.now.next settled.honest settled.rests (c.deref.ensures.value ∙ c.frame_in.ensures.items) c.requires
+    weaker_moments _ _ _ (IsTornAppend file c.args.payload.now) _ (λ image left. torn_read file c.args.payload.now image left) (
+    c.append_frame.ensures.any_moment file c.args.payload.now c.args.self.now.next settled.honest settled.rests (c.deref.ensures.value ∙ c.frame_in.ensures.items) c.requires)
 
 pub returns-clause-ok : goal.returns-clause-ok
 returns-clause-ok g c file settled =
