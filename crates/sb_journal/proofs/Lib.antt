@@ -1,0 +1,13 @@
+pub mod Adding
+pub mod Ending
+pub mod Frames
+pub mod Heads
+pub mod Images
+pub mod Kept
+pub mod Making
+pub mod Moments
+pub mod Onward
+pub mod Parts
+pub mod Scan
+pub mod Shut
+pub mod Wholes

@@ -1,0 +1,18 @@
+use Rattle.std.proofs.Common.{◌≡◌, ◌<◌, ◌^◌, ℕ, List, [], length, sym, ap, subst, arith}
+use Rattle.sb_journal.specs.Text.{File, new_file}
+use Rattle.sb_journal.specs.Settled.{Rests}
+use Rattle.sb_journal.proofs.Heads.{length-file_text, new_rests}
+use Rattle.sb_journal.proofs.opening.new_stand.Goals as goal
+
+pub returns-clause-stand : goal.returns-clause-stand
+returns-clause-stand g c = record {
+  end_is = omega (arith, length-file_text (record { salt = c.args.salt; generation = 1; first = 1; base = []; payloads = c.new.result.items }), ap length c.new.ensures.items, ap (λ (ps : List (List ℕ)). length (Rattle.sb_journal.specs.Text.records 1 ps)) c.new.ensures.items);
+  next_is = omega (arith, ap length c.new.ensures.items);
+  next_fits = omega arith;
+}
+
+pub returns-clause-ok : goal.returns-clause-ok
+returns-clause-ok g c honest =
+    let same : new_file c.args.salt 1 1 [] ≡ record { salt = c.args.salt; generation = 1; first = 1; base = []; payloads = c.new.result.items } = ap (λ (ps : List (List ℕ)). record { salt = c.args.salt; generation = 1; first = 1; base = []; payloads = ps }) (sym c.new.ensures.items) in
+    let fits : c.args.salt < 2 ^ 64 = omega arith in
+    subst (Rests (g.D.Disk.held c.make_file.new.disk) 42 1) same (new_rests _ c.args.salt 1 1 fits (omega arith) (omega arith) (omega arith) (omega arith) (c.in-Ok.ensures.ok honest))

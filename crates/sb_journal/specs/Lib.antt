@@ -1,0 +1,7 @@
+pub mod Framing
+pub mod Journals
+pub mod Laws
+pub mod Moments
+pub mod Opened
+pub mod Settled
+pub mod Text

@@ -1,0 +1,52 @@
+-- What two disks stand for, and what an opening says of it.
+use Rattle.std.specs.Prelude.{◌≡◌, ◌≤◌, ◌+◌, ◌^◌, ℕ, List, [], length}
+use Rattle.sb_journal.specs.declared.found.Side.{Side}
+use Rattle.sb_journal.specs.declared.found.Side.TheVariants.{A}
+use Rattle.sb_journal.specs.declared.found.Found.{Found}
+use Rattle.sb_journal.specs.declared.reading.Stand.{Stand}
+use Rattle.sb_journal.specs.declared.reading.Reading.{Reading}
+use Rattle.sb_journal.specs.declared.reading.Reading.TheVariants.{NoFile, AFile, BadFile}
+use Rattle.sb_journal.specs.Text.{File, new_file, file_text}
+use Rattle.sb_journal.specs.Laws.{Spells}
+use Rattle.sb_journal.specs.Framing.{Framing, Uncreated, Whole, Damaged, framing}
+
+pub data Opened : Type 0 where
+  -- this disk's file counts
+  Stands : Side → File → Opened
+  -- this disk's file can't be read, from this place on
+  Damage : Side → ℕ → Opened
+
+-- what the file on disk a says; where none was made, a new one counts
+abbrev pub opened_alone : ℕ → Framing → Opened
+opened_alone salt Uncreated = Stands A (new_file salt 1 1 [])
+opened_alone salt (Whole file) = Stands A file
+opened_alone salt (Damaged place) = Damage A place
+
+-- Disk b doesn't count yet. The salt is that of a new file.
+abbrev pub opened : List ℕ → List ℕ → ℕ → Opened
+opened a b salt = opened_alone salt (framing a)
+
+-- the file that was found
+abbrev pub found_file : Found → File
+found_file found = record { salt = found.salt; generation = found.generation; first = found.first; base = found.base; payloads = found.payloads.items }
+
+abbrev pub stand_file : Stand → File
+stand_file s = record { salt = s.salt; generation = s.generation; first = s.first; base = []; payloads = s.payloads.items }
+
+-- where its end gate is, and which number comes next
+pub record IsStand (s : Stand) : Type 0 where
+  pub end_is : s.end ≡ length (file_text (stand_file s))
+  pub next_is : s.next ≡ s.first + length s.payloads.items
+  pub next_fits : s.next ≤ 2 ^ 62 + s.end
+
+pub record IsWholeStand (s : Stand) (bytes : List ℕ) : Type 0 where
+  pub whole : framing bytes ≡ Whole (stand_file s)
+  pub spells : length bytes ≤ 2 ^ 62 → Spells (stand_file s) bytes
+  pub stand : IsStand s
+  pub inside : s.end ≤ length bytes
+
+-- what was read is what the bytes stand for
+abbrev pub IsReading : Reading → List ℕ → Type 0
+IsReading NoFile bytes = framing bytes ≡ Uncreated
+IsReading (AFile s) bytes = IsWholeStand s bytes
+IsReading (BadFile place) bytes = framing bytes ≡ Damaged place

@@ -1,0 +1,52 @@
+-- When a disk has a whole file on it, and what a crash leaves while a record is added.
+use Rattle.std.specs.Prelude.{◌≡◌, ◌⊎◌, ◌+◌, ◌≤◌, ℕ, List, [], ◌∷◌, ◌++◌, length, slice_index, false}
+use Rattle.sb_outside.specs.Held.{Held, at_rest, is_written}
+use Rattle.sb_journal.specs.Text.{File, new_file, framed, file_text, with_payload, IsWithin}
+use Rattle.sb_journal.specs.Framing.{Framing, Uncreated, Whole, Damaged, framing}
+
+-- The file and its closed end gate are on the disk, all of it safe. Behind the gate may stand what is left of a torn
+-- record.
+pub record Rests (held : Held) (end next : ℕ) (file : File) : Type 0 where
+  pub tail : List ℕ
+  pub held_is : held ≡ at_rest (file_text file ++ 0 ∷ tail)
+  -- the place of the end gate
+  pub end_is : end ≡ length (file_text file)
+  -- the number of the next record
+  pub next_is : next ≡ file.first + length file.payloads
+  pub within : IsWithin file
+
+-- the bytes stand for the file, with one payload more or without it
+abbrev pub IsBeforeOrAfter : File → List ℕ → List ℕ → Type 0
+IsBeforeOrAfter file payload bytes = (framing bytes ≡ Whole file) ⊎ (framing bytes ≡ Whole (with_payload file payload))
+
+-- What a crash during an append may leave: the file and a closed gate, or the file, any gate, and behind it the whole
+-- record and a closed gate.
+pub record IsTornAppend (file : File) (payload bytes : List ℕ) : Type 0 where
+  pub within : IsWithin file
+  pub within_after : IsWithin (with_payload file payload)
+  pub stands : ((tail : List ℕ) × (bytes ≡ file_text file ++ 0 ∷ tail)) ⊎ ((gate : ℕ) × (tail : List ℕ) × (bytes ≡ file_text file ++ gate ∷ (framed (file.first + length file.payloads) payload ++ 0 ∷ tail)))
+
+-- a file is being made in the place of these bytes: they stand unchanged, or no file counts, or the new one does
+abbrev pub IsOldNoneOrNew : List ℕ → File → List ℕ → Type 0
+IsOldNoneOrNew old file bytes = (bytes ≡ old) ⊎ ((framing bytes ≡ Uncreated) ⊎ (framing bytes ≡ Whole file))
+
+-- the file's gate is closed in each image of this disk
+pub record IsShut (held : Held) : Type 0 where
+  pub some : 1 ≤ held.least
+  pub kept : 1 ≤ length held.synced
+  pub gate : slice_index held.synced 0 ≡ 0
+  pub free : is_written 0 held.ranges ≡ false
+
+-- The file's end gate was missing, or neither open nor closed: any bytes may stand from there on.
+pub record IsTornEnd (file : File) (seen bytes : List ℕ) : Type 0 where
+  pub rest : List ℕ
+  pub is : bytes ≡ file_text file ++ rest
+  pub torn : (tail : List ℕ) → seen ≡ file_text file ++ 0 ∷ tail → ⊥
+  -- where there was one, its byte alone may be another
+  pub behind : (was : ℕ) (tail : List ℕ) → seen ≡ file_text file ++ was ∷ tail → (gate : ℕ) × (bytes ≡ file_text file ++ gate ∷ tail)
+
+-- What a crash during an opening may leave of the bytes that it found.
+abbrev pub MayLeave : ℕ → List ℕ → Framing → List ℕ → Type 0
+MayLeave salt seen Uncreated bytes = IsOldNoneOrNew seen (new_file salt 1 1 []) bytes
+MayLeave salt seen (Whole file) bytes = (bytes ≡ seen) ⊎ IsTornEnd file seen bytes
+MayLeave salt seen (Damaged place) bytes = bytes ≡ seen

@@ -1,0 +1,26 @@
+// What holds of the file format itself. Each law is the contract of a function that does nothing.
+ghost use Rattle.sb_journal.specs.Laws.{ReadsBack, ReadsBackCut, SpellsOnly, NewFileBytes, TornIsBeforeOrAfter, TornIsKept};
+
+/// A whole file is read back as itself, whatever stands behind its closed end gate, and also where
+/// the end gate is missing behind a record.
+pub fn reads_back()
+    ensures closed { ReadsBack }
+    ensures cut { ReadsBackCut }
+{}
+
+/// Only a file's own bytes are read as that file.
+pub fn spells_only()
+    ensures { SpellsOnly }
+{}
+
+/// The bytes of a new file.
+pub fn new_file_bytes()
+    ensures { NewFileBytes }
+{}
+
+/// What a crash during an append left is the file with the record or without it, and stays so
+/// through crashes during openings, however many.
+pub fn recovers_from_torn_appends()
+    ensures reads { TornIsBeforeOrAfter }
+    ensures kept { TornIsKept }
+{}

@@ -1,0 +1,31 @@
+//! A journal on a disk: payloads, each safe on the disk before it is acknowledged.
+//!
+//! It stands on `sb_outside::Disk` alone. A journal file has a head (magic, version, salt,
+//! generation, first event number, base) and then records, each behind a gate byte; the file ends
+//! at the first gate that isn't open. A record is written behind its closed gate and made safe, and
+//! then the gate is opened and made safe: so a crash at any moment leaves the file with the record
+//! or without it. That is what `append` says; `open` says that it reads exactly what the bytes
+//! stand for, and names the place of damage where they can't be read.
+//!
+//! ```text
+//! let (mut journal, found) = Journal::open(alloc, disk_a, disk_b, salt)?;
+//! let number = journal.append(b"an event")?;
+//! let (disk_a, disk_b) = journal.close();
+//! ```
+#![tactic(auto)]
+
+mod append;
+mod bytes;
+mod creating;
+mod found;
+mod journal;
+pub mod laws;
+mod opening;
+mod reading;
+#[cfg(test)]
+mod tests;
+
+pub use bytes::Bytes;
+pub use creating::create;
+pub use found::{Found, OpenFault, OpenWhy, Side};
+pub use journal::Journal;
