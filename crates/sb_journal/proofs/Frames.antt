@@ -5,7 +5,7 @@ use Rattle.std.specs.Int.{to_be_bytes, from_be_bytes}
 use Rattle.std.proofs.lemmas.Nat.{from_be_bytes-to_be_bytes_4, from_be_bytes-to_be_bytes_8}
 use Rattle.std.proofs.lemmas.List.{append-nil, take_at, drop_at}
 use Rattle.std.proofs.lemmas.Bool.Decides.{nat_tests}
-use Rattle.sb_journal.specs.Text.{max_payload, framed, records, AreShort, Ends}
+use Rattle.sb_journal.specs.Text.{max_payload, framed, records, gate_after, AreShort, Ends}
 use Rattle.sb_journal.specs.Framing.{with_first, payload_length, is_record, read}
 
 pub length-framed : (number : ℕ) (p : List ℕ) → length (framed number p) ≡ 12 + length p
@@ -117,3 +117,10 @@ AreShort-push (q ∷ ps) p short le = (short.0, AreShort-push ps p short.1 le)
 pub length-records : (ps : List (List ℕ)) (number : ℕ) → length ps ≤ length (records number ps)
 length-records [] number = omega arith
 length-records (p ∷ ps) number = omega (arith, length-records ps (number + 1), length-append (framed number p) (records (number + 1) ps))
+
+-- the records end where their gates say
+pub length-records_from : (ps : List (List ℕ)) (place number : ℕ) → place + length (records number ps) ≡ gate_after place ps
+length-records_from [] place number = omega arith
+length-records_from (p ∷ ps) place number =
+    let rest = length-records_from ps (place + (13 + length p)) (number + 1) in
+    omega (arith, rest, length-framed number p, length-append (framed number p) (records (number + 1) ps))

@@ -4,11 +4,11 @@ use Rattle.std.specs.Prelude.{Bool, if◌then◌else◌, Some, None, Ok}
 use Rattle.std.proofs.lemmas.Nat.{from_be_bytes-to_be_bytes_8}
 use Rattle.std.proofs.lemmas.List.{append-nil}
 use Rattle.std.proofs.lemmas.Bool.Decides.{nat_tests}
-use Rattle.sb_journal.specs.Text.{File, new_file, with_payload, max_payload, head, framed, records, file_text, IsWithin, Ends}
+use Rattle.sb_journal.specs.Text.{File, new_file, with_payload, max_payload, head, framed, records, file_text, gate_after, IsWithin, Ends}
 use Rattle.sb_journal.specs.Framing.{Whole, Uncreated, first_failing, is_created, number_at, is_count, head_fault, read, payloads_in, file_with, whole_or_damaged, sound_or_damaged, framing}
 use Rattle.sb_outside.specs.Held.{Held, at_rest}
 use Rattle.sb_journal.specs.Settled.{Rests}
-use Rattle.sb_journal.proofs.Frames.{read_ended, records-push, length-records, AreShort-push}
+use Rattle.sb_journal.proofs.Frames.{read_ended, records-push, length-records, length-records_from, AreShort-push}
 
 -- a file without a base
 abbrev plain : (salt generation first : ℕ) → List (List ℕ) → File
@@ -134,3 +134,7 @@ new_rests h salt generation first fits g_least g_greatest f_least f_greatest is 
   next_is = omega arith;
   within = record { salt = fits; generation_least = g_least; generation_greatest = g_greatest; first_least = f_least; first_greatest = f_greatest; no_base = refl; few = omega arith; short = tt };
 }
+
+-- the place of the end gate, by the records
+pub gate_after_file : (f : File) → f.base ≡ [] → length (file_text f) ≡ gate_after 42 f.payloads
+gate_after_file f none = omega (arith, length-file_text f, ap length none, length-records_from f.payloads 42 f.first)

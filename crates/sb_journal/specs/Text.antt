@@ -44,6 +44,11 @@ abbrev pub records : ℕ → List (List ℕ) → List ℕ
 records number [] = []
 records number (p ∷ ps) = 1 ∷ (framed number p ++ records (number + 1) ps)
 
+-- the place of the gate behind these records, from that of the first one's gate
+abbrev pub gate_after : ℕ → List (List ℕ) → ℕ
+gate_after place [] = place
+gate_after place (p ∷ ps) = gate_after (place + (13 + length p)) ps
+
 -- a whole file, up to its end gate
 unfoldable pub file_text : File → List ℕ
 file_text f = 1 ∷ (head f.salt f.generation f.first (length f.base) ++ (f.base ++ records f.first f.payloads))

@@ -2,7 +2,7 @@
 ghost use Rattle.std.specs.Prelude.{◌≡◌, ◌≤◌, ◌+◌, ◌^◌, List, ℕ, Bool, true, false, IsTrue, length, slice_index, [], vec_capacity, IfOk, IfErr, OnOk, OnErr};
 ghost use Rattle.std.specs.Result.{MatchResult};
 ghost use Rattle.sb_outside.specs.Causes.{HasCause, Rose};
-ghost use Rattle.sb_journal.specs.Text.{File, max_payload, with_payload};
+ghost use Rattle.sb_journal.specs.Text.{File, gate_after, max_payload, with_payload};
 ghost use Rattle.sb_journal.specs.Framing.{Uncreated, framing};
 
 use crate::append::{FRAME_BYTES, append_frame, frame_in};
@@ -53,6 +53,9 @@ impl<D: Disk> Journal<D> {
         ensures ok { IfOk result (λ x. IsTrue (D.honest disk_a)
             → (opened (D.held disk_a).seen (D.held disk_b).seen salt ≡ Stands x.1.disk (found_file x.1)) × IsSettled x.0 (found_file x.1)) }
         ensures running { IfOk result (λ x. has_failed x.0 ≡ false) }
+
+        // The gates of all records lie within the longest file.
+        ensures gates { IfOk result (λ x. ((found_file x.1).base ≡ []) × (gate_after 42 (found_file x.1).payloads ≤ 2 ^ 62)) }
         ensures faults { IfOk result (λ x. fault_count x.0 ≡ 0) }
         ensures damaged { IfErr result (λ e. IsTrue (D.honest disk_a) → (side : Side) (place : ℕ) → e.why ≡ OpenWhy.Damaged side place
             → (opened (D.held disk_a).seen (D.held disk_b).seen salt ≡ Damage side place) × ((D.held e.disk_a).seen ≡ (D.held disk_a).seen)) }

@@ -129,6 +129,7 @@ pub(crate) fn recover<D: Disk>(alloc: Global, disk: &mut D, salt: u64) -> Result
     ensures room { IsTrue (D.honest disk.old) → IfOk result (λ s. s.end + 1 ≤ (D.held disk.new).least) }
     ensures end_fits { IfOk result (λ s. s.end ≤ 2 ^ 62) }
     ensures next_fits { IfOk result (λ s. s.next ≤ 2 ^ 62 + s.end) }
+    ensures stand { IfOk result (λ s. IsStand s) }
     ensures damaged { IsTrue (D.honest disk.old) → IfErr result (λ e. (side : Side) (place : ℕ) → e ≡ OpenWhy.Damaged side place
         → (opened_alone salt (framing (D.held disk.old).seen) ≡ Damage side place) × ((D.held disk.new).seen ≡ (D.held disk.old).seen)) }
     ensures any_moment { IsTrue (D.honest disk.old) → (framing (D.held disk.old).seen ≡ Uncreated → slice_index (D.held disk.old).seen 0 ≤ 1)

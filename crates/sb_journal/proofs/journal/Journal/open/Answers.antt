@@ -1,4 +1,7 @@
-use Rattle.std.proofs.Common.{sym, subst}
+use Rattle.std.proofs.Common.{◌≡◌, ◌≤◌, arith, sym, subst, ap, refl}
+use Rattle.sb_journal.specs.Opened.{found_file, stand_file}
+use Rattle.sb_journal.specs.Text.{gate_after}
+use Rattle.sb_journal.proofs.Heads.{gate_after_file}
 use Rattle.sb_journal.specs.Framing.{framing}
 use Rattle.sb_journal.specs.Settled.{MayLeave}
 use Rattle.sb_journal.specs.Moments.{FromSync}
@@ -10,3 +13,10 @@ returns-in-Ok-recover-clause-any_moment g c honest ours =
     (λ (d : g.row.D.Denot). FromSync (g.D.Disk.past c.args.disk_a) (g.D.Disk.held c.args.disk_a) (g.D.Disk.past d) (g.D.Disk.held d) (MayLeave c.args.salt (g.D.Disk.held c.args.disk_a).seen (framing (g.D.Disk.held c.args.disk_a).seen)))
     (sym c.started.ensures.disk_a)
     (c.recover.ensures.any_moment honest ours)
+
+pub returns-in-Ok-recover-clause-gates : goal.returns-in-Ok-recover-clause-gates
+returns-in-Ok-recover-clause-gates g c =
+    let file = c.started.ensures.file in
+    let s = stand_file c.in-Ok-recover.stand in
+    let last = gate_after_file s refl in
+    (ap (λ f. f.base) file, omega (arith, ap (λ f. gate_after 42 f.payloads) file, last, c.in-Ok-recover.ensures.stand.end_is, c.in-Ok-recover.ensures.end_fits))
