@@ -1,0 +1,3 @@
+pub mod EventBytes
+pub mod Spelled
+pub mod Reading
