@@ -1,5 +1,5 @@
 -- The first field of a call that is outside its range, or that no call may set yet.
-use Rattle.std.specs.Prelude.{ℕ, List, [], ◌∷◌, length, Bool, true, false, nat_le, ◌==◌, ◌&&◌, not, if◌then◌else◌, codes, Option, Some, None, is_none}
+use Rattle.std.specs.Prelude.{ℕ, List, [], ◌∷◌, length, Bool, true, false, nat_le, ◌==◌, ◌&&◌, not, if◌then◌else◌, codes, Option, Some, None, is_none, is_some}
 use Rattle.sb_model.specs.declared.call.Description.{Description}
 use Rattle.sb_model.specs.declared.call.Mode.{Mode}
 use Rattle.sb_model.specs.declared.call.Mode.TheVariants.{Lock, Delete}
@@ -55,13 +55,20 @@ abbrev pub is_delete : Mode → Bool
 is_delete Lock = false
 is_delete Delete = true
 
+abbrev pub bad_in_send : List Message → Option ℕ → Option (List ℕ)
+bad_in_send messages txn = first_some (unless (nat_le (length messages) max_messages) (codes "messages")) (first_some (bad_in_messages messages) (unless (is_none txn) (codes "txn")))
+
+abbrev pub bad_in_receive : Mode → Bool → Option (List ℕ)
+bad_in_receive mode has_session = first_some (unless (is_delete mode) (codes "mode")) (unless (not has_session) (codes "session"))
+
+abbrev pub bad_in_peek : ℕ → ℕ → Option (List ℕ)
+bad_in_peek start count = first_some (unless (nat_le 1 start && nat_le start max_number) (codes "start")) (unless (nat_le 1 count && nat_le count max_peeked) (codes "count"))
+
 abbrev pub bad_in_act : Act → Option (List ℕ)
 bad_in_act (CreateQueue name description) = bad_in_description description
-bad_in_act (Send to messages txn) =
-    first_some (unless (nat_le (length messages) max_messages) (codes "messages")) (first_some (bad_in_messages messages) (unless (is_none txn) (codes "txn")))
-bad_in_act (Receive from mode session) = first_some (unless (is_delete mode) (codes "mode")) (unless (is_none session) (codes "session"))
-bad_in_act (Peek from start count) =
-    first_some (unless (nat_le 1 start && nat_le start max_number) (codes "start")) (unless (nat_le 1 count && nat_le count max_peeked) (codes "count"))
+bad_in_act (Send to messages txn) = bad_in_send messages txn
+bad_in_act (Receive from mode session) = bad_in_receive mode (is_some session)
+bad_in_act (Peek from start count) = bad_in_peek start count
 
 -- the first key at fault, the client's last
 abbrev pub bad_field : Call → Option (List ℕ)

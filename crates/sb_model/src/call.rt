@@ -12,7 +12,7 @@ pub enum Part {
 }
 
 /// An address: an entity, or a subscription of a topic, and a part of it.
-#[derive(Debug, Drop)]
+#[derive(Clone, Debug, Drop)]
 pub struct Path {
     pub name: Name,
     pub subscription: Option<Name>,
@@ -35,7 +35,7 @@ pub enum Mode {
 }
 
 /// What an entity is set to do. A field that its kind lacks holds its default.
-#[derive(Debug, Drop)]
+#[derive(Clone, Debug, Drop)]
 pub struct Description {
     /// How long a lock lives, in s: 1 to 300, by default 60.
     pub lock: u64,
@@ -55,7 +55,7 @@ pub struct Description {
 }
 
 /// What is asked of the namespace.
-#[derive(Debug, Drop)]
+#[derive(Clone, Debug, Drop)]
 pub enum Act {
     CreateQueue {
         name: Name,
@@ -82,28 +82,28 @@ pub enum Act {
 }
 
 /// Who asks, and the number that lets a repeated call act once.
-#[derive(Debug, Drop)]
+#[derive(Clone, Debug, Drop)]
 pub struct By {
     pub client: Text,
     pub number: u64,
 }
 
 /// One call of the namespace.
-#[derive(Debug, Drop)]
+#[derive(Clone, Debug, Drop)]
 pub struct Call {
     pub by: Option<By>,
     pub act: Act,
 }
 
 /// A call and the reading of the clock at which it is made, in ms since 1970.
-#[derive(Debug, Drop)]
+#[derive(Clone, Debug, Drop)]
 pub struct TimedCall {
     pub reading: u64,
     pub call: Call,
 }
 
 /// What a journal record says: time went on, or a call acted, at a moment in ms since 1970.
-#[derive(Debug, Drop)]
+#[derive(Clone, Debug, Drop)]
 pub enum Event {
     Tick { moment: u64 },
     Called { moment: u64, call: Call },

@@ -19,14 +19,14 @@ pub enum SystemName {
 }
 
 /// One system text; an empty one counts as absent and never stands here.
-#[derive(Debug, Drop)]
+#[derive(Clone, Debug, Drop)]
 pub struct SystemText {
     pub name: SystemName,
     pub text: Text,
 }
 
 /// What a user property holds.
-#[derive(Debug, Drop)]
+#[derive(Clone, Debug, Drop)]
 pub enum PropertyValue {
     Int(i64),
     Text(Text),
@@ -34,14 +34,14 @@ pub enum PropertyValue {
 }
 
 /// A user property: a folded name and its value.
-#[derive(Debug, Drop)]
+#[derive(Clone, Debug, Drop)]
 pub struct Property {
     pub name: Name,
     pub value: PropertyValue,
 }
 
 /// A message as it is sent.
-#[derive(Debug, Drop)]
+#[derive(Clone, Debug, Drop)]
 pub struct Message {
     /// At most 262,144 bytes where a send is accepted.
     pub body: Rows<u8>,

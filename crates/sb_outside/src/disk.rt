@@ -7,6 +7,9 @@ ghost use Rattle.sb_outside.specs.Held.{Held, IsImage, Moves, MayMove, touched, 
 #[derive(Clone, Copy, Debug, PartialEq, Eq)]
 pub struct DiskFault;
 
+/// The most bytes that a disk holds.
+pub const LONGEST_DISK: u64 = 1 << 62;
+
 /// One file of bytes that survives a crash. Places and lengths are in bytes.
 ///
 /// Between two syncs a crash may leave any bytes in each written range and past the last synced

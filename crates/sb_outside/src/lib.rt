@@ -4,6 +4,29 @@
 //! what a crash may leave), so that the layers above can speak of a crash at any moment.
 #![tactic(auto)]
 
+mod adapters;
+mod bytes;
+mod clock;
 mod disk;
+mod door;
+mod faults;
+mod images;
+mod link;
+mod memory;
+mod memory_streams;
+mod step_clock;
+mod streams;
+#[cfg(test)]
+mod tests;
 
-pub use disk::{Disk, DiskFault};
+pub use adapters::{FileDisk, Reading, SystemClock, Writing, open_disk, sync_folder};
+pub use bytes::Bytes;
+pub use clock::Clock;
+pub use disk::{Disk, DiskFault, LONGEST_DISK};
+pub use door::{Door, DoorFault, NoConn, NoDoor};
+pub use images::{cuts_keep_images, rest_has_one_image, writes_keep_images};
+pub use link::{Link, LinkFault, NoLink};
+pub use memory::MemDisk;
+pub use memory_streams::{MemSink, MemSource, SureSource};
+pub use step_clock::StepClock;
+pub use streams::{ReadFault, Sink, Source, WriteFault, write_all};

@@ -1,0 +1,3 @@
+pub mod Calls
+pub mod Gains
+pub mod Leaves

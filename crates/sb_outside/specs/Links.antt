@@ -1,0 +1,6 @@
+-- What a link has exchanged.
+use Rattle.std.specs.Prelude.{ℕ, List}
+
+pub record Exchange : Type 0 where
+  pub request : List ℕ
+  pub reply : List ℕ
