@@ -1,11 +1,10 @@
 -- The bytes of an event. Numbers are big-endian.
-use Rattle.std.specs.Prelude.{ℕ, ℤ, List, [], ◌∷◌, ◌++◌, length, Bool, true, false, Option, Some, None}
+use Rattle.std.specs.Prelude.{ℕ, List, [], ◌∷◌, ◌++◌, length, Bool, true, false, Option, Some, None}
 use Rattle.std.specs.List.{flat_map}
 use Rattle.std.specs.Int.{w32, w64, to_be_bytes, cast_unsigned}
 use Rattle.sb_model.specs.declared.call.Act.{Act}
 use Rattle.sb_model.specs.declared.call.Act.TheVariants.{CreateQueue, Send, Receive, Peek}
 use Rattle.sb_model.specs.declared.call.By.{By}
-use Rattle.sb_model.specs.declared.call.Call.{Call}
 use Rattle.sb_model.specs.declared.call.Description.{Description}
 use Rattle.sb_model.specs.declared.call.Event.{Event}
 use Rattle.sb_model.specs.declared.call.Event.TheVariants.{Tick, Called}

@@ -1,5 +1,5 @@
 -- Which events have a spelling.
-use Rattle.std.specs.Prelude.{◌≡◌, ◌<◌, ◌^◌, ℕ, ℤ, List, [], ◌∷◌, length, Bool, Option, Some, None, IfSome, FitsSigned}
+use Rattle.std.specs.Prelude.{◌≡◌, ◌<◌, ◌^◌, ℕ, List, [], ◌∷◌, length, IfSome, FitsSigned}
 use Rattle.std.specs.Str.{IsUtf8}
 use Rattle.std.specs.Int.{w64}
 use Rattle.std.specs.Cmp.Lexicographic.{slice_cmp}
@@ -10,7 +10,6 @@ use Rattle.sb_codec.specs.EventBytes.{system_code}
 use Rattle.sb_model.specs.declared.call.Act.{Act}
 use Rattle.sb_model.specs.declared.call.Act.TheVariants.{CreateQueue, Send, Receive, Peek}
 use Rattle.sb_model.specs.declared.call.By.{By}
-use Rattle.sb_model.specs.declared.call.Call.{Call}
 use Rattle.sb_model.specs.declared.call.Description.{Description}
 use Rattle.sb_model.specs.declared.call.Event.{Event}
 use Rattle.sb_model.specs.declared.call.Event.TheVariants.{Tick, Called}
@@ -40,10 +39,10 @@ pub record IsToken (t : Token) : Type 0 where
   pub salt : Is64 t.salt
   pub lock : Is64 t.lock
 
--- codes rise
+-- codes rise, and no text is empty
 abbrev pub AreSystemTexts : ℕ → List SystemText → Type 0
 AreSystemTexts above [] = Unit {0}
-AreSystemTexts above (s ∷ ss) = (above < system_code s.name) × IsText s.text × AreSystemTexts (system_code s.name) ss
+AreSystemTexts above (s ∷ ss) = (above < system_code s.name) × IsText s.text × (0 < length s.text) × AreSystemTexts (system_code s.name) ss
 
 abbrev pub IsValue : PropertyValue → Type 0
 IsValue (Int z) = FitsSigned w64 z
