@@ -1,5 +1,5 @@
 // From an event to its bytes.
-ghost use Rattle.std.specs.Prelude.{◌≡◌, ◌++◌, Some, OnOk};
+ghost use Rattle.std.specs.Prelude.{◌≡◌, ◌++◌, Some, OnOk, ◌+◌, ◌≤◌, ◌<◌, length, vec_len, vec_capacity, OnErr};
 ghost use Rattle.sb_codec.specs.EventBytes.{event_bytes, event_of};
 ghost use Rattle.sb_codec.specs.Spelled.{HasSpelling};
 ghost use Rattle.sb_codec.specs.Reading.{read_event};
@@ -11,7 +11,10 @@ use std::alloc::AllocError;
 
 fn put_event(event: &EventRef<'_>, out: &mut Vec<u8>) -> Result<(), AllocError>
     requires { HasSpelling (event_of event.now) }
-    ensures { OnOk result (out.new.items ≡ out.old.items ++ event_bytes (event_of event.now)) }
+    ensures ok { OnOk result (out.new.items ≡ out.old.items ++ event_bytes (event_of event.now)) }
+    ensures len { OnOk result (vec_len out.new ≡ vec_len out.old + length (event_bytes (event_of event.now))) }
+    ensures capacity { vec_capacity out.old ≤ vec_capacity out.new }
+    ensures full { OnErr result (vec_capacity out.old < vec_len out.old + length (event_bytes (event_of event.now))) }
 {
     match event {
         EventRef::Tick { moment } => {
@@ -33,6 +36,13 @@ fn put_event(event: &EventRef<'_>, out: &mut Vec<u8>) -> Result<(), AllocError>
 pub fn encode_event(event: &EventRef<'_>, out: &mut Vec<u8>) -> Result<(), AllocError>
     requires { HasSpelling (event_of event.now) }
     ensures ok { OnOk result (out.new.items ≡ out.old.items ++ event_bytes (event_of event.now)) }
+    ensures len { OnOk result (vec_len out.new ≡ vec_len out.old + length (event_bytes (event_of event.now))) }
+    ensures capacity { vec_capacity out.old ≤ vec_capacity out.new }
+
+    // Memory is wanting only where the room for the spelling is not there.
+    ensures full { OnErr result (vec_capacity out.old < vec_len out.old + length (event_bytes (event_of event.now))) }
+
+    // What is spelled so is read.
     ensures reads_back { OnOk result (read_event (event_bytes (event_of event.now)) ≡ Some (event_of event.now)) }
 {
     put_event(event, out)

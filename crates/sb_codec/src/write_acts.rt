@@ -1,5 +1,5 @@
 // Writing acts.
-ghost use Rattle.std.specs.Prelude.{◌≡◌, ◌++◌, IfSome, OnOk};
+ghost use Rattle.std.specs.Prelude.{◌≡◌, ◌++◌, IfSome, OnOk, ◌+◌, ◌≤◌, ◌<◌, length, vec_len, vec_capacity, OnErr};
 ghost use Rattle.sb_codec.specs.EventBytes.{optional, part_byte, mode_byte, path_bytes, token_bytes, by_bytes, description_bytes, act_bytes};
 ghost use Rattle.sb_codec.specs.Spelled.{IsPath, IsBy, IsDescription, IsAct};
 
@@ -31,7 +31,10 @@ fn byte_of_mode(mode: Mode) -> u8
 
 fn put_path(out: &mut Vec<u8>, path: &Path) -> Result<(), AllocError>
     requires { IsPath path.now }
-    ensures { OnOk result (out.new.items ≡ out.old.items ++ path_bytes path.now) }
+    ensures ok { OnOk result (out.new.items ≡ out.old.items ++ path_bytes path.now) }
+    ensures len { OnOk result (vec_len out.new ≡ vec_len out.old + length (path_bytes path.now)) }
+    ensures capacity { vec_capacity out.old ≤ vec_capacity out.new }
+    ensures full { OnErr result (vec_capacity out.old < vec_len out.old + length (path_bytes path.now)) }
 {
     put_sized(out, path.name.as_bytes())?;
     put_optional_text(out, &path.subscription)?;
@@ -39,21 +42,36 @@ fn put_path(out: &mut Vec<u8>, path: &Path) -> Result<(), AllocError>
     Ok(())
 }
 
+fn put_token(out: &mut Vec<u8>, token: Token) -> Result<(), AllocError>
+    ensures ok { OnOk result (out.new.items ≡ out.old.items ++ token_bytes token) }
+    ensures len { OnOk result (vec_len out.new ≡ vec_len out.old + length (token_bytes token)) }
+    ensures capacity { vec_capacity out.old ≤ vec_capacity out.new }
+    ensures full { OnErr result (vec_capacity out.old < vec_len out.old + length (token_bytes token)) }
+{
+    put_u64(out, token.salt)?;
+    put_u64(out, token.lock)
+}
+
 fn put_optional_token(out: &mut Vec<u8>, token: Option<Token>) -> Result<(), AllocError>
-    ensures { OnOk result (out.new.items ≡ out.old.items ++ optional token_bytes token) }
+    ensures ok { OnOk result (out.new.items ≡ out.old.items ++ optional token_bytes token) }
+    ensures len { OnOk result (vec_len out.new ≡ vec_len out.old + length (optional token_bytes token)) }
+    ensures capacity { vec_capacity out.old ≤ vec_capacity out.new }
+    ensures full { OnErr result (vec_capacity out.old < vec_len out.old + length (optional token_bytes token)) }
 {
     let Some(token) = token else {
         out.push(0)?;
         return Ok(());
     };
     out.push(1)?;
-    put_u64(out, token.salt)?;
-    put_u64(out, token.lock)
+    put_token(out, token)
 }
 
 pub(crate) fn put_optional_by(out: &mut Vec<u8>, by: &Option<By>) -> Result<(), AllocError>
     requires { IfSome by.now IsBy }
-    ensures { OnOk result (out.new.items ≡ out.old.items ++ optional by_bytes by.now) }
+    ensures ok { OnOk result (out.new.items ≡ out.old.items ++ optional by_bytes by.now) }
+    ensures len { OnOk result (vec_len out.new ≡ vec_len out.old + length (optional by_bytes by.now)) }
+    ensures capacity { vec_capacity out.old ≤ vec_capacity out.new }
+    ensures full { OnErr result (vec_capacity out.old < vec_len out.old + length (optional by_bytes by.now)) }
 {
     let Some(by) = by else {
         out.push(0)?;
@@ -66,7 +84,10 @@ pub(crate) fn put_optional_by(out: &mut Vec<u8>, by: &Option<By>) -> Result<(), 
 
 fn put_description(out: &mut Vec<u8>, description: &Description) -> Result<(), AllocError>
     requires { IsDescription description.now }
-    ensures { OnOk result (out.new.items ≡ out.old.items ++ description_bytes description.now) }
+    ensures ok { OnOk result (out.new.items ≡ out.old.items ++ description_bytes description.now) }
+    ensures len { OnOk result (vec_len out.new ≡ vec_len out.old + length (description_bytes description.now)) }
+    ensures capacity { vec_capacity out.old ≤ vec_capacity out.new }
+    ensures full { OnErr result (vec_capacity out.old < vec_len out.old + length (description_bytes description.now)) }
 {
     put_u32(out, description.lock)?;
     put_optional_u64(out, description.ttl)?;
@@ -81,7 +102,10 @@ fn put_description(out: &mut Vec<u8>, description: &Description) -> Result<(), A
 
 pub(crate) fn put_act(out: &mut Vec<u8>, act: &Act) -> Result<(), AllocError>
     requires { IsAct act.now }
-    ensures { OnOk result (out.new.items ≡ out.old.items ++ act_bytes act.now) }
+    ensures ok { OnOk result (out.new.items ≡ out.old.items ++ act_bytes act.now) }
+    ensures len { OnOk result (vec_len out.new ≡ vec_len out.old + length (act_bytes act.now)) }
+    ensures capacity { vec_capacity out.old ≤ vec_capacity out.new }
+    ensures full { OnErr result (vec_capacity out.old < vec_len out.old + length (act_bytes act.now)) }
 {
     match act {
         Act::CreateQueue { name, description } => {
