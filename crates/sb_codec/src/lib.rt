@@ -20,3 +20,6 @@ pub use decode::decode_event;
 pub use encode::encode_event;
 pub use laws::one_spelling;
 pub use worked::worked_bytes;
+
+#[cfg(test)]
+mod tests;
