@@ -9,7 +9,7 @@ use Rattle.sb_journal.specs.Framing.{Framing, Uncreated, Whole, Damaged, framing
 use Rattle.sb_journal.specs.Laws.{Spells}
 use Rattle.sb_journal.specs.Settled.{IsOldNoneOrNew, IsTornEnd, MayLeave}
 use Rattle.sb_journal.specs.Moments.{EachMoment, FromSync}
-use Rattle.sb_journal.proofs.Moments.{started, goes_on, stays, may_go_on, weaker_moments}
+use Rattle.sb_journal.proofs.Moments.{started, goes_on, stays, may_go_on, from_start, weaker_moments}
 use Rattle.sb_journal.proofs.Images.{rest_image, front_stays, one_place}
 
 module _ (f : File) (bytes : List ℕ) (end : ℕ) (spells : Spells f bytes) (end_is : end ≡ length (file_text f)) (p0 : List Held) (h0 : Held) (at : h0 ≡ at_rest bytes) where
@@ -74,6 +74,10 @@ module _ (f : File) (bytes : List ℕ) (end : ℕ) (spells : Spells f bytes) (en
           gone was tail is =
               ap (λ (l : List ℕ). drop (end + 1) l) (is ∙ sym (append_assoc (file_text f) (was ∷ []) tail))
               ∙ drop_at (file_text f ++ was ∷ []) tail (end + 1) (omega (arith, end_is, length-append (file_text f) (was ∷ [])))
+
+-- a file is made on a disk at rest, from its first sync on
+pub makes_from_rest : (file : File) (p0 p1 : List Held) (h0 h1 : Held) → h0 ≡ at_rest h0.seen → FromSync p0 h0 p1 h1 (IsOldNoneOrNew h0.seen file) → EachMoment p0 p1 h1 (IsOldNoneOrNew h0.seen file)
+makes_from_rest file p0 p1 h0 h1 at run = from_start p0 p1 h0 h1 (IsOldNoneOrNew h0.seen file) run (λ image left. inl (rest_image h0.seen image (subst (λ h. IsImage h image) at left)))
 
 pub unchanged : (salt : ℕ) (seen : List ℕ) (r : Framing) (image : List ℕ) → image ≡ seen → MayLeave salt seen r image
 unchanged salt seen Uncreated image is = inl is

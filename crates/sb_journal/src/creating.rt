@@ -78,7 +78,7 @@ fn fill<D: Disk>(disk: &mut D, head: &[u8], base: &[u8]) -> Result<(), DiskFault
 }
 
 // Makes a new file on a disk where all is safe.
-pub(crate) fn make_file<D: Disk>(
+fn make_file<D: Disk>(
     disk: &mut D,
     salt: u64,
     generation: u64,

@@ -15,7 +15,6 @@
 #![tactic(auto)]
 
 mod append;
-mod bytes;
 mod creating;
 mod found;
 mod journal;
@@ -25,7 +24,7 @@ mod reading;
 #[cfg(test)]
 mod tests;
 
-pub use bytes::Bytes;
 pub use creating::create;
 pub use found::{Found, OpenFault, OpenWhy, Side};
 pub use journal::Journal;
+pub use sb_outside::Bytes;

@@ -12,9 +12,8 @@ ghost use Rattle.sb_journal.specs.Opened.{Stands, Damage, opened_alone, stand_fi
 ghost use Rattle.sb_journal.specs.declared.found.Side.{Side};
 ghost use Rattle.sb_journal.specs.declared.found.Side.TheVariants.{A};
 
-use crate::creating::make_file;
 use crate::reading::{Reading, Stand, reading_of};
-use crate::{OpenWhy, Side};
+use crate::{OpenWhy, Side, create};
 use sb_outside::{Disk, DiskFault};
 use std::alloc::Global;
 
@@ -108,7 +107,7 @@ fn new_stand<D: Disk>(alloc: Global, disk: &mut D, salt: u64) -> Result<Stand, O
         → EachMoment (D.past disk.old) (D.past disk.new) (D.held disk.new) (IsOldNoneOrNew (D.held disk.old).seen (new_file salt 1 1 [])) }
     ensures cause { HasCause (D.count disk.old) (D.count disk.new) result }
 {
-    let Ok(()) = make_file(disk, salt, 1, 1, &[]) else {
+    let Ok(()) = create(disk, salt, 1, 1, &[]) else {
         return Err(OpenWhy::DiskFault);
     };
     Ok(Stand {

@@ -23,7 +23,7 @@ use Rattle.sb_model.specs.declared.state.State.{State}
 use Rattle.sb_model.specs.declared.state.Entity.{Entity}
 use Rattle.sb_model.specs.declared.state.StoredCopy.{StoredCopy}
 
--- the last moment that counts, in ms since 1970: the first of the year 10000
+-- the last moment that counts, in ms since 1970: the begin of the last day of the year 9999
 abbrev pub max_moment : ℕ
 max_moment = 253402214400000
 

@@ -1,7 +1,7 @@
 -- Laws of the machine, over all states and histories.
 use Rattle.std.specs.Prelude.{◌≡◌, ◌≤◌, ℕ, List, [], ◌∷◌, ◌++◌, false}
 use Rattle.sb_model.specs.Namespace.{empty_state}
-use Rattle.sb_model.specs.Answers.{answer_of, state_of, max_moment}
+use Rattle.sb_model.specs.Answers.{answer_of, state_of, moment_of, max_moment}
 use Rattle.sb_model.specs.History.{Entry, IsAllowed, IsLegal, IsFaultless, entries_of, is_fault, state_after, stopped_after}
 use Rattle.sb_model.specs.Consistent.{IsConsistent}
 use Rattle.sb_model.specs.declared.call.Call.{Call}
@@ -26,3 +26,7 @@ StartsConsistent = (salt : ℕ) → IsConsistent (empty_state salt)
 
 abbrev pub StaysConsistent : Type 0
 StaysConsistent = (s : State) (t : ℕ) (call : Call) → IsConsistent s → s.now ≤ t → t ≤ max_moment → IsConsistent (state_of s t call)
+
+-- time never goes back, nor past the last moment that counts
+abbrev pub KeepsTime : Type 0
+KeepsTime = (s : State) (reading : ℕ) (call : Call) → s.now ≤ max_moment → (s.now ≤ (state_of s (moment_of s reading) call).now) × ((state_of s (moment_of s reading) call).now ≤ max_moment)

@@ -1,5 +1,5 @@
 // Laws of the machine: each a function without effect whose contract is a statement of specs/Laws.
-ghost use Rattle.sb_model.specs.Laws.{GoesOn, AnswersNoFault, AnswersLegally, StartsConsistent};
+ghost use Rattle.sb_model.specs.Laws.{GoesOn, AnswersNoFault, AnswersLegally, StartsConsistent, StaysConsistent, KeepsTime};
 
 /// A legal history goes on by any entry that may stand behind it.
 pub fn goes_on()
@@ -19,4 +19,14 @@ pub fn answers_legally()
 /// An empty namespace is consistent.
 pub fn starts_consistent()
     ensures { StartsConsistent }
+{}
+
+/// A call keeps a namespace consistent.
+pub fn stays_consistent()
+    ensures { StaysConsistent }
+{}
+
+/// A call never takes time back, nor past the last moment that counts.
+pub fn keeps_time()
+    ensures { KeepsTime }
 {}

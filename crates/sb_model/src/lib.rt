@@ -17,7 +17,9 @@ mod text;
 mod worked;
 
 pub use call::{Act, By, Call, Description, Event, EventRef, Mode, Part, Path, TimedCall, Token};
-pub use laws::{answers_legally, answers_no_fault, goes_on, starts_consistent};
+pub use laws::{
+    answers_legally, answers_no_fault, goes_on, keeps_time, starts_consistent, stays_consistent,
+};
 pub use message::{Message, Name, Property, PropertyValue, SystemName, SystemText};
 pub use reply::{Answer, CopyShown, CopyState, Receipt, Refusal, Reply, Showing};
 pub use rows::Rows;

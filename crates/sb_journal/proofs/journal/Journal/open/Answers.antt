@@ -1,5 +1,5 @@
-use Rattle.std.proofs.Common.{◌≡◌, ◌≤◌, arith, sym, subst, ap, refl}
-use Rattle.sb_journal.specs.Opened.{found_file, stand_file}
+use Rattle.std.proofs.Common.{arith, sym, subst, ap, refl}
+use Rattle.sb_journal.specs.Opened.{stand_file}
 use Rattle.sb_journal.specs.Text.{gate_after}
 use Rattle.sb_journal.proofs.Heads.{gate_after_file}
 use Rattle.sb_journal.specs.Framing.{framing}
