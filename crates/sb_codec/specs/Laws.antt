@@ -13,6 +13,6 @@ IsSpelledOnce = (a b : Event) (x y : List ℕ) → HasSpelling a → HasSpelling
 abbrev pub BeginsNone : Type 0
 BeginsNone = (a b : Event) (x : List ℕ) → HasSpelling a → HasSpelling b → event_bytes a ++ x ≡ event_bytes b → x ≡ []
 
--- what is spelled so is read, and it alone
+-- what is spelled so is read
 abbrev pub ReadsBack : Type 0
 ReadsBack = (e : Event) → HasSpelling e → read_event (event_bytes e) ≡ Some e

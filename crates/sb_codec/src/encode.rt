@@ -30,8 +30,8 @@ fn put_event(event: &EventRef<'_>, out: &mut Vec<u8>) -> Result<(), AllocError>
     }
 }
 
-/// Adds the one spelling of an event to these bytes; no memory is taken where they have the room.
-/// Where memory is wanting some of the spelling may stand there.
+/// Adds the one spelling of an event to these bytes. Where they lack the room and memory is
+/// wanting, some of the spelling may stand there.
 #[tactic(auto, using(crate::proofs::Events::read_event_again))]
 pub fn encode_event(event: &EventRef<'_>, out: &mut Vec<u8>) -> Result<(), AllocError>
     requires { HasSpelling (event_of event.now) }

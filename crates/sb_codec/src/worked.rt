@@ -10,7 +10,7 @@ pub fn worked_bytes()
     ensures made { event_bytes made ≡ made_bytes }
     ensures sent { event_bytes sent ≡ sent_bytes }
     ensures taken { event_bytes taken ≡ taken_bytes }
-    ensures lengths { (length made_bytes ≡ 31) × (length sent_bytes ≡ 53) × (length taken_bytes ≡ 20) }
+    ensures lengths { (length ticked_bytes ≡ 9) × (length made_bytes ≡ 31) × (length sent_bytes ≡ 53) × (length taken_bytes ≡ 20) }
     // Bytes that stop early, that go on, or that begin with no event's byte are not read.
     ensures read { read_event ticked_bytes ≡ Some ticked }
     ensures short { read_event (take 8 ticked_bytes) ≡ None }

@@ -20,7 +20,7 @@ unfolding sized
 returns-clause-taken c = refl
 
 pub returns-clause-lengths : goal.returns-clause-lengths
-returns-clause-lengths c = (refl, refl, refl)
+returns-clause-lengths c = (refl, refl, refl, refl)
 
 pub returns-clause-read : goal.returns-clause-read
 unfolding read_event event_at number_at
