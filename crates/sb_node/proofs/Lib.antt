@@ -4,3 +4,7 @@ pub mod Sizes
 pub mod Rows
 pub mod Tests
 pub mod Changes
+pub mod Events
+pub mod Plans
+pub mod Gates
+pub mod Keeping

@@ -1,5 +1,5 @@
 -- The state that an engine in memory is, and what a plan does to it.
-use Rattle.std.specs.Prelude.{◌≡◌, ◌≢◌, ◌<◌, ◌≤◌, ◌^◌, ◌-◌, ℕ, ◌+◌, List, [], ◌∷◌, ◌++◌, length, slice_get, slice_set, Option, Some, None, Result, Ok, Err, vec_len, vec_capacity, IfSome}
+use Rattle.std.specs.Prelude.{◌≡◌, ◌≢◌, ◌<◌, ◌≤◌, ◌^◌, ◌-◌, ℕ, ◌+◌, Bool, true, false, List, [], ◌∷◌, ◌++◌, length, slice_get, slice_set, Option, Some, None, Result, Ok, Err, vec_len, vec_capacity, IfSome}
 use Rattle.std.specs.VecDeque.{deque_len, deque_capacity}
 use Rattle.sb_model.specs.Answers.{Row, refuses, stays, moves, shown, with_copies}
 use Rattle.sb_model.specs.declared.state.State.{State}
@@ -38,6 +38,13 @@ planned s (Answers reply) = stays reply
 planned s (Creates q) = moves (record s { last_entity = s.last_entity + 1; entities = s.entities ++ entity_of q ∷ [] }) Done
 planned s (Sends i copies receipts) = elim (slice_get s.entities i) [ Some e ↦ moves (record s { entities = slice_set s.entities i (with_more e copies.items) }) (Sent receipts) | None ↦ stays Empty ]
 planned s (Receives i) = elim (slice_get s.entities i) [ Some e ↦ first_taken s i e e.main.copies | None ↦ stays Empty ]
+
+-- the plan changes something
+abbrev pub is_change : Plan → Bool
+is_change (Answers reply) = false
+is_change (Creates q) = true
+is_change (Sends i copies receipts) = true
+is_change (Receives i) = true
 
 -- the plan can be carried out at this state
 abbrev pub IsFitting : State → Plan → Type 0

@@ -1,2 +1,4 @@
 pub mod Queue
 pub mod Engine
+pub mod Recovery
+pub mod Nodes

@@ -9,7 +9,7 @@ ghost use Rattle.sb_model.specs.Namespace.{numbers_made, made_in, empty_state, e
 ghost use Rattle.sb_model.specs.declared.call.Act.TheVariants.{CreateQueue, Send, Receive, Peek};
 ghost use Rattle.sb_model.specs.declared.reply.Refusal.TheVariants.{OutOfMemory, TooLarge, BadCall};
 ghost use Rattle.sb_node.specs.Queue.{entity_of, entities_of};
-ghost use Rattle.sb_node.specs.Engine.{engine_state, planned, HasRoom, IsFitting, IsPlannedRefusal, with_more, IsTaken};
+ghost use Rattle.sb_node.specs.Engine.{engine_state, is_change, planned, HasRoom, IsFitting, IsPlannedRefusal, with_more, IsTaken};
 
 use crate::fields::bad_field;
 use crate::names::{is_entity_path, is_name};
@@ -34,6 +34,18 @@ pub enum Plan {
     Sends(usize, VecDeque<StoredCopy>, Rows<Receipt>),
     /// The first copy of the queue at this place goes.
     Receives(usize),
+}
+
+impl Plan {
+    /// Whether it changes the state.
+    pub fn changes(&self) -> bool
+        ensures { result ≡ is_change self.now }
+    {
+        match self {
+            Plan::Answers(_) => false,
+            Plan::Creates(_) | Plan::Sends(..) | Plan::Receives(_) => true,
+        }
+    }
 }
 
 #[derive(Drop)]

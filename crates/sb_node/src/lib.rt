@@ -1,12 +1,14 @@
-//! The namespace over a journal.
+//! The namespace over its journal: each change is on the disk before it is answered.
+//!
+//! `Node` joins the pieces: `engine` plans, reserves and commits a call in memory, `replay` carries
+//! out again what a journal says, and `node` puts the journal between planning and committing.
 #![tactic(auto)]
 
 mod engine;
 mod fields;
 mod names;
+mod node;
 mod queue;
+mod replay;
 
-pub use engine::{Engine, Plan};
-pub use fields::bad_field;
-pub use names::is_entity_path;
-pub use queue::{Queue, copies_from, made, peek, place_of, removed};
+pub use node::Node;

@@ -1,0 +1,37 @@
+use Rattle.std.proofs.Common.{arith, rules, ◌≡◌, ◌≤◌, true, sym, ◌∙◌, ap, length, subst, List, ℕ, ◌++◌}
+use Rattle.sb_model.specs.Answers.{is_move, row_of}
+use Rattle.sb_model.specs.declared.call.Event.TheVariants.{Called}
+use Rattle.sb_codec.specs.EventBytes.{event_bytes}
+use Rattle.sb_codec.specs.Reading.{read_event}
+use Rattle.sb_node.specs.Engine.{engine_state, planned}
+use Rattle.sb_node.proofs.Plans.{planned_moves, moved_is_move}
+use Rattle.sb_node.proofs.Events.{call_spelled}
+use Rattle.sb_node.proofs.node.Node.record.Goals as goal
+
+pub encode_event-requires : goal.encode_event-requires
+encode_event-requires g c =
+    let s = engine_state c.args.self.now.engine in
+    let t = c.args.t in
+    let p = c.args.plan.now in
+    let moving : is_move (row_of s t c.args.call.now) ≡ true = ap is_move c.requires.row ∙ moved_is_move t (planned s p) _ (planned_moves s t p c.requires.fits c.requires.changes) in
+    (call_spelled s t c.args.call.now (omega (arith, c.ranges.t)) moving).0
+
+pub append-requires : goal.append-requires
+append-requires g c =
+    let s = engine_state c.args.self.now.engine in
+    let t = c.args.t in
+    let p = c.args.plan.now in
+    let moving : is_move (row_of s t c.args.call.now) ≡ true = ap is_move c.requires.row ∙ moved_is_move t (planned s p) _ (planned_moves s t p c.requires.fits c.requires.changes) in
+    let text = event_bytes (Called t c.args.call.now) in
+    let bytes : c.deref.result.now ≡ text = c.deref.ensures.value ∙ c.in-Ok-encode_event.ensures.ok ∙ ap (λ (l : List ℕ). l ++ text) c.clear.ensures.items in
+    subst (λ (l : List ℕ). length l ≤ 1048576) (sym bytes) (call_spelled s t c.args.call.now (omega (arith, c.ranges.t)) moving).1
+
+pub returns-clause-logged : goal.returns-clause-logged
+returns-clause-logged g c file settled =
+    let text = event_bytes (Called c.args.t c.args.call.now) in
+    let bytes : c.deref.result.now ≡ text = c.deref.ensures.value ∙ c.in-Ok-encode_event.ensures.ok ∙ ap (λ (l : List ℕ). l ++ text) c.clear.ensures.items in
+    record {
+      payload = c.deref.result.now;
+      settled = c.in-Ok-append.ensures.ok file settled;
+      reads = ap read_event bytes ∙ c.in-Ok-encode_event.ensures.reads_back;
+    }

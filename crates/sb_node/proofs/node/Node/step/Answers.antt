@@ -1,0 +1,23 @@
+use Rattle.std.proofs.Common.{arith, rules, ◌≡◌, ◌≤◌, true, sym, ◌∙◌, ap, length, ℕ, max}
+use Rattle.sb_model.specs.Answers.{state_in}
+use Rattle.sb_model.specs.declared.state.State.{State}
+use Rattle.sb_node.specs.Engine.{engine_state, planned, is_change}
+use Rattle.sb_node.proofs.Keeping.{unrecorded, same_kept, one_logged}
+use Rattle.sb_node.proofs.node.Node.step.Goals as goal
+
+pub returns-in_err-record-clause-kept : goal.returns-in_err-record-clause-kept
+returns-in_err-record-clause-kept g c early kept running =
+    same_kept _ _ _ _ kept (unrecorded _ _ _ _ c.in_err-record.field-0.0 c.in_err-record.ensures.refused running) c.in_err-record.ensures.state
+
+late : (now reading t : ℕ) {moment : ℕ} → t ≡ max reading moment → moment ≡ now → now ≤ t
+late now reading t is same = omega arith
+
+pub returns-clause-kept : goal.returns-clause-kept
+returns-clause-kept g c early kept running =
+    let s = engine_state c.args.self.now.engine in
+    let t = c.max-t.result in
+    let p = c.in_ok-plan.plan in
+    let logged = c.in_ok-record.ensures.logged kept.file kept.settled in
+    let changing : is_change p ≡ true = sym c.if-not-changes.ensures in
+    let left = c.commit-2.ensures.state ∙ ap (λ (x : State). state_in x t (planned x p)) c.in_ok-record.ensures.state in
+    one_logged _ _ s _ t c.args.call.now p kept logged c.in_ok-plan.ensures.ok c.in_ok-plan.ensures.fits changing (late s.now c.min.result t c.max-t.ensures c.moment.ensures) (omega (arith, c.max-t.ensures, c.moment.ensures, c.min.ensures, early)) left

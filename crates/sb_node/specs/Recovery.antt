@@ -1,0 +1,60 @@
+-- What a journal stands for: the state that its events lead to, or where it is damaged.
+use Rattle.std.specs.Prelude.{◌≡◌, ℕ, ◌+◌, ◌-◌, ◌&&◌, List, [], ◌∷◌, length, Bool, true, false, nat_le, if◌then◌else◌, Option, Some, None}
+use Rattle.sb_model.specs.Namespace.{empty_state}
+use Rattle.sb_model.specs.Answers.{Row, refuses, stays, moves, row_of, max_moment}
+use Rattle.sb_model.specs.declared.call.Event.{Event}
+use Rattle.sb_model.specs.declared.call.Event.TheVariants.{Tick, Called}
+use Rattle.sb_model.specs.declared.state.State.{State}
+use Rattle.sb_codec.specs.Reading.{read_event}
+use Rattle.sb_journal.specs.Text.{File}
+use Rattle.sb_journal.specs.Opened.{Opened, Stands, Damage, opened}
+use Rattle.sb_journal.specs.declared.found.Side.{Side}
+
+-- the state after a row that changed something at this moment
+abbrev pub moved : ℕ → Row → Option State
+moved t (refuses r) = None
+moved t (stays reply) = None
+moved t (moves s reply) = Some (record s { now = t })
+
+-- The state after an event, if it changes this one. Nothing falls due by itself yet, so no tick does.
+abbrev pub next_state : State → Option Event → Option State
+next_state s None = None
+next_state s (Some (Tick t)) = None
+next_state s (Some (Called t call)) = if nat_le s.now t && nat_le t max_moment then moved t (row_of s t call) else None
+
+-- where payloads lead
+pub data Replayed : Type 0 where
+  reaches : State → Replayed
+  -- the place of the gate of the first that is no changing event
+  breaks : ℕ → Replayed
+
+-- the payloads behind the gate at this place, each the next event
+abbrev pub replay : State → ℕ → List (List ℕ) → Replayed
+replay s place [] = reaches s
+replay s place (p ∷ ps) = elim (next_state s (read_event p)) [ Some next ↦ replay next (place + (13 + length p)) ps | None ↦ breaks place ]
+
+pub data Recovered : Type 0 where
+  -- this state, and the number of the last journal record
+  recovers : State → ℕ → Recovered
+  -- this disk can't be trusted from this place on
+  damaged : Side → ℕ → Recovered
+
+-- the place of a file's first gate
+abbrev pub first_gate : File → ℕ
+first_gate file = 42 + length file.base
+
+abbrev pub reached : Side → File → Replayed → Recovered
+reached side file (reaches s) = recovers s (file.first - 1 + length file.payloads)
+reached side file (breaks place) = damaged side place
+
+abbrev pub recovered_from : Opened → Recovered
+recovered_from (Stands side file) = reached side file (replay (empty_state file.salt) (first_gate file) file.payloads)
+recovered_from (Damage side place) = damaged side place
+
+-- what two disks stand for; the salt is a new namespace's
+abbrev pub recovered : List ℕ → List ℕ → ℕ → Recovered
+recovered a b salt = recovered_from (opened a b salt)
+
+-- it is this state that is recovered
+abbrev pub Recovers : Recovered → State → Type 0
+Recovers r s = (last : ℕ) × (r ≡ recovers s last)
