@@ -1,0 +1,82 @@
+-- A line that is read part by part.
+use Rattle.std.proofs.Common.{◌≡◌, ◌≢◌, ◌⊎◌, inl, inr, ℕ, ◌+◌, ◌-◌, ◌*◌, ◌^◌, ◌<◌, ◌≤◌, List, [], ◌∷◌, ◌++◌, length, take, drop, Bool, true, false, Option, Some, None, refl, sym, ◌∙◌, ap, subst, arith, append_assoc, length-append, length-take}
+use Rattle.std.specs.Prelude.{IsTrue}
+use Rattle.std.proofs.lemmas.List.{append-nil}
+use Rattle.sb_bus.specs.declared.front.Front.{Front}
+use Rattle.sb_bus.specs.declared.reader.Reader.{Reader}
+use Rattle.sb_bus.specs.Fronts.{StandsFor, NoFeed, Took, HasEnded, IsLastOf}
+use Rattle.sb_bus.specs.Readers.{pending_of, IsAt, TakesPart, IsNext, ReadsLine, ReadsNone, Reads}
+use Rattle.sb_bus.proofs.Splits.{NoFeed-append, took-took, took-ended}
+
+pub same_at : (start : Option (List ℕ)) (input : List ℕ) (left : Option (List ℕ)) (r after : Reader) → after.ended ≡ r.ended → after.taken ≡ r.taken → IsAt start input left r → IsAt start input left after
+same_at start input left r after ended taken at = record {
+  took = at.took;
+  ended = λ e. at.ended (subst IsTrue ended e);
+  taken = taken ∙ at.taken;
+}
+
+no_more : {X : Type 0} (xs ys : List X) → xs ++ ys ≡ [] → (xs ≡ []) × (ys ≡ [])
+no_more [] ys e = (refl, e)
+no_more (x ∷ xs) ys e = absurd cc
+
+-- a line feed came
+pub line_found : (start : Option (List ℕ)) (input more line pending all : List ℕ) (left : Option (List ℕ)) (r : Reader) (front : Front) (found : Bool) → found ≡ true → TakesPart found line pending (pending_of r) front → NoFeed line
+    → all ++ more ≡ line ++ pending → IsAt start (input ++ more) left r → ReadsLine start input all left r front
+line_found start input more line pending all left r front false is part none whole at = absurd cc
+line_found start input more line pending all left r front true is part none whole at = record {
+  more = more;
+  at = at;
+  line = line ++ part.0;
+  stands = part.3;
+  no_feed = NoFeed-append line part.0 none part.2;
+  next = inl (whole ∙ ap (λ (l : List ℕ). line ++ l) part.1 ∙ sym (append_assoc line part.0 (10 ∷ pending_of r)));
+}
+
+-- the source has ended
+pub line_ended : (start : Option (List ℕ)) (input more line pending all : List ℕ) (left : Option (List ℕ)) (r : Reader) (o : Option Front) → IsLastOf (line ++ pending) o → NoFeed (line ++ pending) → pending_of r ≡ []
+    → all ++ more ≡ line ++ pending → IsAt start (input ++ more) left r → HasEnded start left → r.ended ≡ true → Reads o start input all left r
+line_ended start input more line pending all left r (Some front) last none rest whole at ended over = record {
+  more = more;
+  at = at;
+  line = line ++ pending;
+  stands = last.1;
+  no_feed = none;
+  next = inr (whole, last.0, rest, over);
+}
+line_ended start input more line pending all left r None last none rest whole at ended over =
+    let nothing = no_more all more (whole ∙ last) in
+    record {
+      at = subst (λ (l : List ℕ). IsAt start l left r) (ap (λ (l : List ℕ). input ++ l) nothing.1 ∙ append-nil input) at;
+      none = nothing.0;
+      ended = ended;
+    }
+
+-- one piece more was read
+pub piece_at : (start : Option (List ℕ)) (input piece : List ℕ) (left after : Option (List ℕ)) (r next : Reader) (n : ℕ) → IsAt start input left r → Took left after (take n piece) → n ≤ length piece → next.taken ≡ r.taken + n → (IsTrue next.ended → HasEnded start after)
+    → IsAt start (input ++ take n piece) after next
+piece_at start input piece left after r next n at took within taken ended = record {
+  took = took-took start left after input (take n piece) at.took took;
+  ended = ended;
+  taken = omega (arith, taken, at.taken, length-append input (take n piece), length-take n piece);
+}
+
+-- a part without a line feed stands before the next piece
+pub piece_on : (line pending rest all more piece : List ℕ) → all ++ more ≡ line ++ pending → rest ≡ piece → all ++ (more ++ piece) ≡ (line ++ pending) ++ rest
+piece_on line pending rest all more piece whole is = sym (append_assoc all more piece) ∙ ap (λ (l : List ℕ). l ++ piece) whole ∙ ap (λ (l : List ℕ). (line ++ pending) ++ l) (sym is)
+
+pub without_feed : (line pending after : List ℕ) (front : Front) (found : Bool) → found ≡ false → TakesPart found line pending after front → NoFeed line → NoFeed (line ++ pending) × (after ≡ []) × StandsFor front (line ++ pending)
+without_feed line pending after front true is part none = absurd cc
+without_feed line pending after front false is part none = (NoFeed-append line pending none part.0, part.1, part.2)
+
+pub start_pending : (xs : List ℕ) (at n : ℕ) → at ≡ 0 → take (n - at) (drop at xs) ≡ take n xs
+start_pending xs at n is = let same : n - at ≡ n = omega arith in ap (λ k. take k (drop at xs)) same ∙ ap (λ k. take n (drop k xs)) is
+
+-- nothing more was read, and the source has ended
+pub end_at : (start : Option (List ℕ)) (input piece : List ℕ) (left after : Option (List ℕ)) (r next : Reader) (n : ℕ) → IsAt start input left r → Took left after (take n piece) → n ≡ 0 → HasEnded left after → next.taken ≡ r.taken + n → IsAt start input after next
+end_at start input piece left after r next n at took none ended taken = record {
+  took =
+      let nothing : Took left after [] = subst (λ k. Took left after (take k piece)) none took in
+      subst (λ (l : List ℕ). Took start after l) (append-nil input) (took-took start left after input [] at.took nothing);
+  ended = λ e. took-ended start left after input at.took ended;
+  taken = omega (arith, taken, at.taken, none);
+}

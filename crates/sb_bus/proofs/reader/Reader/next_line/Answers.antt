@@ -1,0 +1,56 @@
+use Rattle.std.proofs.Common.{◌≡◌, ◌+◌, ◌-◌, ◌<◌, ◌≤◌, ◌++◌, ℕ, List, Option, arith, sym, ◌∙◌, ap, subst, take, drop, length, refl, length-append, append_assoc, true, false}
+use Rattle.std.specs.Bool.{OnFalse}
+use Rattle.sb_bus.specs.Fronts.{NoFeed, StandsFor, HasEnded}
+use Rattle.sb_bus.specs.Readers.{pending_of, work_of, IsAt}
+use Rattle.sb_bus.proofs.Splits.{took-ended}
+use Rattle.sb_bus.proofs.Readings.{same_at, line_found, line_ended, piece_at, piece_on, without_feed, start_pending, end_at}
+use Rattle.sb_bus.proofs.reader.Reader.next_line.Goals as goal
+
+pub returns-then-found-clause-reads : goal.returns-then-found-clause-reads
+returns-then-found-clause-reads g c start input is =
+    let so_far = c.pieces.invariant in
+    line_found start input so_far.more so_far.line _ _ _ _ _ _ c.if-found.true (c.in_ok-next.ensures.part so_far.line so_far.stands) so_far.no_feed so_far.whole
+    (same_at start (input ++ so_far.more) _ c.pieces.self c.take_part.new.self c.take_part.ensures.ended c.take_part.ensures.taken (so_far.at start input is))
+
+pub returns-then-self-clause-reads : goal.returns-then-self-clause-reads
+returns-then-self-clause-reads g c start input is =
+    let so_far = c.pieces.invariant in
+    let part = without_feed so_far.line _ _ _ _ c.if-found.false (c.in_ok-next.ensures.part so_far.line so_far.stands) so_far.no_feed in
+    let at = same_at start (input ++ so_far.more) _ c.pieces.self c.take_part.new.self c.take_part.ensures.ended c.take_part.ensures.taken (so_far.at start input is) in
+    line_ended start input so_far.more so_far.line (pending_of c.pieces.self) _ _ _ _ (c.last_line.ensures (so_far.line ++ pending_of c.pieces.self) part.2) part.0 part.1 so_far.whole at (at.ended c.if-self.true) c.if-self.true
+
+pub returns-then-self-eq0-clause-reads : goal.returns-then-self-eq0-clause-reads
+returns-then-self-eq0-clause-reads g c start input is =
+    let so_far = c.pieces.invariant in
+    let filled = c.in_ok-fill.ensures in
+    let next = c.fill.new.reader in
+    let part = without_feed so_far.line _ _ _ _ c.if-found.false (c.in_ok-next.ensures.part so_far.line so_far.stands) so_far.no_feed in
+    let at = same_at start (input ++ so_far.more) _ c.pieces.self c.take_part.new.self c.take_part.ensures.ended c.take_part.ensures.taken (so_far.at start input is) in
+    let ended = filled.ended c.if-self-eq0.true in
+    let rest = start_pending next.piece.items next.at next.end filled.start ∙ ap (λ n. take n next.piece.items) c.if-self-eq0.true in
+    line_ended start input so_far.more so_far.line (pending_of c.pieces.self) _ _ _ _ (c.last_line-then-self-eq0.ensures (so_far.line ++ pending_of c.pieces.self) part.2) part.0 rest so_far.whole
+    (end_at start (input ++ so_far.more) next.piece.items _ _ c.take_part.new.self _ next.end at filled.took c.if-self-eq0.true ended filled.taken) (took-ended _ _ _ _ at.took ended) refl
+
+pub pieces-preserved : goal.pieces-preserved
+pieces-preserved g c =
+    let so_far = c.pieces.invariant in
+    let filled = c.in_ok-fill.ensures in
+    let next = c.fill.new.reader in
+    let pending = pending_of c.pieces.self in
+    let part = without_feed so_far.line _ _ _ _ c.if-found.false (c.in_ok-next.ensures.part so_far.line so_far.stands) so_far.no_feed in
+    let piece = take next.end next.piece.items in
+    let work = subst (λ b. OnFalse b (work_of c.take_part.new.self + length pending ≡ work_of c.pieces.self)) c.if-found.false c.in_ok-next.ensures.work in
+    record {
+      more = so_far.more ++ piece;
+      line = so_far.line ++ pending;
+      stands = part.2;
+      no_feed = part.0;
+      whole = piece_on so_far.line pending (pending_of next) (pending_of c.args.self.now) so_far.more piece so_far.whole (start_pending next.piece.items next.at next.end filled.start);
+      at = λ start input is.
+          let at = same_at start (input ++ so_far.more) _ c.pieces.self c.take_part.new.self c.take_part.ensures.ended c.take_part.ensures.taken (so_far.at start input is) in
+          subst (λ (l : List ℕ). IsAt start l (g.S.Source.left c.fill.new.source) next) (append_assoc input so_far.more piece)
+          (piece_at start (input ++ so_far.more) next.piece.items _ _ c.take_part.new.self next next.end at filled.took next.within filled.taken (λ e. let other : true ≡ false = sym e ∙ filled.same ∙ c.if-self.false in absurd cc));
+      work = omega (arith, work, so_far.work, filled.taken, filled.fits, filled.start, length-append so_far.line pending, c.if-self-eq0.false);
+      fits = filled.fits;
+      later = omega (arith, so_far.later, filled.later);
+    }

@@ -1,0 +1,7 @@
+use Rattle.std.proofs.Common.{◌≡◌, arith, length-take}
+use Rattle.sb_bus.proofs.Splits.{ended_of}
+use Rattle.sb_bus.proofs.reader.read_piece.Goals as goal
+
+pub returns-clause-ended : goal.returns-clause-ended
+returns-clause-ended g c none =
+    ended_of _ _ _ _ _ c.in_ok-count.ensures.bytes c.in_ok-count.ensures.ends (omega (arith, length-take c.args.room c.args.piece.now, c.requires.room, c.requires.some)) none

@@ -1,0 +1,30 @@
+-- What is kept of a line that is being read, and what has been read of a source.
+use Rattle.std.specs.Prelude.{◌≡◌, ◌≢◌, ◌⊎◌, ◌<◌, ◌≤◌, ℕ, List, [], ◌∷◌, ◌++◌, length, Bool, true, false, ◌==◌, Option, Some, None}
+use Rattle.sb_bus.specs.Lines.{is_blank, max_line}
+use Rattle.sb_bus.specs.declared.front.Front.{Front}
+use Rattle.sb_bus.specs.declared.front.Front.TheVariants.{Short, Long}
+
+-- these bytes of a line were read: they are kept, or there are too many and it is kept whether they are blank
+abbrev pub StandsFor : Front → List ℕ → Type 0
+StandsFor (Short kept) line = (line ≡ kept.items) × (length line ≤ max_line)
+StandsFor (Long blank) line = (max_line < length line) × (is_blank line ≡ blank)
+
+-- the last line, or nothing where there is none of it
+abbrev pub IsLastOf : List ℕ → Option Front → Type 0
+IsLastOf line (Some front) = (line ≢ []) × StandsFor front line
+IsLastOf line None = line ≡ []
+
+-- no line feed here
+abbrev pub NoFeed : List ℕ → Type 0
+NoFeed [] = Unit {0}
+NoFeed (b ∷ bs) = ((b == 10) ≡ false) × NoFeed bs
+
+-- these bytes were read, where the source tells
+abbrev pub Took : Option (List ℕ) → Option (List ℕ) → List ℕ → Type 0
+Took None after more = Unit {0}
+Took (Some before) after more = (rest : List ℕ) × (before ≡ more ++ rest) × (after ≡ Some rest)
+
+-- nothing is left, where the source tells
+abbrev pub HasEnded : Option (List ℕ) → Option (List ℕ) → Type 0
+HasEnded None after = Unit {0}
+HasEnded (Some before) after = after ≡ Some []

@@ -1,0 +1,5 @@
+pub mod Lines
+pub mod Fronts
+pub mod Readers
+pub mod Runs
+pub mod Tops

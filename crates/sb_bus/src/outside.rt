@@ -1,0 +1,107 @@
+// Makes the real disks, streams and clock, and calls the top.
+use crate::command::WordsFault;
+use crate::top::top;
+use crate::words::needs;
+use sb_outside::{MemDisk, NoDoor, NoLink, Reading, SystemClock, Writing, open_disk, sync_folder};
+use std::alloc::Global;
+use std::time::Duration;
+use std::{env, io};
+
+// The status where something of the outside can't be made.
+const NOT_MADE: u8 = 11;
+
+// The status for want of memory.
+const NO_MEMORY: u8 = 7;
+
+const NANOS_A_SECOND: u64 = 1_000_000_000;
+
+// The words behind the program's name.
+fn words_of(rt: &HostRuntime) -> io::Result<Vec<String>> {
+    let mut words = Vec::new(rt.alloc());
+    for word in env::args(rt)?.skip(1) {
+        words.push(word)?;
+    }
+    Ok(words)
+}
+
+// The nanoseconds since 1970 as a salt.
+fn salt_of(since_1970: Duration) -> u64 {
+    since_1970
+        .as_secs()
+        .wrapping_mul(NANOS_A_SECOND)
+        .wrapping_add(u64::from(since_1970.subsec_nanos()))
+}
+
+// Calls the top over the files of a folder.
+fn over_folder(rt: &HostRuntime, words: &[&str], folder: &str) -> io::Result<u8> {
+    let alloc = rt.alloc();
+    let path_a = format!(in alloc; "{folder}/a.journal")?;
+    let path_b = format!(in alloc; "{folder}/b.journal")?;
+    let disk_a = open_disk(rt, path_a.as_str())?;
+    let disk_b = open_disk(rt, path_b.as_str())?;
+    sync_folder(rt, folder)?;
+    let salt = salt_of(std::rt::Clock::since_1970(rt)?);
+    let mut doors: Vec<NoDoor> = Vec::new(alloc);
+    let (status, _disks) = top(
+        rt,
+        alloc,
+        words,
+        disk_a,
+        disk_b,
+        salt,
+        &SystemClock::new(rt),
+        &mut Reading::new(rt.stdin()),
+        &mut Writing::new(rt.stdout()),
+        &mut doors,
+        &mut NoLink::new(),
+    );
+    Ok(status)
+}
+
+// Calls the top over empty disks in memory.
+fn over_nothing(rt: &HostRuntime, words: &[&str]) -> io::Result<u8> {
+    let alloc = rt.alloc();
+    let disk_a = MemDisk::new(alloc, Vec::new(alloc), Vec::new(alloc))?;
+    let disk_b = MemDisk::new(alloc, Vec::new(alloc), Vec::new(alloc))?;
+    let mut doors: Vec<NoDoor> = Vec::new(alloc);
+    let (status, _disks) = top(
+        rt,
+        alloc,
+        words,
+        disk_a,
+        disk_b,
+        0,
+        &SystemClock::new(rt),
+        &mut Reading::new(rt.stdin()),
+        &mut Writing::new(rt.stdout()),
+        &mut doors,
+        &mut NoLink::new(),
+    );
+    Ok(status)
+}
+
+// The status of the call that these words make.
+fn status_by(rt: &HostRuntime, words: &[&str]) -> io::Result<u8> {
+    match needs(rt.alloc(), words) {
+        Ok(needs) => over_folder(rt, words, needs.folder.as_str()),
+        Err(WordsFault::BadWords) => over_nothing(rt, words),
+        Err(WordsFault::OutOfMemory) => Ok(NO_MEMORY),
+    }
+}
+
+fn run(rt: &HostRuntime) -> io::Result<u8> {
+    let owned = words_of(rt)?;
+    let mut words = Vec::new(rt.alloc());
+    for word in &owned {
+        words.push(word.as_str())?;
+    }
+    status_by(rt, &words)
+}
+
+/// The status that the program ends with; 11 where a file, the clock or the words can't be had.
+pub fn status(rt: &HostRuntime) -> u8 {
+    match run(rt) {
+        Ok(status) => status,
+        Err(_) => NOT_MADE,
+    }
+}
