@@ -8,6 +8,8 @@ mod reader;
 mod running;
 mod said;
 mod serve;
+#[cfg(test)]
+mod tests;
 mod top;
 mod words;
 

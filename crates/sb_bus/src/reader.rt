@@ -84,7 +84,11 @@ impl Reader {
     }
 
     /// The next line, up to its line feed or the source's end; none where nothing is left.
-    pub fn next_line<S: Source>(&mut self, alloc: Global, source: &mut S) -> Result<Option<Front>, ReadEnd>
+    pub fn next_line<S: Source>(
+        &mut self,
+        alloc: Global,
+        source: &mut S,
+    ) -> Result<Option<Front>, ReadEnd>
         requires { self.old.taken < 2 ^ 40 }
         ensures reads { (start : Option (List ℕ)) (input : List ℕ) → IsAt start input (S.left source.old) self.old
             → IfOk result (λ o. Reads o start input (pending_of self.old) (S.left source.new) self.new) }

@@ -65,7 +65,12 @@ fn say<K: Sink>(alloc: Global, answer: &Answer, output: &mut K) -> Result<(), Ru
 }
 
 // Makes a call and writes the line of its answer; says whether it was refused.
-fn serve_call<D: Disk, K: Sink>(alloc: Global, node: &mut Node<D>, asked: &TimedCall, output: &mut K) -> Result<bool, RunEnd>
+fn serve_call<D: Disk, K: Sink>(
+    alloc: Global,
+    node: &mut Node<D>,
+    asked: &TimedCall,
+    output: &mut K,
+) -> Result<bool, RunEnd>
     requires { node_stopped node.old ≡ None }
     ensures done { IfOk result (IsServed (node_state node.old) (Asked asked.now) (K.given output.old) (K.given output.new) (node_state node.new)) }
     ensures running { OnOk result (node_stopped node.new ≡ None) }
@@ -94,7 +99,12 @@ fn serve_call<D: Disk, K: Sink>(alloc: Global, node: &mut Node<D>, asked: &Timed
 }
 
 /// Answers what a line says; says whether the answer is a refusal.
-pub fn serve_line<D: Disk, K: Sink>(alloc: Global, node: &mut Node<D>, line: Said, output: &mut K) -> Result<bool, RunEnd>
+pub fn serve_line<D: Disk, K: Sink>(
+    alloc: Global,
+    node: &mut Node<D>,
+    line: Said,
+    output: &mut K,
+) -> Result<bool, RunEnd>
     requires { node_stopped node.old ≡ None }
     ensures done { IfOk result (IsServed (node_state node.old) line (K.given output.old) (K.given output.new) (node_state node.new)) }
     ensures running { OnOk result (node_stopped node.new ≡ None) }

@@ -37,7 +37,9 @@ fn write_damage<K: Sink>(alloc: Global, output: &mut K, side: Side, place: u64)
     ensures { K.count output.old ≤ K.count output.new }
 {
     let disk = letter_of(side);
-    if let Ok(line) = format!(in alloc; "{{\"disk\":\"{disk}\",\"place\":{place},\"refused\":\"Damaged\"}}\n") {
+    if let Ok(line) = format!(in alloc;
+        "{{\"disk\":\"{disk}\",\"place\":{place},\"refused\":\"Damaged\"}}\n"
+    ) {
         write_last(output, line.as_str());
     }
 }
@@ -57,7 +59,12 @@ fn status_of(end: RunEnd) -> u8
     }
 }
 
-fn run_status<D: Disk, S: Source, K: Sink>(alloc: Global, node: &mut Node<D>, input: &mut S, output: &mut K) -> u8
+fn run_status<D: Disk, S: Source, K: Sink>(
+    alloc: Global,
+    node: &mut Node<D>,
+    input: &mut S,
+    output: &mut K,
+) -> u8
     requires { node_stopped node.old ≡ None }
     ensures done { (refused : Bool) → result ≡ status_by refused
         → IsScriptRun (node_state node.old) (S.left input.old) (S.left input.new) (K.given output.old) (K.given output.new) (node_state node.new) refused }
@@ -169,6 +176,8 @@ pub fn top<T, D: Disk + Send, C: Clock + Sync, S: Source, K: Sink, R: Door + Sen
     ensures honesty { IfSome result.1 (λ disks. D.honest disks.0 ≡ D.honest disk_a) }
     ensures disk_b { IfSome result.1 (λ disks. disks.1 ≡ disk_b) }
 {
-    let (status, disk_a, disk_b) = top_alone(alloc, words, disk_a, disk_b, salt, clock, input, output, link);
+    let (status, disk_a, disk_b) = top_alone(
+        alloc, words, disk_a, disk_b, salt, clock, input, output, link,
+    );
     (status, Some((disk_a, disk_b)))
 }
