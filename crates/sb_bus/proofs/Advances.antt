@@ -1,15 +1,15 @@
 -- One more line of a run.
-use Rattle.std.proofs.Common.{◌≡◌, ◌≢◌, ◌≤◌, ◌⊎◌, inl, inr, ℕ, List, [], ◌∷◌, ◌++◌, map, Bool, true, false, ◌||◌, Option, Some, None, refl, sym, ◌∙◌, ap, subst, append_assoc, arith, cond}
+use Rattle.std.proofs.Common.{◌≡◌, ◌≤◌, ◌⊎◌, inl, inr, ℕ, List, [], ◌∷◌, ◌++◌, map, Bool, true, false, ◌||◌, Option, refl, sym, ◌∙◌, ap, subst, append_assoc, arith}
 use Rattle.std.proofs.lemmas.List.{append-nil, map-append}
 use Rattle.sb_outside.specs.Streams.{Gains}
 use Rattle.sb_outside.proofs.Gains.{gains-gains}
-use Rattle.sb_model.specs.Answers.{Row, refuses, stays, moves, state_in, row_of, state_of, moment_of}
+use Rattle.sb_model.specs.Answers.{Row, refuses, stays, moves, state_in, row_of, moment_of}
 use Rattle.sb_model.specs.declared.state.State.{State}
 use Rattle.sb_bus.specs.declared.front.Front.{Front}
 use Rattle.sb_bus.specs.declared.reader.Reader.{Reader}
 use Rattle.sb_bus.specs.declared.said.Said.{Said}
 use Rattle.sb_bus.specs.declared.said.Said.TheVariants.{Blank, Faulty, Asked}
-use Rattle.sb_bus.specs.Fronts.{NoFeed, Took, HasEnded}
+use Rattle.sb_bus.specs.Fronts.{NoFeed}
 use Rattle.sb_bus.specs.Lines.{lines_of, said}
 use Rattle.sb_bus.specs.Readers.{pending_of, IsAt, IsNext, ReadsLine}
 use Rattle.sb_bus.specs.Runs.{reply_to, state_by, refuses_it, replies_to, state_after_all, any_refused, said_in, IsServed, IsScriptRun, AreWhole, RunsSoFar}

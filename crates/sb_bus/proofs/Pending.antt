@@ -1,8 +1,8 @@
 -- What is pending, as it is taken.
-use Rattle.std.proofs.Common.{◌≡◌, ℕ, zero, suc, ◌+◌, ◌-◌, ◌<◌, ◌≤◌, List, [], ◌∷◌, ◌++◌, length, take, drop, Option, Some, None, position, ◌==◌, refl, sym, ◌∙◌, ap, subst, arith, add-one, length-take}
+use Rattle.std.proofs.Common.{◌≡◌, ℕ, suc, ◌+◌, ◌-◌, ◌≤◌, List, [], ◌∷◌, ◌++◌, take, drop, Some, position, ◌==◌, sym, ◌∙◌, ap, arith, add-one, length-take}
 use Rattle.std.proofs.lemmas.List.{drop-take, drop-drop}
-use Rattle.sb_bus.specs.Fronts.{NoFeed, StandsFor}
-use Rattle.sb_bus.proofs.Splits.{position-split, position-none, position-within}
+use Rattle.sb_bus.specs.Fronts.{NoFeed}
+use Rattle.sb_bus.proofs.Splits.{position-split, position-within}
 
 -- behind these many, the rest is pending
 pub pending_on : (xs : List ℕ) (at end k : ℕ) → at + k ≤ end → take (end - (at + k)) (drop (at + k) xs) ≡ drop k (take (end - at) (drop at xs))

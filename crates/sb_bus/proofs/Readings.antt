@@ -1,11 +1,11 @@
 -- A line that is read part by part.
-use Rattle.std.proofs.Common.{◌≡◌, ◌≢◌, ◌⊎◌, inl, inr, ℕ, ◌+◌, ◌-◌, ◌*◌, ◌^◌, ◌<◌, ◌≤◌, List, [], ◌∷◌, ◌++◌, length, take, drop, Bool, true, false, Option, Some, None, refl, sym, ◌∙◌, ap, subst, arith, append_assoc, length-append, length-take}
+use Rattle.std.proofs.Common.{◌≡◌, inl, inr, ℕ, ◌+◌, ◌-◌, ◌≤◌, List, [], ◌∷◌, ◌++◌, length, take, drop, Bool, true, false, Option, Some, None, refl, sym, ◌∙◌, ap, subst, arith, append_assoc, length-append, length-take}
 use Rattle.std.specs.Prelude.{IsTrue}
 use Rattle.std.proofs.lemmas.List.{append-nil}
 use Rattle.sb_bus.specs.declared.front.Front.{Front}
 use Rattle.sb_bus.specs.declared.reader.Reader.{Reader}
 use Rattle.sb_bus.specs.Fronts.{StandsFor, NoFeed, Took, HasEnded, IsLastOf}
-use Rattle.sb_bus.specs.Readers.{pending_of, IsAt, TakesPart, IsNext, ReadsLine, ReadsNone, Reads}
+use Rattle.sb_bus.specs.Readers.{pending_of, IsAt, TakesPart, ReadsLine, Reads}
 use Rattle.sb_bus.proofs.Splits.{NoFeed-append, took-took, took-ended}
 
 pub same_at : (start : Option (List ℕ)) (input : List ℕ) (left : Option (List ℕ)) (r after : Reader) → after.ended ≡ r.ended → after.taken ≡ r.taken → IsAt start input left r → IsAt start input left after

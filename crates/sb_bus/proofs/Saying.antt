@@ -1,12 +1,12 @@
 -- What a short line says, once each test has passed.
-use Rattle.std.proofs.Common.{◌≡◌, ◌≤◌, ℕ, List, [], length, Bool, true, false, Result, Ok, Err, refl, sym, ◌∙◌, ap, subst, arith, nat_lt}
+use Rattle.std.proofs.Common.{◌≡◌, ◌≤◌, ℕ, List, [], length, Bool, true, false, Result, refl, sym, ◌∙◌, ap, subst, arith, nat_lt}
 use Rattle.std.specs.Prelude.{if◌then◌else◌, codes}
 use Rattle.std.specs.Result.{IfOk}
 use Rattle.std.specs.Str.{IsUtf8, is_utf8}
 use Rattle.std.proofs.lemmas.Str.{is_utf8-from_IsUtf8, IsUtf8-from_is_utf8}
 use Rattle.std.proofs.lemmas.Bool.Decides.{nat_tests}
 use Rattle.sb_bus.specs.declared.said.Said.{Said}
-use Rattle.sb_bus.specs.declared.said.Said.TheVariants.{Blank, Faulty, Asked}
+use Rattle.sb_bus.specs.declared.said.Said.TheVariants.{Blank, Faulty}
 use Rattle.sb_bus.specs.Lines.{is_blank, said, said_of, max_line}
 use Rattle.sb_script.specs.Lines.{line_of}
 

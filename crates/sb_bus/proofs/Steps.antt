@@ -1,5 +1,5 @@
 -- What a step of a running node says of the machine.
-use Rattle.std.proofs.Common.{◌≡◌, ℕ, List, ◌∷◌, Bool, true, false, Option, Some, None, Result, Ok, Err, refl, sym, ◌∙◌, ap, subst}
+use Rattle.std.proofs.Common.{◌≡◌, ℕ, List, Bool, true, false, Option, Some, None, Result, Ok, Err, refl, sym, ◌∙◌, ap, subst}
 use Rattle.std.specs.Prelude.{if◌then◌else◌, is_some, is_err}
 use Rattle.sb_outside.specs.Streams.{Gains}
 use Rattle.sb_model.specs.Answers.{answer_of, state_of, moment_of}
@@ -13,8 +13,7 @@ use Rattle.sb_model.specs.declared.state.State.{State}
 use Rattle.sb_node.specs.Nodes.{IsStep}
 use Rattle.sb_script.specs.Replies.{answer_line}
 use Rattle.sb_bus.specs.declared.said.Said.TheVariants.{Asked}
-use Rattle.sb_bus.specs.declared.serve.AnswerKind.{AnswerKind}
-use Rattle.sb_bus.specs.declared.serve.AnswerKind.TheVariants.{Accepted, Refused, Failed, Wanting}
+use Rattle.sb_bus.specs.declared.serve.AnswerKind.TheVariants.{Accepted, Refused}
 use Rattle.sb_bus.specs.Runs.{kind_of, IsServed}
 
 refused_kind : (r : Refusal) → kind_of (Err r) ≡ Refused → is_fault (Err r) ≡ false

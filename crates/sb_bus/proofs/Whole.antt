@@ -1,13 +1,13 @@
 -- What a whole run leads to.
-use Rattle.std.proofs.Common.{◌≡◌, ℕ, List, [], ◌∷◌, Bool, true, false, Option, refl, sym, ◌∙◌, ap, subst}
+use Rattle.std.proofs.Common.{◌≡◌, ℕ, List, [], ◌∷◌, Bool, Option, refl, sym, ◌∙◌, ap, subst}
 use Rattle.std.specs.Prelude.{if◌then◌else◌, IsTrue}
 use Rattle.sb_outside.specs.declared.disk.Disk.{Ghosts}
 use Rattle.sb_journal.specs.declared.journal.Journal.{Journal}
 use Rattle.sb_journal.specs.Journals.{journal_disk_a}
 use Rattle.sb_journal.specs.Opened.{opened_alone}
 use Rattle.sb_journal.specs.declared.found.Side.TheVariants.{A}
-use Rattle.sb_model.specs.Answers.{answer_of, state_of, moment_of}
-use Rattle.sb_model.specs.History.{is_fault, entries_of, state_after}
+use Rattle.sb_model.specs.Answers.{state_of, moment_of}
+use Rattle.sb_model.specs.History.{entries_of, state_after}
 use Rattle.sb_model.specs.declared.state.State.{State}
 use Rattle.sb_model.proofs.Histories.{no_fault, answered_legally, answered_faultless}
 use Rattle.sb_node.specs.Nodes.{IsKept}
@@ -15,7 +15,7 @@ use Rattle.sb_node.specs.Recovery.{recovered, recovered_from, reached, Recovers}
 use Rattle.sb_bus.specs.declared.said.Said.{Said}
 use Rattle.sb_bus.specs.declared.said.Said.TheVariants.{Blank, Faulty, Asked}
 use Rattle.sb_bus.specs.Runs.{IsScriptRun, state_after_all, calls_in, said_in, status_by}
-use Rattle.sb_bus.specs.Tops.{Pair, pair_of, IsWholeRun}
+use Rattle.sb_bus.specs.Tops.{Pair, IsWholeRun}
 
 -- the state after all lines is the state after the calls among them
 led_to : (s : State) (ls : List Said) → state_after_all s ls ≡ state_after s (entries_of 0 s (calls_in ls))

@@ -1,5 +1,5 @@
 -- What is kept of a line that is being read, and what has been read of a source.
-use Rattle.std.specs.Prelude.{◌≡◌, ◌≢◌, ◌⊎◌, ◌<◌, ◌≤◌, ℕ, List, [], ◌∷◌, ◌++◌, length, Bool, true, false, ◌==◌, Option, Some, None}
+use Rattle.std.specs.Prelude.{◌≡◌, ◌≢◌, ◌<◌, ◌≤◌, ℕ, List, [], ◌∷◌, ◌++◌, length, false, ◌==◌, Option, Some, None}
 use Rattle.sb_bus.specs.Lines.{is_blank, max_line}
 use Rattle.sb_bus.specs.declared.front.Front.{Front}
 use Rattle.sb_bus.specs.declared.front.Front.TheVariants.{Short, Long}

@@ -1,5 +1,5 @@
 -- The lines of a text, and what each says.
-use Rattle.std.specs.Prelude.{◌≡◌, ℕ, List, [], ◌∷◌, ◌++◌, length, Bool, true, false, ◌==◌, ◌||◌, nat_lt, if◌then◌else◌, codes, Result, Ok, Err}
+use Rattle.std.specs.Prelude.{ℕ, List, [], ◌∷◌, length, Bool, ◌==◌, ◌||◌, nat_lt, if◌then◌else◌, codes, Result, Ok, Err}
 use Rattle.std.specs.List.{list_all}
 use Rattle.std.specs.Str.{is_utf8}
 use Rattle.sb_model.specs.declared.call.TimedCall.{TimedCall}

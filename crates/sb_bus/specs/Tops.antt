@@ -1,7 +1,6 @@
 -- What a whole call of the program does.
-use Rattle.std.specs.Prelude.{◌≡◌, ◌≤◌, ℕ, List, [], ◌∷◌, Bool, true, false, ◌&&◌, IsTrue, codes, bytes_eq, Option, Some, None, if◌then◌else◌}
+use Rattle.std.specs.Prelude.{◌≡◌, ℕ, List, [], ◌∷◌, Bool, ◌&&◌, IsTrue, codes, bytes_eq, Option, Some, None, if◌then◌else◌}
 use Rattle.sb_outside.specs.Streams.{Gains}
-use Rattle.sb_model.specs.Answers.{max_moment}
 use Rattle.sb_model.specs.History.{IsLegal, IsFaultless, entries_of, state_after}
 use Rattle.sb_model.specs.declared.state.State.{State}
 use Rattle.sb_node.specs.Recovery.{Recovered, recovered, damaged, Recovers}

@@ -1,4 +1,4 @@
-use Rattle.std.proofs.Common.{◌≡◌, arith, length-take}
+use Rattle.std.proofs.Common.{arith, length-take}
 use Rattle.sb_bus.proofs.Splits.{ended_of}
 use Rattle.sb_bus.proofs.reader.read_piece.Goals as goal
 

@@ -1,5 +1,5 @@
-use Rattle.std.proofs.Common.{◌≡◌, ◌≤◌, List, ℕ, Option, Some, arith, sym, ◌∙◌, ap, subst}
-use Rattle.sb_node.specs.Nodes.{node_state, node_journal, IsKept}
+use Rattle.std.proofs.Common.{◌≡◌, Option, arith, ◌∙◌, ap, subst}
+use Rattle.sb_node.specs.Nodes.{node_state}
 use Rattle.sb_bus.specs.declared.front.Front.{Front}
 use Rattle.sb_bus.specs.Readers.{Reads, pending_of}
 use Rattle.sb_bus.proofs.Advances.{runs_on, still_runs, is_over, state_by_early}

@@ -1,4 +1,4 @@
-use Rattle.std.proofs.Common.{◌≡◌, sym, ◌∙◌, ap}
+use Rattle.std.proofs.Common.{sym, ◌∙◌, ap}
 use Rattle.sb_bus.specs.declared.said.Said.TheVariants.{Faulty}
 use Rattle.sb_bus.proofs.Saying.{text_said, bytes_said}
 use Rattle.sb_bus.proofs.said.said_by_bytes.Goals as goal

@@ -1,4 +1,4 @@
-use Rattle.std.proofs.Common.{◌≡◌, sym, ◌∙◌, ap}
+use Rattle.std.proofs.Common.{sym}
 use Rattle.sb_node.specs.Nodes.{node_state, node_stopped}
 use Rattle.sb_bus.proofs.Steps.{accepted_answer, refused_answer, stepped, served}
 use Rattle.sb_bus.proofs.serve.serve_call.Goals as goal

@@ -1,6 +1,6 @@
-use Rattle.std.proofs.Common.{◌≡◌, ◌≤◌, ℕ, List, Bool, sym, ◌∙◌, ap, subst}
+use Rattle.std.proofs.Common.{ℕ, List, sym, subst}
 use Rattle.std.specs.Prelude.{IsTrue}
-use Rattle.sb_node.specs.Nodes.{node_state, node_journal, node_disk_a, node_disk_b, IsKept}
+use Rattle.sb_node.specs.Nodes.{node_state, node_journal}
 use Rattle.sb_node.specs.Recovery.{recovered, Recovers}
 use Rattle.sb_bus.specs.Tops.{pair_of}
 use Rattle.sb_bus.proofs.Whole.{kept_recovers, whole_run}

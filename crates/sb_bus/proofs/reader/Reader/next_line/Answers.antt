@@ -1,6 +1,5 @@
-use Rattle.std.proofs.Common.{◌≡◌, ◌+◌, ◌-◌, ◌<◌, ◌≤◌, ◌++◌, ℕ, List, Option, arith, sym, ◌∙◌, ap, subst, take, drop, length, refl, length-append, append_assoc, true, false}
+use Rattle.std.proofs.Common.{◌≡◌, ◌+◌, ◌++◌, ℕ, List, arith, sym, ◌∙◌, ap, subst, take, length, refl, length-append, append_assoc, true, false}
 use Rattle.std.specs.Bool.{OnFalse}
-use Rattle.sb_bus.specs.Fronts.{NoFeed, StandsFor, HasEnded}
 use Rattle.sb_bus.specs.Readers.{pending_of, work_of, IsAt}
 use Rattle.sb_bus.proofs.Splits.{took-ended}
 use Rattle.sb_bus.proofs.Readings.{same_at, line_found, line_ended, piece_at, piece_on, without_feed, start_pending, end_at}
