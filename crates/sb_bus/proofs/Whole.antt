@@ -12,6 +12,7 @@ use Rattle.sb_model.specs.declared.state.State.{State}
 use Rattle.sb_model.proofs.Histories.{no_fault, answered_legally, answered_faultless}
 use Rattle.sb_node.specs.Nodes.{IsKept}
 use Rattle.sb_node.specs.Recovery.{recovered, recovered_from, reached, Recovers}
+use Rattle.sb_node.proofs.Recovered.{recovers_consistent}
 use Rattle.sb_bus.specs.declared.said.Said.{Said}
 use Rattle.sb_bus.specs.declared.said.Said.TheVariants.{Blank, Faulty, Asked}
 use Rattle.sb_bus.specs.Runs.{IsScriptRun, state_after_all, calls_in, said_in, status_by}
@@ -37,6 +38,7 @@ pub whole_run : (honest : Bool) (disks after : Pair) (salt : ℕ) (left left_aft
 whole_run honest disks after salt left left_after told told_after status start end refused found run kept is = record {
   start = start;
   found = found;
+  consistent = λ true_disk. recovers_consistent disks.a disks.b salt start (found true_disk);
   input = run.input;
   took = run.took;
   ended = run.ended;

@@ -1,6 +1,7 @@
 -- What a whole call of the program does.
 use Rattle.std.specs.Prelude.{◌≡◌, ℕ, List, [], ◌∷◌, Bool, ◌&&◌, IsTrue, codes, bytes_eq, Option, Some, None, if◌then◌else◌}
 use Rattle.sb_outside.specs.Streams.{Gains}
+use Rattle.sb_model.specs.Consistent.{IsConsistent}
 use Rattle.sb_model.specs.History.{IsLegal, IsFaultless, entries_of, state_after}
 use Rattle.sb_model.specs.declared.state.State.{State}
 use Rattle.sb_node.specs.Recovery.{Recovered, recovered, damaged, Recovers}
@@ -25,11 +26,12 @@ pair_of a b = record { a = a; b = b }
 abbrev pub IsBroken : Recovered → Type 0
 IsBroken r = (side : Side) × (place : ℕ) × (r ≡ damaged side place)
 
--- A run that took all its input: from the state that the disks stood for, each line was answered by the machine, in
+-- A run that took all its input: from the state that the disks stood for, a consistent one, each line was answered by the machine, in
 -- order and no other; the history of its calls is legal, and its last state is what the disks stand for.
 pub record IsWholeRun (honest : Bool) (disks disks_after : Pair) (salt : ℕ) (left left_after told told_after : Option (List ℕ)) (status : ℕ) : Type 0 where
   pub start : State
   pub found : IsTrue honest → Recovers (recovered disks.a disks.b salt) start
+  pub consistent : IsTrue honest → IsConsistent start
   pub input : List ℕ
   pub took : Took left left_after input
   pub ended : HasEnded left left_after

@@ -8,3 +8,4 @@ pub mod Events
 pub mod Plans
 pub mod Gates
 pub mod Keeping
+pub mod Recovered

@@ -2,3 +2,4 @@ pub mod Queue
 pub mod Engine
 pub mod Recovery
 pub mod Nodes
+pub mod Laws

@@ -6,9 +6,11 @@
 
 mod engine;
 mod fields;
+mod laws;
 mod names;
 mod node;
 mod queue;
 mod replay;
 
+pub use laws::recovers_consistent;
 pub use node::Node;
