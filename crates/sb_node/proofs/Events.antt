@@ -160,16 +160,17 @@ path_spelled : (path : Path) → is_entity_path path ≡ true → IsPath path ×
 path_spelled path is =
     let parts = both _ _ is in
     let no_subscription = (both _ _ parts.0).0 in
-    let name = name_spelled path.name parts.1 in
-    (record { name = name.0; subscription = nothing_in path.subscription IsText no_subscription },
-     omega (
-       arith,
-       name.1,
-       length-sized path.name,
-       length-nothing sized path.subscription no_subscription,
-       length-append (optional sized path.subscription) (Rattle.sb_codec.specs.EventBytes.part_byte path.part ∷ []),
-       length-append (sized path.name) (optional sized path.subscription ++ Rattle.sb_codec.specs.EventBytes.part_byte path.part ∷ []),
-     ))
+    let name = name_spelled path.name parts.1 in (
+      record { name = name.0; subscription = nothing_in path.subscription IsText no_subscription },
+      omega (
+        arith,
+        name.1,
+        length-sized path.name,
+        length-nothing sized path.subscription no_subscription,
+        length-append (optional sized path.subscription) (Rattle.sb_codec.specs.EventBytes.part_byte path.part ∷ []),
+        length-append (sized path.name) (optional sized path.subscription ++ Rattle.sb_codec.specs.EventBytes.part_byte path.part ∷ []),
+      ),
+    )
 
 description_spelled : (d : Description) → bad_in_description d ≡ None → IsDescription d × (length (description_bytes d) ≤ 28)
 description_spelled d good =
@@ -191,33 +192,34 @@ description_spelled d good =
     let e4 = truth d.requires_session ++ e3 in
     let e5 = optional number32 d.window ++ e4 in
     let e6 = number32 d.max_delivery ++ e5 in
-    let e7 = optional number64 d.ttl ++ e6 in
-    (record {
-       lock = omega (arith, lock_is);
-       ttl = nothing_in d.ttl Is64 (unless_none _ _ ttl.0);
-       max_delivery = omega (arith, max_delivery_is);
-       window = nothing_in d.window Is32 (unless_none _ _ window.0);
-       forward_to = nothing_in d.forward_to IsText no_to;
-       forward_dead_to = nothing_in d.forward_dead_to IsText no_dead_to;
-     },
-     omega (
-       arith,
-       length-nothing sized d.forward_to no_to,
-       length-nothing sized d.forward_dead_to no_dead_to,
-       length-append (optional sized d.forward_to) (optional sized d.forward_dead_to),
-       length-truth d.dead_on_fault,
-       length-append (truth d.dead_on_fault) e1,
-       length-truth d.dead_on_expiry,
-       length-append (truth d.dead_on_expiry) e2,
-       length-truth d.requires_session,
-       length-append (truth d.requires_session) e3,
-       length-optional32 d.window,
-       length-append (optional number32 d.window) e4,
-       length-append (number32 d.max_delivery) e5,
-       length-optional64 d.ttl,
-       length-append (optional number64 d.ttl) e6,
-       length-append (number32 d.lock) e7,
-     ))
+    let e7 = optional number64 d.ttl ++ e6 in (
+      record {
+        lock = omega (arith, lock_is);
+        ttl = nothing_in d.ttl Is64 (unless_none _ _ ttl.0);
+        max_delivery = omega (arith, max_delivery_is);
+        window = nothing_in d.window Is32 (unless_none _ _ window.0);
+        forward_to = nothing_in d.forward_to IsText no_to;
+        forward_dead_to = nothing_in d.forward_dead_to IsText no_dead_to;
+      },
+      omega (
+        arith,
+        length-nothing sized d.forward_to no_to,
+        length-nothing sized d.forward_dead_to no_dead_to,
+        length-append (optional sized d.forward_to) (optional sized d.forward_dead_to),
+        length-truth d.dead_on_fault,
+        length-append (truth d.dead_on_fault) e1,
+        length-truth d.dead_on_expiry,
+        length-append (truth d.dead_on_expiry) e2,
+        length-truth d.requires_session,
+        length-append (truth d.requires_session) e3,
+        length-optional32 d.window,
+        length-append (optional number32 d.window) e4,
+        length-append (number32 d.max_delivery) e5,
+        length-optional64 d.ttl,
+        length-append (optional number64 d.ttl) e6,
+        length-append (number32 d.lock) e7,
+      ),
+    )
 
 -- an act that changes something can be journaled
 pub record IsShort (act : Act) : Type 0 where
@@ -305,12 +307,13 @@ call_spelled s t call fits moving =
     let tested = refused_move (bad_call (bad_field call)) (act_row s t call.act) moving in
     let good = first_none _ _ (no_key (bad_field call) tested.0) in
     let nobody = unless_none _ _ good.1 in
-    let act = act_spelled s t call.act good.0 tested.1 in
-    ((fits, nothing_in call.by IsBy nobody, act.spelled),
-     omega (
-       arith,
-       act.short,
-       length-nothing by_bytes call.by nobody,
-       length-append (optional by_bytes call.by) (act_bytes call.act),
-       length-append (number64 t) (optional by_bytes call.by ++ act_bytes call.act),
-     ))
+    let act = act_spelled s t call.act good.0 tested.1 in (
+      (fits, nothing_in call.by IsBy nobody, act.spelled),
+      omega (
+        arith,
+        act.short,
+        length-nothing by_bytes call.by nobody,
+        length-append (optional by_bytes call.by) (act_bytes call.act),
+        length-append (number64 t) (optional by_bytes call.by ++ act_bytes call.act),
+      ),
+    )

@@ -1,6 +1,6 @@
 // Carrying out again what a journal says.
 ghost use Rattle.std.specs.Bool.{MatchBool};
-ghost use Rattle.std.specs.Prelude.{◌≡◌, ◌+◌, ◌^◌, ◌<◌, ◌≤◌, ℕ, List, length, Some, None, IfOk, IfErr, OnOk};
+ghost use Rattle.std.specs.Prelude.{◌≡◌, ◌^◌, ◌<◌, ℕ, Some, None, IfOk, IfErr, OnOk};
 ghost use Rattle.sb_codec.specs.Reading.{read_event};
 ghost use Rattle.sb_model.specs.declared.call.Event.TheVariants.{Called};
 ghost use Rattle.sb_journal.specs.Text.{gate_after};
@@ -58,7 +58,12 @@ fn take_payload(alloc: Global, engine: &mut Engine, payload: &[u8]) -> Result<bo
 }
 
 /// Carries these payloads out, one after another; `place` is that of the first one's gate.
-pub fn replay_all(alloc: Global, engine: &mut Engine, place: u64, payloads: &[Bytes]) -> Result<(), ReplayFault>
+pub fn replay_all(
+    alloc: Global,
+    engine: &mut Engine,
+    place: u64,
+    payloads: &[Bytes],
+) -> Result<(), ReplayFault>
     requires { gate_after place payloads.now < 2 ^ 64 }
     ensures ok { OnOk result (replay (engine_state engine.old) place payloads.now ≡ reaches (engine_state engine.new)) }
     ensures broken { IfErr result (λ e. (n : ℕ) → e ≡ NoEvent n → replay (engine_state engine.old) place payloads.now ≡ breaks n) }
