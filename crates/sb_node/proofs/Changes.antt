@@ -1,5 +1,5 @@
 -- A queue changed in its place.
-use Rattle.std.proofs.Common.{◌≡◌, ℕ, zero, suc, ◌+◌, ◌<◌, ◌≤◌, List, [], ◌∷◌, ◌++◌, length, get_or, map, slice_set, Option, Some, None, Result, Ok, Err, refl, sym, ◌∙◌, ap, subst, arith}
+use Rattle.std.proofs.Common.{◌≡◌, ℕ, zero, suc, ◌<◌, List, [], ◌∷◌, length, get_or, slice_set, Option, Some, Result, Ok, Err, refl, sym, ◌∙◌, ap, subst, arith}
 use Rattle.std.specs.Option.{IfSome}
 use Rattle.std.specs.Result.{OnOk}
 use Rattle.std.specs.List.{slice_get}
@@ -10,7 +10,7 @@ use Rattle.sb_model.specs.declared.state.Entity.{Entity}
 use Rattle.sb_model.specs.declared.state.StoredCopy.{StoredCopy}
 use Rattle.sb_node.specs.declared.queue.Queue.{Queue}
 use Rattle.sb_node.specs.Queue.{entity_of, entities_of}
-use Rattle.sb_node.specs.Engine.{IsTaken, with_more}
+use Rattle.sb_node.specs.Engine.{IsTaken}
 use Rattle.sb_node.proofs.Rows.{entity_at}
 
 -- another queue that is the same entity

@@ -1,16 +1,15 @@
 -- What is journaled: a call that changes the state has a spelling, and a short one.
-use Rattle.std.proofs.Common.{◌≡◌, ◌≢◌, ℕ, zero, suc, ◌+◌, ◌*◌, ◌-◌, ◌^◌, ◌<◌, ◌≤◌, List, [], ◌∷◌, ◌++◌, length, nat_le, nat_lt, Bool, true, false, ◌&&◌, ◌==◌, not, Option, Some, None, refl, sym, ◌∙◌, ap, arith, length-append, rules, w32, w64, lit<, subst}
-use Rattle.std.specs.Prelude.{if◌then◌else◌, sum_by, is_none, is_some, IfSome, codes}
+use Rattle.std.proofs.Common.{◌≡◌, ℕ, zero, suc, ◌+◌, ◌*◌, ◌^◌, ◌<◌, ◌≤◌, List, [], ◌∷◌, ◌++◌, length, nat_le, Bool, true, false, ◌&&◌, ◌==◌, not, Option, Some, None, refl, sym, ap, arith, length-append, w32, lit<, subst}
+use Rattle.std.specs.Prelude.{if◌then◌else◌, is_none, is_some, IfSome, codes}
 use Rattle.std.specs.List.{AllByRecursion, list_all, flat_map}
-use Rattle.std.specs.Str.{IsUtf8, IsAscii}
+use Rattle.std.specs.Str.{IsAscii}
 use Rattle.std.specs.Int.{to_be_bytes}
 use Rattle.std.proofs.lemmas.Str.{IsUtf8-from_ascii}
 use Rattle.std.proofs.lemmas.Bool.{eqb-true}
 use Rattle.std.proofs.lemmas.Bool.Decides.{nat_tests}
 use Rattle.std.proofs.lemmas.List.Sums.{sum_by-cons}
-use Rattle.std.proofs.lemmas.Grind.{common_steps}
-use Rattle.sb_model.specs.Names.{is_name, is_name_byte, is_entity_path, is_main}
-use Rattle.sb_model.specs.Fields.{first_some, unless, bad_field, bad_in_act, bad_in_send, bad_in_receive, bad_in_message, bad_in_messages, bad_in_description}
+use Rattle.sb_model.specs.Names.{is_name, is_name_byte, is_entity_path}
+use Rattle.sb_model.specs.Fields.{unless, bad_field, bad_in_act, bad_in_send, bad_in_receive, bad_in_message, bad_in_messages, bad_in_description}
 use Rattle.sb_model.specs.Answers.{Row, refuses, stays, moves, is_move, row_of, act_row, create_row, send_row, receive_row, peek_row, on_entity, asks, refused_by, bad_call, large_body, large_size, body_bytes, too_large}
 use Rattle.sb_model.specs.declared.call.Act.{Act}
 use Rattle.sb_model.specs.declared.call.Act.TheVariants.{CreateQueue, Send, Receive, Peek}

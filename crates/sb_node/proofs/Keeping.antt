@@ -1,10 +1,10 @@
 -- A journal that holds the state, before and after a step.
-use Rattle.std.proofs.Common.{◌≡◌, ◌≤◌, ℕ, List, ◌∷◌, [], ◌++◌, Option, Some, None, refl, sym, ◌∙◌, ap, subst, true, false}
+use Rattle.std.proofs.Common.{◌≡◌, ◌≤◌, ℕ, Option, Some, None, refl, sym, ◌∙◌, ap, subst, true, false}
 use Rattle.sb_outside.specs.declared.disk.Disk.{Ghosts}
 use Rattle.sb_journal.specs.declared.journal.Journal.{Journal}
 use Rattle.sb_journal.specs.Text.{File}
-use Rattle.sb_journal.specs.Journals.{IsSettled, journal_disk_a}
-use Rattle.sb_model.specs.Answers.{Row, state_in, row_of, max_moment}
+use Rattle.sb_journal.specs.Journals.{journal_disk_a}
+use Rattle.sb_model.specs.Answers.{state_in, row_of}
 use Rattle.sb_model.specs.Namespace.{empty_state}
 use Rattle.sb_model.specs.declared.call.Call.{Call}
 use Rattle.sb_model.specs.declared.call.Event.TheVariants.{Called}
@@ -14,7 +14,6 @@ use Rattle.sb_model.specs.declared.state.State.{State}
 use Rattle.sb_codec.specs.Reading.{read_event}
 use Rattle.sb_node.specs.declared.engine.Plan.{Plan}
 use Rattle.sb_node.specs.declared.engine.Plan.TheVariants.{Answers, Creates, Sends, Receives}
-use Rattle.sb_node.specs.declared.node.Node.{Node}
 use Rattle.sb_node.specs.Engine.{planned, is_change, IsFitting}
 use Rattle.sb_node.specs.Recovery.{next_state, moved, first_gate}
 use Rattle.sb_node.specs.Nodes.{IsKept, IsLogged, IsUnrecorded}

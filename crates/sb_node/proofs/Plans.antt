@@ -1,10 +1,9 @@
 -- What a plan that fits does.
-use Rattle.std.proofs.Common.{◌≡◌, ℕ, zero, suc, ◌+◌, ◌<◌, ◌≤◌, List, [], ◌∷◌, length, nat_le, Bool, true, false, ◌&&◌, Option, Some, None, refl, sym, ◌∙◌, ap, subst, arith, slice_set}
+use Rattle.std.proofs.Common.{◌≡◌, ℕ, zero, suc, ◌<◌, ◌≤◌, List, [], ◌∷◌, length, nat_le, Bool, true, false, ◌&&◌, Option, Some, None, refl, sym, ap, subst, arith, slice_set}
 use Rattle.std.specs.Prelude.{if◌then◌else◌, IfSome}
 use Rattle.std.specs.List.{slice_get}
 use Rattle.std.proofs.lemmas.Bool.Decides.{nat_tests}
-use Rattle.sb_model.specs.Answers.{Row, refuses, stays, moves, is_move, state_in, row_of, max_moment, with_copies}
-use Rattle.sb_model.specs.declared.call.Call.{Call}
+use Rattle.sb_model.specs.Answers.{Row, refuses, stays, moves, is_move, state_in, max_moment}
 use Rattle.sb_model.specs.declared.reply.Reply.TheVariants.{Sent, Empty}
 use Rattle.sb_model.specs.declared.state.State.{State}
 use Rattle.sb_model.specs.declared.state.Entity.{Entity}
@@ -13,7 +12,7 @@ use Rattle.sb_node.specs.declared.engine.Plan.{Plan}
 use Rattle.sb_node.specs.declared.engine.Plan.TheVariants.{Answers, Creates, Sends, Receives}
 use Rattle.sb_node.specs.declared.engine.Engine.{Engine}
 use Rattle.sb_node.specs.Engine.{planned, first_taken, is_change, IsFitting, HasRoom, with_more}
-use Rattle.sb_node.specs.Recovery.{moved, next_state}
+use Rattle.sb_node.specs.Recovery.{moved}
 
 element : {X : Type 0} (xs : List X) (i : ℕ) → i < length xs → (x : X) × (slice_get xs i ≡ Some x)
 element [] i here = absurd (omega arith)

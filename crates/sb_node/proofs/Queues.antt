@@ -1,7 +1,7 @@
 -- Steps over the copies, the messages and the numbers of queues.
-use Rattle.std.proofs.Common.{◌≡◌, ℕ, zero, suc, ◌+◌, ◌-◌, ◌^◌, ◌<◌, ◌≤◌, List, [], ◌∷◌, ◌++◌, length, get_or, take, drop, filter, map, min, nat_le, Bool, true, false, cond, refl, sym, ◌∙◌, ap, subst, arith, append_assoc, add-one}
+use Rattle.std.proofs.Common.{◌≡◌, ℕ, suc, ◌+◌, ◌-◌, ◌^◌, ◌<◌, ◌≤◌, List, [], ◌∷◌, ◌++◌, length, get_or, take, drop, filter, map, min, nat_le, Bool, true, false, cond, refl, sym, ◌∙◌, ap, arith, append_assoc, add-one}
 use Rattle.std.specs.Prelude.{sum_by}
-use Rattle.std.proofs.lemmas.List.{drop_more, drop_all, append-nil}
+use Rattle.std.proofs.lemmas.List.{drop_more, drop_all}
 use Rattle.std.proofs.lemmas.List.Folds.{fold-map}
 use Rattle.std.proofs.lemmas.Bool.Decides.{nat_tests}
 use Rattle.sb_model.specs.Answers.{copies_of, receipts_of, peeked, shown}

@@ -1,20 +1,19 @@
 -- What the machine's rows come to, once each test has passed.
-use Rattle.std.proofs.Common.{◌≡◌, ℕ, zero, suc, ◌+◌, ◌-◌, ◌^◌, ◌<◌, ◌≤◌, List, [], ◌∷◌, ◌++◌, length, get_or, map, min, nat_le, Bool, true, false, ◌==◌, bytes_eq, position, slice_set, Option, Some, None, refl, sym, ◌∙◌, ap, subst, arith}
-use Rattle.std.specs.Prelude.{if◌then◌else◌, sum_by}
+use Rattle.std.proofs.Common.{◌≡◌, ℕ, zero, suc, ◌+◌, ◌<◌, ◌≤◌, List, [], ◌∷◌, ◌++◌, length, get_or, nat_le, Bool, true, false, ◌==◌, bytes_eq, position, slice_set, Option, Some, None, refl, sym, ◌∙◌, ap, arith}
+use Rattle.std.specs.Prelude.{sum_by}
 use Rattle.std.specs.Option.{IfSome}
 use Rattle.std.specs.List.{slice_get}
 use Rattle.std.proofs.lemmas.Bool.Decides.{nat_tests}
-use Rattle.std.proofs.lemmas.List.{length-map}
 use Rattle.std.proofs.lemmas.List.Sums.{sum_by-cons}
 use Rattle.std.proofs.lemmas.Option.{slice_get-map, slice_get_read}
 use Rattle.sb_model.specs.Names.{is_entity_path}
 use Rattle.sb_model.specs.Namespace.{entity_named, with_entity, numbers_made, made_in}
-use Rattle.sb_model.specs.Answers.{Row, refuses, stays, moves, on_entity, asks, refused_by, send_row, sent, large_size, too_large, with_messages, copies_of, receipts_of}
+use Rattle.sb_model.specs.Answers.{Row, refuses, moves, on_entity, asks, refused_by, send_row, sent, large_size, too_large, with_messages, copies_of, receipts_of}
 use Rattle.sb_model.specs.declared.call.Path.{Path}
 use Rattle.sb_model.specs.declared.message.Message.{Message}
 use Rattle.sb_model.specs.declared.reply.Refusal.{Refusal}
 use Rattle.sb_model.specs.declared.reply.Refusal.TheVariants.{BadName, EntityNotFound, Exhausted, TooLarge}
-use Rattle.sb_model.specs.declared.reply.Reply.TheVariants.{Sent, Empty}
+use Rattle.sb_model.specs.declared.reply.Reply.TheVariants.{Sent}
 use Rattle.sb_model.specs.declared.reply.Receipt.{Receipt}
 use Rattle.sb_model.specs.declared.state.State.{State}
 use Rattle.sb_model.specs.declared.state.Entity.{Entity}

@@ -1,5 +1,5 @@
 -- What contracts say of a node: the state that it holds, and what its journal says of it.
-use Rattle.std.specs.Prelude.{◌≡◌, ℕ, Bool, true, false, if◌then◌else◌, List, Option, Some, None, is_some, IsTrue}
+use Rattle.std.specs.Prelude.{◌≡◌, ℕ, Bool, true, if◌then◌else◌, List, Option, Some}
 use Rattle.sb_outside.specs.declared.disk.Disk.{Ghosts}
 use Rattle.sb_outside.specs.Causes.{Rose}
 use Rattle.sb_codec.specs.Reading.{read_event}

@@ -1,5 +1,5 @@
 -- What a journal stands for: the state that its events lead to, or where it is damaged.
-use Rattle.std.specs.Prelude.{◌≡◌, ℕ, ◌+◌, ◌-◌, ◌&&◌, List, [], ◌∷◌, length, Bool, true, false, nat_le, if◌then◌else◌, Option, Some, None}
+use Rattle.std.specs.Prelude.{◌≡◌, ℕ, ◌+◌, ◌-◌, ◌&&◌, List, [], ◌∷◌, length, nat_le, if◌then◌else◌, Option, Some, None}
 use Rattle.sb_model.specs.Namespace.{empty_state}
 use Rattle.sb_model.specs.Answers.{Row, refuses, stays, moves, row_of, max_moment}
 use Rattle.sb_model.specs.declared.call.Event.{Event}

@@ -1,13 +1,11 @@
 // The namespace in memory: what a call would do, the room for it, and doing it.
-ghost use Rattle.std.specs.Prelude.{◌≡◌, ◌≢◌, ◌+◌, ◌-◌, ◌^◌, ◌<◌, ◌≤◌, ◌++◌, [], ◌∷◌, ℕ, List, length, min, sum_by, nat_le, IfOk, IfErr, IfSome, IfNone, OnOk, OnErr, IsTrue, Some, None, Ok, Err, vec_len, vec_capacity, option_map, slice_get, slice_set, ◌⊎◌};
+ghost use Rattle.std.specs.Prelude.{◌≡◌, ◌≢◌, ◌+◌, ◌^◌, ◌<◌, ◌≤◌, ◌∷◌, length, IfOk, IfErr, IfSome, OnOk, None, Ok, slice_get, slice_set, ◌⊎◌};
 ghost use Rattle.sb_model.specs.Answers as machine;
 ghost use Rattle.sb_model.specs.Answers.{with_copies};
 ghost use Rattle.sb_model.specs.Fields.{bad_in_act};
-ghost use Rattle.sb_model.specs.declared.state.StoredCopy.{StoredCopy};
 ghost use Rattle.std.specs.VecDeque.{deque_len, deque_capacity};
-ghost use Rattle.sb_model.specs.Namespace.{numbers_made, made_in, empty_state, entity_named, entity_path, new_entity};
-ghost use Rattle.sb_model.specs.declared.call.Act.TheVariants.{CreateQueue, Send, Receive, Peek};
-ghost use Rattle.sb_model.specs.declared.reply.Refusal.TheVariants.{OutOfMemory, TooLarge, BadCall};
+ghost use Rattle.sb_model.specs.Namespace.{empty_state, entity_path, new_entity};
+ghost use Rattle.sb_model.specs.declared.reply.Refusal.TheVariants.{OutOfMemory, BadCall};
 ghost use Rattle.sb_node.specs.Queue.{entity_of, entities_of};
 ghost use Rattle.sb_node.specs.Engine.{engine_state, is_change, planned, HasRoom, IsFitting, IsPlannedRefusal, with_more, IsTaken};
 

@@ -1,11 +1,11 @@
 // The node: a namespace whose every change is in its journal before it is answered.
-ghost use Rattle.std.specs.Prelude.{◌≡◌, ◌≢◌, ◌≤◌, ◌<◌, ◌+◌, ◌^◌, ℕ, Some, None, Ok, Err, is_some, IsTrue, true, IfOk, IfErr, OnOk, OnErr, length};
+ghost use Rattle.std.specs.Prelude.{◌≡◌, ◌≤◌, ℕ, Some, None, Err, is_some, IsTrue, true, IfOk, IfErr, OnOk};
 ghost use Rattle.std.specs.Result.{MatchResult};
 ghost use Rattle.sb_outside.specs.Causes.{Rose};
 ghost use Rattle.sb_journal.specs.Journals.{journal_disk_a, journal_disk_b};
 ghost use Rattle.sb_journal.specs.declared.found.Side.{Side};
 ghost use Rattle.sb_model.specs.History.{answered};
-ghost use Rattle.sb_model.specs.declared.reply.Refusal.TheVariants.{DiskFault, Stopped, OutOfMemory};
+ghost use Rattle.sb_model.specs.declared.reply.Refusal.TheVariants.{DiskFault, Stopped};
 
 use crate::engine::{Engine, Plan};
 use crate::replay::{MAX_MOMENT, ReplayFault, replay_all};
@@ -45,7 +45,7 @@ fn closed<D: Disk>(journal: Journal<D>, why: OpenWhy) -> OpenFault<D>
 impl<D: Disk> Node<D> {
     ghost use Rattle.sb_node.specs.Nodes.{node_state, node_stopped, node_journal, node_disk_a, node_disk_b, IsKept, IsStep, IsLogged, IsUnrecorded};
     ghost use Rattle.sb_node.specs.Recovery.{recovered, damaged, Recovers};
-    ghost use Rattle.sb_node.specs.Engine.{engine_state, planned, is_change, HasRoom, IsFitting};
+    ghost use Rattle.sb_node.specs.Engine.{planned, is_change, HasRoom, IsFitting};
     ghost use Rattle.sb_model.specs.Answers.{row_of, max_moment};
     ghost use Rattle.sb_model.specs.declared.call.Event.TheVariants.{Called};
     ghost use Rattle.sb_journal.specs.Text.{File};

@@ -1,11 +1,10 @@
 // A queue in memory: its copies stand in a ring, so that taking the first moves no other.
-ghost use Rattle.std.specs.Prelude.{◌≡◌, ◌≢◌, ◌+◌, ◌<◌, ◌≤◌, ◌-◌, ◌^◌, ◌++◌, [], ◌∷◌, ℕ, List, length, min, sum_by, None, IfOk, IfSome, IfNone, OnOk, OnErr, Some, bytes_eq, position, map, slice_get, drop};
-ghost use Rattle.std.specs.VecDeque.{deque_len, deque_capacity};
+ghost use Rattle.std.specs.Prelude.{◌≡◌, ◌+◌, ◌<◌, ◌-◌, ◌^◌, length, min, sum_by, None, IfOk, IfSome, IfNone, bytes_eq, position, slice_get};
 ghost use Rattle.sb_model.specs.Answers.{peeked, copies_of, receipts_of, shown};
 ghost use Rattle.sb_model.specs.Namespace.{entity_named, made_in};
 ghost use Rattle.sb_model.specs.declared.reply.Showing.TheVariants.{Removed, Browsed};
 ghost use Rattle.sb_model.specs.declared.reply.CopyState.TheVariants.{Ready};
-ghost use Rattle.sb_node.specs.Queue.{entity_of, entities_of};
+ghost use Rattle.sb_node.specs.Queue.{entities_of};
 
 use sb_model::{CopyShown, CopyState, Description, Message, Path, Receipt, Showing, StoredCopy};
 use std::alloc::{AllocError, Global};

@@ -1,6 +1,6 @@
 // Carrying out again what a journal says.
 ghost use Rattle.std.specs.Bool.{MatchBool};
-ghost use Rattle.std.specs.Prelude.{◌≡◌, ◌+◌, ◌^◌, ◌<◌, ◌≤◌, ℕ, List, length, Some, None, IfOk, IfErr, OnOk};
+ghost use Rattle.std.specs.Prelude.{◌≡◌, ◌^◌, ◌<◌, ℕ, Some, None, IfOk, IfErr, OnOk};
 ghost use Rattle.sb_codec.specs.Reading.{read_event};
 ghost use Rattle.sb_model.specs.declared.call.Event.TheVariants.{Called};
 ghost use Rattle.sb_journal.specs.Text.{gate_after};

@@ -1,4 +1,3 @@
-use Rattle.std.proofs.Common.{arith, rules}
 use Rattle.sb_node.proofs.Changes.{taken_at}
 use Rattle.sb_node.proofs.engine.receive_at.Goals as goal
 

@@ -1,4 +1,3 @@
-use Rattle.std.proofs.Common.{arith, rules}
 use Rattle.sb_node.specs.Engine.{with_more}
 use Rattle.sb_node.proofs.Changes.{changed_at}
 use Rattle.sb_node.proofs.engine.send_at.Goals as goal

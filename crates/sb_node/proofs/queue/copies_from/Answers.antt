@@ -1,7 +1,4 @@
-use Rattle.std.proofs.Common.{arith, ◌≡◌, ◌++◌, ◌∷◌, [], ◌+◌, List, subst, sym, drop, rules}
-use Rattle.sb_model.specs.Answers.{copies_of, receipts_of}
-use Rattle.sb_model.specs.declared.state.StoredCopy.{StoredCopy}
-use Rattle.sb_model.specs.declared.reply.Receipt.{Receipt}
+use Rattle.std.proofs.Common.{arith}
 use Rattle.sb_node.proofs.Queues.{copies_step, receipts_step}
 use Rattle.sb_node.proofs.queue.copies_from.Goals as goal
 

@@ -1,4 +1,4 @@
-use Rattle.std.proofs.Common.{arith, ◌∙◌, ap, min, ◌-◌, ◌^◌, sym}
+use Rattle.std.proofs.Common.{◌∙◌, ap, min, ◌-◌, ◌^◌, sym}
 use Rattle.sb_model.specs.Namespace.{made_in}
 use Rattle.sb_node.specs.Queue.{entity_of}
 use Rattle.sb_node.proofs.Queues.{summed, sum_by-map}

@@ -1,7 +1,7 @@
 use Rattle.std.proofs.Common.{◌≡◌, ◌≤◌, ◌+◌, ◌-◌, ◌^◌, min, drop}
 use Rattle.std.specs.Prelude.{sum_by}
 use Rattle.sb_model.specs.Namespace.{made_in}
-use Rattle.sb_node.specs.Queue.{entity_of, entities_of}
+use Rattle.sb_node.specs.Queue.{entity_of}
 use Rattle.sb_node.proofs.queue.made.Given as goal
 
 -- the sum so far and what is left give the whole, up to the bound

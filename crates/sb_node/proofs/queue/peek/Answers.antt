@@ -1,6 +1,4 @@
-use Rattle.std.proofs.Common.{◌≡◌, ◌++◌, ◌∷◌, [], ◌+◌, List, subst, sym, ◌∙◌, ap, drop, arith, rules}
-use Rattle.sb_model.specs.Answers.{peeked}
-use Rattle.sb_model.specs.declared.reply.CopyShown.{CopyShown}
+use Rattle.std.proofs.Common.{◌≡◌, ◌++◌, ◌∷◌, [], ◌∙◌, ap, arith}
 use Rattle.sb_node.proofs.Queues.{see, seen_one, seen_none}
 use Rattle.sb_node.proofs.queue.peek.Goals as goal
 use Rattle.sb_node.proofs.queue.peek.Goals.{then-copy-start+in_ok-browsed+in_ok-push, else-copy-start}

@@ -1,4 +1,4 @@
-use Rattle.std.proofs.Common.{◌≡◌, ℕ, ◌∙◌, sym, List, bytes_eq, position, Option, Some, None, map}
+use Rattle.std.proofs.Common.{◌≡◌, ℕ, ◌∙◌, sym, List, bytes_eq, position, Option, Some, None}
 use Rattle.std.specs.Option.{IfSome, IfNone}
 use Rattle.std.specs.List.{slice_get}
 use Rattle.sb_model.specs.Namespace.{entity_named}

@@ -1,5 +1,5 @@
-use Rattle.std.proofs.Common.{arith, ◌≡◌, ◌<◌, ◌+◌, ◌^◌, get_or, length, drop, sym, ◌∙◌, ap}
-use Rattle.sb_node.proofs.Gates.{next_gate, gate_after_on, one_taken, one_refused}
+use Rattle.std.proofs.Common.{arith, ◌≡◌, ◌+◌, ◌^◌, length, drop, ap}
+use Rattle.sb_node.proofs.Gates.{next_gate, gate_after_on}
 use Rattle.sb_node.proofs.replay.replay_all.Goals as goal
 
 pub overflow_add-gate-in-Ok-true : goal.overflow_add-gate-in-Ok-true

@@ -1,4 +1,4 @@
-use Rattle.std.proofs.Common.{◌≡◌, ◌≤◌, sym, ◌∙◌, ap, Some, true, arith, rules}
+use Rattle.std.proofs.Common.{◌≡◌, ◌≤◌, sym, ◌∙◌, ap, Some, true, arith}
 use Rattle.sb_model.specs.Answers.{state_in, row_of}
 use Rattle.sb_model.specs.declared.state.State.{State}
 use Rattle.sb_node.specs.Engine.{engine_state, is_change, planned}

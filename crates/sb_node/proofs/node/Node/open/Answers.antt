@@ -4,7 +4,7 @@ use Rattle.sb_journal.specs.Text.{File}
 use Rattle.sb_model.specs.Namespace.{empty_state}
 use Rattle.sb_model.specs.declared.state.State.{State}
 use Rattle.sb_node.specs.Engine.{engine_state}
-use Rattle.sb_node.specs.Recovery.{recovered_from, reached, replay, reaches, Replayed, first_gate}
+use Rattle.sb_node.specs.Recovery.{recovered_from, reached, replay, reaches, first_gate}
 use Rattle.sb_node.proofs.Gates.{replay_early}
 use Rattle.sb_node.proofs.node.Node.open.Goals as goal
 

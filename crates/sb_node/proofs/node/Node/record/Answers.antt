@@ -1,4 +1,4 @@
-use Rattle.std.proofs.Common.{arith, rules, ◌≡◌, ◌≤◌, true, sym, ◌∙◌, ap, length, subst, List, ℕ, ◌++◌}
+use Rattle.std.proofs.Common.{arith, ◌≡◌, ◌≤◌, true, sym, ◌∙◌, ap, length, subst, List, ℕ, ◌++◌}
 use Rattle.sb_model.specs.Answers.{is_move, row_of}
 use Rattle.sb_model.specs.declared.call.Event.TheVariants.{Called}
 use Rattle.sb_codec.specs.EventBytes.{event_bytes}

@@ -1,4 +1,4 @@
-use Rattle.std.proofs.Common.{arith, rules, ◌≡◌, ◌≤◌, true, sym, ◌∙◌, ap, length, ℕ, max}
+use Rattle.std.proofs.Common.{arith, ◌≡◌, ◌≤◌, true, sym, ◌∙◌, ap, ℕ, max}
 use Rattle.sb_model.specs.Answers.{state_in}
 use Rattle.sb_model.specs.declared.state.State.{State}
 use Rattle.sb_node.specs.Engine.{engine_state, planned, is_change}
