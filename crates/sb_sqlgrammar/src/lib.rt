@@ -9,5 +9,5 @@
 mod laws;
 mod token;
 
-pub use laws::{worked_readings};
+pub use laws::{reading_actions_is_exact, reading_filters_is_exact, worked_readings};
 pub use token::{Kind, Role};
