@@ -1,5 +1,5 @@
 -- Trees without where they lie in memory.
-use Rattle.std.specs.Prelude.{Bool, List, [], ◌∷◌}
+use Rattle.std.specs.Prelude.{Bool, List, map}
 use Rattle.sb_model.specs.declared.message.PropertyValue.{PropertyValue}
 use Rattle.sb_model.specs.declared.expression.PropertyName.{PropertyName}
 use Rattle.sb_model.specs.declared.expression.UnaryOperator.{UnaryOperator}
@@ -49,5 +49,4 @@ change_of (Set n x) = setting n (term_of x)
 change_of (Remove n) = removing n
 
 abbrev pub changes_of : List Statement → List Change
-changes_of [] = []
-changes_of (s ∷ ss) = change_of s ∷ changes_of ss
+changes_of = map change_of
