@@ -1,7 +1,7 @@
 //! SQL filters and actions from text to tree (Microsoft Learn, Service Bus, "SQL filter syntax").
 #![tactic(auto)]
 
-
+mod expressions;
 mod missed;
 mod names;
 mod steps;

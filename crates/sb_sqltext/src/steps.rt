@@ -6,10 +6,9 @@ ghost use Rattle.sb_sqlgrammar.specs.Language.{binding, operator_at, is_comma};
 ghost use Rattle.sb_sqltext.specs.Answers.{Reads, IsOver};
 ghost use Rattle.sb_sqlgrammar.specs.Reading as reading;
 ghost use Rattle.sb_sqlgrammar.specs.Readers as readers;
-ghost use Rattle.sb_sqlgrammar.specs.Language as language;
 
 use crate::Missed;
-use sb_model::{BinaryOperator, Expression, UnaryOperator};
+use sb_model::{BinaryOperator, Expression};
 use sb_sqlgrammar::Kind;
 
 /// How tight an operator binds its operands; at 3 stand the comparisons.
@@ -85,16 +84,5 @@ pub(crate) fn null<'a>(
     match tokens {
         [Kind::Null, rest @ ..] => Ok((tree, rest)),
         _ => Err(Missed::Here(tokens)),
-    }
-}
-
-/// What an operator means before an operand, if it may stand there.
-pub(crate) fn sign_of(operator: BinaryOperator) -> Option<UnaryOperator>
-    ensures { result ≡ language.sign_of operator }
-{
-    match operator {
-        BinaryOperator::Add => Some(UnaryOperator::Plus),
-        BinaryOperator::Subtract => Some(UnaryOperator::Minus),
-        _ => None,
     }
 }
