@@ -1,0 +1,9 @@
+//! The tokens of SQL filters and actions (Microsoft Learn, Service Bus, "SQL filter syntax"):
+//! at each place the longest, with the place in bytes at which it ends.
+#![tactic(auto)]
+
+mod bytes;
+mod numbers;
+mod quotes;
+mod symbols;
+mod words;

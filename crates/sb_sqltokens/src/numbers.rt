@@ -1,0 +1,33 @@
+// Whole numbers.
+ghost use Rattle.std.specs.Prelude.{◌≡◌, IfSome, IfNone, [], ◌∷◌};
+ghost use Rattle.sb_sqltokens.specs.Tokens as tokens;
+
+/// The greatest number that may be written: 2^63 - 1.
+const GREATEST: u64 = 9_223_372_036_854_775_807;
+
+pub(crate) fn first_of(bytes: &[u8]) -> Option<(u8, &[u8])>
+    ensures some { IfSome result (λ x. bytes.now ≡ x.0 ∷ x.1.now) }
+    ensures none { IfNone result (bytes.now ≡ []) }
+{
+    match bytes {
+        [first, rest @ ..] => Some((*first, rest)),
+        [] => None,
+    }
+}
+
+/// The number that these digits spell, if it is at most 2^63 - 1.
+pub(crate) fn number_of(digits: &[u8]) -> Option<i64>
+    ensures { result ≡ tokens.number_of digits.now }
+{
+    let mut value: u64 = 0;
+    let mut rest = digits;
+    'digits: while let Some((first, behind)) = first_of(rest) {
+        let digit = first.saturating_sub(b'0') as u64;
+        if value > (GREATEST - digit) / 10 {
+            return None;
+        }
+        value = 10 * value + digit;
+        rest = behind;
+    }
+    Some(value as i64)
+}
