@@ -84,18 +84,31 @@ symbol_kind b =
 abbrev pub followed : List ℕ → Option Kind → Option (Kind × List ℕ)
 followed rest = option_map (λ k. (k, rest))
 
+abbrev pub pair_at : List ℕ → Option (Kind × List ℕ)
+pair_at (a ∷ b ∷ rest) = followed rest (pair_kind a b)
+pair_at _ = None
+
+abbrev pub single_at : List ℕ → Option (Kind × List ℕ)
+single_at (a ∷ rest) = followed rest (symbol_kind a)
+single_at [] = None
+
 abbrev pub symbol_at : List ℕ → Option (Kind × List ℕ)
-symbol_at [] = None
-symbol_at (a ∷ []) = followed [] (symbol_kind a)
-symbol_at (a ∷ b ∷ rest) = or_else (followed rest (pair_kind a b)) (followed (b ∷ rest) (symbol_kind a))
+symbol_at bytes = or_else (pair_at bytes) (single_at bytes)
+
+-- behind an opening single quote; behind an opening double quote or bracket, up to its closing one
+abbrev pub text_at : List ℕ → Option (Kind × List ℕ)
+text_at bytes = option_map (λ x. (Constant (Text x.0), x.1)) (quoted 39 bytes)
+
+abbrev pub name_at : ℕ → List ℕ → Option (Kind × List ℕ)
+name_at q bytes = option_map (λ x. (Name Plain x.0, x.1)) (quoted q bytes)
 
 -- the longest token that begins here, and what stands behind it
 abbrev pub token_at : List ℕ → Option (Kind × List ℕ)
 token_at [] = None
 token_at (b ∷ bytes) =
-    if b == 39 then option_map (λ x. (Constant (Text x.0), x.1)) (quoted 39 bytes) else
-    if b == 34 then option_map (λ x. (Name Plain x.0, x.1)) (quoted 34 bytes) else
-    if b == 91 then option_map (λ x. (Name Plain x.0, x.1)) (quoted 93 bytes) else
+    if b == 39 then text_at bytes else
+    if b == 34 then name_at 34 bytes else
+    if b == 91 then name_at 93 bytes else
     if is_digit b then number_at (b ∷ bytes) else
     if is_word b then word_at (b ∷ bytes) else symbol_at (b ∷ bytes)
 
@@ -119,7 +132,11 @@ abbrev pub tokens_in : ℕ → ℕ → List ℕ → List (Kind × ℕ)
 tokens_in zero total left = []
 tokens_in (suc n) total left = and_more total (λ rest. tokens_in n total rest) (next_token (behind_white left))
 
+-- all tokens of what is left of a text of so many bytes
+unfoldable pub tokens_left : ℕ → List ℕ → List (Kind × ℕ)
+tokens_left total left = tokens_in (suc (length left)) total left
+
 -- the tokens of a text, each with the place in bytes at which it ends; where none begins, Unknown
--- is the last
+-- is the last, and ends where the text does
 unfoldable pub tokens_of : List ℕ → List (Kind × ℕ)
-tokens_of text = tokens_in (suc (length text)) (length text) text
+tokens_of text = tokens_left (length text) text

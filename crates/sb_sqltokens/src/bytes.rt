@@ -27,25 +27,31 @@ pub(crate) fn is_word(byte: u8) -> bool
 }
 
 /// How many bytes of white space stand first.
+#[tactic(auto, using(crate::proofs::Cuts::runs))]
 pub(crate) fn white_len(text: &str) -> usize
     ensures value { result ≡ prefix_len bytes.is_white text.now }
     ensures within { result ≤ length text.now }
+    ensures ascii { 0 < result → slice_index text.now (result - 1) < 128 }
 {
     text.as_bytes().iter().take_while(|b| is_white(**b)).count()
 }
 
 /// How many digits stand first.
+#[tactic(auto, using(crate::proofs::Cuts::runs))]
 pub(crate) fn digits_len(text: &str) -> usize
     ensures value { result ≡ prefix_len bytes.is_digit text.now }
     ensures within { result ≤ length text.now }
+    ensures ascii { 0 < result → slice_index text.now (result - 1) < 128 }
 {
     text.as_bytes().iter().take_while(|b| is_digit(**b)).count()
 }
 
 /// How many letters, digits and `_` stand first.
+#[tactic(auto, using(crate::proofs::Cuts::runs))]
 pub(crate) fn word_len(text: &str) -> usize
     ensures value { result ≡ prefix_len bytes.is_word text.now }
     ensures within { result ≤ length text.now }
+    ensures ascii { 0 < result → slice_index text.now (result - 1) < 128 }
 {
     text.as_bytes().iter().take_while(|b| is_word(**b)).count()
 }

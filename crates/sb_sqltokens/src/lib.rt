@@ -6,4 +6,7 @@ mod bytes;
 mod numbers;
 mod quotes;
 mod symbols;
+mod tokens;
 mod words;
+
+pub use tokens::{Tokens, tokens_of};

@@ -1,7 +1,8 @@
 // Reserved words and names.
-ghost use Rattle.std.specs.Prelude.{◌≡◌, IfOk};
+ghost use Rattle.std.specs.Prelude.{◌≡◌, IfOk, Some};
 ghost use Rattle.sb_sqltokens.specs.Tokens as tokens;
 
+use crate::bytes::{cut, word_len};
 use sb_model::{BinaryOperator, PropertyValue, Text};
 use sb_sqlgrammar::{Kind, Role};
 use std::alloc::{AllocError, Global};
@@ -57,7 +58,7 @@ fn role_of(word: &str) -> Role
 }
 
 /// The token of a word.
-pub(crate) fn word_kind(alloc: Global, word: &str) -> Result<Kind, AllocError>
+fn word_kind(alloc: Global, word: &str) -> Result<Kind, AllocError>
     ensures { IfOk result (λ k. k ≡ tokens.word_kind word.now) }
 {
     let folded = word.to_ascii_lowercase(alloc)?;
@@ -66,4 +67,12 @@ pub(crate) fn word_kind(alloc: Global, word: &str) -> Result<Kind, AllocError>
     }
     let role = role_of(folded.as_str());
     Ok(Kind::Name(role, Text::of(alloc, word)?))
+}
+
+/// A word, and what stands behind it.
+pub(crate) fn word_at(alloc: Global, text: &str) -> Result<(Kind, &str), AllocError>
+    ensures { IfOk result (λ x. Some (x.0, x.1.now) ≡ tokens.word_at text.now) }
+{
+    let (word, rest) = cut(text, word_len(text));
+    Ok((word_kind(alloc, word)?, rest))
 }
