@@ -1,2 +1,3 @@
 pub mod Onward
 pub mod Statements
+pub mod Joined
