@@ -1,3 +1,4 @@
 pub mod Answers
 pub mod Verbs
 pub mod Texts
+pub mod Rows

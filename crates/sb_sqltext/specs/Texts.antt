@@ -1,6 +1,7 @@
 -- What a text spells, and where it is at fault.
 use Rattle.std.specs.Prelude.{◌≡◌, ℕ, ◌-◌, ◌==◌, ◌&&◌, List, [], ◌∷◌, ◌++◌, length, map, slice_index, Bool, Option, Some, None, Result, Ok, Err, if◌then◌else◌, nat_le, option_map, ◌+◌, MatchOption}
 use Rattle.sb_sqlgrammar.specs.declared.token.Kind.{Kind}
+use Rattle.sb_sqlgrammar.specs.Readers.{Reader}
 use Rattle.sb_sqlgrammar.specs.Laws.{IsContinued, IsNoFurther}
 use Rattle.sb_sqltokens.specs.Tokens.{tokens_of}
 use Rattle.sb_sqltext.specs.declared.texts.ParseFault.{ParseFault}
@@ -57,3 +58,16 @@ AnswersText S view text (Err OutOfMemory) = Unit {0}
 -- the end of the token before the last so many
 abbrev pub end_before : List ℕ → ℕ → ℕ
 end_before ends left = if nat_le (length ends) left then 0 else slice_index ends (length ends - left - 1)
+
+-- Reading of a text, with this reader of whole token lists.
+abbrev pub read_kinds : {T : Type 0} → List ℕ → Result (T × List Kind) (List Kind) → Result T ℕ
+read_kinds ends (Ok x) = Ok x.0
+read_kinds ends (Err rest) = Err (end_before ends (length rest))
+
+abbrev pub read_short : {T : Type 0} → Result T ℕ → Option ℕ → Result T ℕ
+read_short read None = read
+read_short read (Some limit) = Err limit
+
+-- the tree, or the place of the fault
+unfoldable pub read_text : {T : Type 0} → Reader Kind T → List ℕ → Result T ℕ
+read_text R text = read_short (read_kinds (map (λ x. x.1) (tokens_of text)) (R (kinds_of (tokens_of text)))) (past_limit text)

@@ -12,7 +12,9 @@ mod names;
 mod parsing;
 mod steps;
 mod texts;
+mod worked;
 
 pub use missed::Missed;
 pub use parsing::{MAX_CHARACTERS, MAX_DEPTH, parse_action, parse_filter};
 pub use texts::ParseFault;
+pub use worked::worked_texts;
