@@ -1,21 +1,20 @@
 -- The readers of properties and basic parts are exact.
-use Rattle.std.proofs.Common.{◌≡◌, ◌+◌, ℕ, zero, suc, ◌<◌, ◌≤◌, Bool, true, false, List, [], ◌∷◌, ◌++◌, length, Option, Some, None, Result, Ok, Err, refl, ap, sym, ◌∙◌, append_assoc, append-nil, subst, inl, inr, ◌⊎◌, arith}
-use Rattle.std.specs.Prelude.{nat_le, nat_lt, ◌==◌, if◌then◌else◌, pos}
+use Rattle.std.proofs.Common.{◌≡◌, ℕ, ◌≤◌, Bool, true, false, List, [], ◌∷◌, ◌++◌, Option, Some, Err, refl, ap, sym, append-nil, subst, inl, inr, arith}
+use Rattle.std.specs.Prelude.{nat_le, pos}
 use Rattle.std.specs.Str.{str_to_ascii_lowercase}
 use Rattle.std.proofs.lemmas.Bool.Decides.{nat_tests}
-use Rattle.sb_model.specs.declared.message.PropertyValue.{PropertyValue}
 use Rattle.sb_model.specs.declared.message.PropertyValue.TheVariants as property_value
 use Rattle.sb_model.specs.declared.expression.PropertyName.{PropertyName}
 use Rattle.sb_model.specs.declared.expression.PropertyName.TheVariants.{User, System}
 use Rattle.sb_model.specs.declared.expression.UnaryOperator.{UnaryOperator}
 use Rattle.sb_model.specs.declared.expression.UnaryOperator.TheVariants as unary_operator
 use Rattle.sb_model.specs.declared.expression.BinaryOperator.{BinaryOperator}
-use Rattle.sb_model.specs.Expressions.{Term, Terms, constant, property, existing, unary, binary, within, like, like_escape, first, later}
+use Rattle.sb_model.specs.Expressions.{Term, constant, property, existing, unary}
 use Rattle.sb_sqlgrammar.specs.declared.token.Kind.{Kind}
-use Rattle.sb_sqlgrammar.specs.declared.token.Kind.TheVariants.{Constant, Name, Open, Close, Dot, Comma, Semicolon, Binary, Not, In, Like, Escape, Is, Null, Exists, Set, Remove, Unknown}
+use Rattle.sb_sqlgrammar.specs.declared.token.Kind.TheVariants.{Constant, Name, Open, Close, Dot, Binary, Not, In, Like, Escape, Is, Exists}
 use Rattle.sb_sqlgrammar.specs.declared.token.Role.{Role}
 use Rattle.sb_sqlgrammar.specs.declared.token.Role.TheVariants.{Plain, Function, SystemScope, UserScope}
-use Rattle.sb_sqlgrammar.specs.Readers.{Reader, Grammar, pure, one, next, either, Nothing, One, Next, Behind, Either}
+use Rattle.sb_sqlgrammar.specs.Readers.{Reader, Grammar, pure, one, next, either, Nothing, One, Next, Either}
 use Rattle.sb_sqlgrammar.specs.Exact.{Stops, Exact, Example}
 use Rattle.sb_sqlgrammar.specs.Language.{Part, or_part, not_part, sum_part, sign_part, binding, sign_of, Property, alone, of_user, of_system, Basic, value, exists, named as named_case, of_message, group, Sign, unsigned, signed}
 use Rattle.sb_sqlgrammar.specs.Reading.{when, is_open, closing, is_dot, named, user_named, system_named, after_name, name, Lead, leaf, naming, calling, asking, grouping, lead, after_lead, basic, is_sign, sign}

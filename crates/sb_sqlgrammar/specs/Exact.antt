@@ -1,6 +1,5 @@
 -- What it means that a reader reads a grammar.
-use Rattle.std.specs.Prelude.{◌≡◌, ℕ, Bool, true, false, List, [], ◌∷◌, ◌++◌, Result, Ok, Err}
-use Rattle.sb_sqlgrammar.specs.Readers.{Reader, Grammar}
+use Rattle.std.specs.Prelude.{◌≡◌, Bool, false, List, [], ◌∷◌, ◌++◌, Result, Ok, Err}
 
 -- the same next token, and then other ones
 abbrev pub other_tail : {K : Type 0} → List K → List K → List K

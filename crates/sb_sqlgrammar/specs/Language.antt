@@ -7,12 +7,12 @@ use Rattle.sb_model.specs.declared.expression.PropertyName.TheVariants.{User, Sy
 use Rattle.sb_model.specs.declared.expression.UnaryOperator.{UnaryOperator}
 use Rattle.sb_model.specs.declared.expression.UnaryOperator.TheVariants as unary_operator
 use Rattle.sb_model.specs.declared.expression.BinaryOperator.{BinaryOperator}
-use Rattle.sb_model.specs.declared.expression.BinaryOperator.TheVariants.{Or, And, Equal, NotEqual, Greater, AtLeast, Less, AtMost, Add, Subtract, Multiply, Divide, Remainder}
+use Rattle.sb_model.specs.declared.expression.BinaryOperator.TheVariants.{Or, And, Equal, Add, Subtract, Multiply, Divide, Remainder}
 use Rattle.sb_model.specs.Expressions.{Term, Terms, constant, property, existing, unary, binary, within, like, like_escape, first, later, Change, setting, removing}
 use Rattle.sb_sqlgrammar.specs.declared.token.Kind.{Kind}
-use Rattle.sb_sqlgrammar.specs.declared.token.Kind.TheVariants.{Constant, Name, Open, Close, Dot, Comma, Semicolon, Binary, Not, In, Like, Escape, Is, Null, Exists, Set, Remove, Unknown}
+use Rattle.sb_sqlgrammar.specs.declared.token.Kind.TheVariants.{Constant, Name, Open, Close, Dot, Comma, Semicolon, Binary, Not, In, Like, Escape, Is, Null, Exists, Set, Remove}
 use Rattle.sb_sqlgrammar.specs.declared.token.Role.{Role}
-use Rattle.sb_sqlgrammar.specs.declared.token.Role.TheVariants.{Plain, Function, SystemScope, UserScope}
+use Rattle.sb_sqlgrammar.specs.declared.token.Role.TheVariants.{Function, SystemScope, UserScope}
 use Rattle.sb_sqlgrammar.specs.Readers.{Grammar, Next, Repeat, One}
 
 -- what stands in nested places

@@ -1,5 +1,5 @@
 -- Reading of tokens: the tree and the tokens behind it, or the tokens from the one on that fits nowhere.
-use Rattle.std.specs.Prelude.{◌≡◌, ℕ, zero, suc, ◌==◌, Bool, true, false, List, [], ◌∷◌, ◌++◌, Option, Some, None, if◌then◌else◌, nat_lt}
+use Rattle.std.specs.Prelude.{ℕ, zero, suc, ◌==◌, Bool, true, false, List, [], ◌∷◌, Option, Some, None, if◌then◌else◌, nat_lt}
 use Rattle.std.specs.Str.{str_to_ascii_lowercase}
 use Rattle.sb_model.specs.declared.expression.PropertyName.{PropertyName}
 use Rattle.sb_model.specs.declared.expression.PropertyName.TheVariants.{User, System}
@@ -9,9 +9,9 @@ use Rattle.sb_model.specs.declared.expression.BinaryOperator.{BinaryOperator}
 use Rattle.sb_model.specs.declared.expression.BinaryOperator.TheVariants.{Equal}
 use Rattle.sb_model.specs.Expressions.{Term, Terms, constant, property, existing, unary, binary, within, like, like_escape, first, later, Change, setting, removing}
 use Rattle.sb_sqlgrammar.specs.declared.token.Kind.{Kind}
-use Rattle.sb_sqlgrammar.specs.declared.token.Kind.TheVariants.{Constant, Name, Open, Close, Dot, Comma, Semicolon, Binary, Not, In, Like, Escape, Is, Null, Exists, Set, Remove, Unknown}
+use Rattle.sb_sqlgrammar.specs.declared.token.Kind.TheVariants.{Constant, Name, Open, Close, Dot, Comma, Semicolon, Binary, Not, In, Like, Escape, Is, Null, Exists, Set, Remove}
 use Rattle.sb_sqlgrammar.specs.declared.token.Role.{Role}
-use Rattle.sb_sqlgrammar.specs.declared.token.Role.TheVariants.{Plain, Function, SystemScope, UserScope}
+use Rattle.sb_sqlgrammar.specs.declared.token.Role.TheVariants.{Function, SystemScope, UserScope}
 use Rattle.sb_sqlgrammar.specs.Readers.{Reader, pure, one, next, either, repeat, ended}
 use Rattle.sb_sqlgrammar.specs.Language.{Part, or_part, not_part, sum_part, sign_part, binding, operator_at, sign_of, is_comma, a_constant}
 

@@ -1,13 +1,12 @@
 -- Readings that were worked out by hand, on tokens.
-use Rattle.std.specs.Prelude.{◌≡◌, ℕ, Bool, true, false, List, [], ◌∷◌, ◌++◌, Result, Ok, Err, codes, replicate, pos}
-use Rattle.sb_model.specs.declared.message.PropertyValue.{PropertyValue}
+use Rattle.std.specs.Prelude.{◌≡◌, ℕ, true, false, List, [], ◌∷◌, ◌++◌, Ok, Err, codes, replicate, pos}
 use Rattle.sb_model.specs.declared.message.PropertyValue.TheVariants.{Int, Text}
 use Rattle.sb_model.specs.declared.expression.PropertyName.TheVariants.{User, System}
 use Rattle.sb_model.specs.declared.expression.UnaryOperator.TheVariants as unary_operator
-use Rattle.sb_model.specs.declared.expression.BinaryOperator.TheVariants.{Or, And, Equal, Less, Add, Subtract, Multiply}
-use Rattle.sb_model.specs.Expressions.{Term, constant, property, existing, unary, binary, within, like, like_escape, first, later, setting, removing}
+use Rattle.sb_model.specs.declared.expression.BinaryOperator.TheVariants.{Or, And, Equal, Subtract, Multiply}
+use Rattle.sb_model.specs.Expressions.{Term, constant, property, existing, unary, binary, within, like_escape, first, later, setting, removing}
 use Rattle.sb_sqlgrammar.specs.declared.token.Kind.{Kind}
-use Rattle.sb_sqlgrammar.specs.declared.token.Kind.TheVariants.{Constant, Name, Open, Close, Dot, Comma, Semicolon, Binary, Not, In, Like, Escape, Is, Null, Exists, Set, Remove, Unknown}
+use Rattle.sb_sqlgrammar.specs.declared.token.Kind.TheVariants.{Constant, Name, Open, Close, Dot, Comma, Semicolon, Binary, Not, In, Like, Escape, Is, Null, Exists, Set, Remove}
 use Rattle.sb_sqlgrammar.specs.declared.token.Role.TheVariants.{Plain, Function, SystemScope, UserScope}
 use Rattle.sb_sqlgrammar.specs.Reading.{filter_of, action_of}
 

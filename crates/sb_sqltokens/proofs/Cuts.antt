@@ -1,7 +1,6 @@
 -- Where a text may be cut.
-use Rattle.std.proofs.Common.{◌≡◌, ◌-◌, ◌+◌, ℕ, zero, suc, ◌<◌, ◌≤◌, List, length, get_or, arith, add-one, one-add, Bool, true, false, [], ◌∷◌, refl}
+use Rattle.std.proofs.Common.{◌≡◌, ◌-◌, ◌+◌, ℕ, zero, suc, ◌<◌, ◌≤◌, List, length, get_or, arith, add-one, Bool, true, false, [], ◌∷◌, refl}
 use Rattle.std.specs.Str.{IsUtf8, IsCharBoundary}
-use Rattle.std.specs.Prelude.{nat_le, ◌==◌, ◌||◌, ◌&&◌}
 use Rattle.std.specs.List.{prefix_len}
 use Rattle.std.proofs.lemmas.Bool.Decides.{nat_tests}
 use Rattle.sb_sqltokens.specs.Bytes.{is_white, is_digit, is_word}

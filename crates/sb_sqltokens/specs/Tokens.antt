@@ -1,5 +1,5 @@
 -- The tokens of a text (Microsoft Learn, Service Bus, "SQL filter syntax").
-use Rattle.std.specs.Prelude.{◌≡◌, ℕ, zero, suc, ◌-◌, ◌^◌, ◌==◌, ◌&&◌, ◌||◌, Bool, true, false, List, [], ◌∷◌, ◌++◌, length, drop, Option, Some, None, if◌then◌else◌, nat_lt, option_map, codes, pos, ℤ, bytes_eq}
+use Rattle.std.specs.Prelude.{ℕ, zero, suc, ◌-◌, ◌^◌, ◌==◌, ◌&&◌, ◌||◌, Bool, true, false, List, [], ◌∷◌, length, drop, Option, Some, None, if◌then◌else◌, nat_lt, option_map, codes, pos, ℤ, bytes_eq}
 use Rattle.std.specs.List.{prefix_len, take_while}
 use Rattle.std.specs.Str.{str_to_ascii_lowercase}
 use Rattle.sb_model.specs.declared.message.PropertyValue.TheVariants.{Int, Text, Bool as Truth}

@@ -1,6 +1,5 @@
 // The tokens of a text.
 ghost use Rattle.std.specs.Prelude.{◌≡◌, ◌<◌, length, map, drop, slice_index, IfOk, option_map};
-
 ghost use Rattle.sb_sqltokens.specs.Tokens as tokens;
 
 use crate::bytes::{cut, is_digit, is_word, white_len};

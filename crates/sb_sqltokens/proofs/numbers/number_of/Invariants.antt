@@ -1,4 +1,4 @@
-use Rattle.std.proofs.Common.{◌≡◌, ℕ, ◌<◌, ◌^◌, length}
+use Rattle.std.proofs.Common.{◌≡◌, ◌<◌, ◌^◌, length}
 use Rattle.sb_sqltokens.specs.Bytes.{digits_value}
 use Rattle.sb_sqltokens.proofs.numbers.number_of.Given as goal
 

@@ -1,4 +1,4 @@
-use Rattle.std.proofs.Common.{◌≡◌, ◌++◌, ◌∷◌, [], ◌∙◌, refl, rules}
+use Rattle.std.proofs.Common.{◌∙◌, refl, rules}
 use Rattle.sb_sqltokens.proofs.Quoting.{nothing_left, text_ends, text_goes_on}
 use Rattle.sb_sqltokens.proofs.quotes.quoted.Goals as goal
 
