@@ -1,13 +1,13 @@
 -- Faults of tokens as faults of texts.
-use Rattle.std.proofs.Common.{◌≡◌, ◌-◌, ◌+◌, ℕ, zero, suc, ◌<◌, ◌≤◌, Bool, true, false, List, [], ◌∷◌, ◌++◌, length, map, get_or, Result, Ok, Err, Option, Some, None, refl, ap, sym, ◌∙◌, arith, length-append, subst}
-use Rattle.std.specs.Prelude.{if◌then◌else◌, nat_le, slice_index}
+use Rattle.std.proofs.Common.{◌≡◌, ◌-◌, ◌+◌, ℕ, suc, ◌<◌, true, false, List, [], ◌∷◌, ◌++◌, length, map, get_or, Ok, Err, Some, None, refl, ap, sym, ◌∙◌, arith, length-append}
+use Rattle.std.specs.Prelude.{nat_le}
 use Rattle.std.proofs.lemmas.Bool.Decides.{nat_tests}
-use Rattle.std.proofs.lemmas.List.{map-append, length-map}
+use Rattle.std.proofs.lemmas.List.{length-map}
 use Rattle.sb_model.specs.Expressions.{Term, Change}
 use Rattle.sb_sqlgrammar.specs.declared.token.Kind.{Kind}
 use Rattle.sb_sqlgrammar.specs.Language.{SpellsFilter, SpellsAction}
 use Rattle.sb_sqlgrammar.specs.Reading.{filter_of, action_of}
-use Rattle.sb_sqlgrammar.specs.Laws.{IsFault, IsContinued, IsNoFurther}
+use Rattle.sb_sqlgrammar.specs.Laws.{IsFault}
 use Rattle.sb_sqlgrammar.proofs.Whole.{filters_spelled, filter_faults, actions_spelled, action_faults}
 use Rattle.sb_sqltokens.specs.Tokens.{tokens_of}
 use Rattle.sb_sqltext.specs.Texts.{past_limit, kinds_of, end_of, SpellsText, IsTokenFault, IsTextFault, end_before}

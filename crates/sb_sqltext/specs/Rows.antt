@@ -4,8 +4,8 @@ use Rattle.std.specs.List.{concat}
 use Rattle.sb_model.specs.declared.message.PropertyValue.TheVariants.{Int, Text}
 use Rattle.sb_model.specs.declared.expression.PropertyName.TheVariants.{User, System}
 use Rattle.sb_model.specs.declared.expression.UnaryOperator.TheVariants as unary_operator
-use Rattle.sb_model.specs.declared.expression.BinaryOperator.TheVariants.{Or, And, Equal, NotEqual, Add, Subtract, Multiply}
-use Rattle.sb_model.specs.Expressions.{Term, Change, constant, property, existing, unary, binary, within, like, like_escape, first, later, setting, removing}
+use Rattle.sb_model.specs.declared.expression.BinaryOperator.TheVariants.{Or, And, Equal, NotEqual, Subtract, Multiply}
+use Rattle.sb_model.specs.Expressions.{Term, Change, constant, property, unary, binary, within, like_escape, first, later, setting, removing}
 use Rattle.sb_sqlgrammar.specs.Reading.{filter_of, action_of}
 use Rattle.sb_sqltext.specs.Texts.{read_text}
 

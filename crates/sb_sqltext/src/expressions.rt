@@ -31,10 +31,7 @@ fn property_tree<'a>(
 }
 
 /// What stands behind `EXISTS`.
-fn existing<'a>(
-    alloc: Global,
-    tokens: &'a [Kind],
-) -> Result<(Expression, &'a [Kind]), Missed<'a>>
+fn existing<'a>(alloc: Global, tokens: &'a [Kind]) -> Result<(Expression, &'a [Kind]), Missed<'a>>
     ensures reads { Reads (λ x. (term_of x.0, x.1.now)) result (readers.next (readers.one reading.is_open) (λ o. readers.next reading.name (λ n. readers.one (reading.closing (terms.existing n)))) tokens.now) }
     ensures shorter { IfOk result (λ x. length x.1.now ≤ length tokens.now) }
 {

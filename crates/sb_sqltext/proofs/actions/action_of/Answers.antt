@@ -1,4 +1,4 @@
-use Rattle.std.proofs.Common.{◌≡◌, ◌<◌, ◌∷◌, ◌++◌, [], ℕ, arith}
+use Rattle.std.proofs.Common.{◌<◌, arith}
 use Rattle.sb_sqltext.proofs.Statements.{loop_begins, loop_goes_on}
 use Rattle.sb_sqltext.proofs.actions.action_of.Goals as goal
 

@@ -1,4 +1,4 @@
-use Rattle.std.proofs.Common.{◌≡◌, ℕ, length}
+use Rattle.std.proofs.Common.{◌≡◌, length}
 use Rattle.sb_model.specs.Expressions.{changes_of}
 use Rattle.sb_sqlgrammar.specs.Reading as reading
 use Rattle.sb_sqltext.proofs.Statements.{action_from}

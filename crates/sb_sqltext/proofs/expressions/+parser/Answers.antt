@@ -1,5 +1,4 @@
-use Rattle.std.proofs.Common.{◌≡◌, ◌∙◌, sym, ◌<◌, ℕ, arith}
-use Rattle.sb_model.specs.Expressions.{term_of, terms_of}
+use Rattle.std.proofs.Common.{arith}
 use Rattle.sb_sqlgrammar.proofs.Tests.{exact_sign_at, exact_product_at, exact_negation_at, exact_conjunction_at}
 use Rattle.sb_sqltext.proofs.Onward.{lower_or, lower_not, lower_sum, lower_sign, level_goes_on, listed_goes_on}
 use Rattle.sb_sqltext.proofs.expressions.+parser.Goals as goal

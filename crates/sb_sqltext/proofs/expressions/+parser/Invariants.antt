@@ -1,4 +1,4 @@
-use Rattle.std.proofs.Common.{◌≡◌, ◌≤◌, ◌<◌, ℕ, length, ◌+◌, ◌-◌, ◌*◌}
+use Rattle.std.proofs.Common.{◌≡◌, ◌≤◌, length, ◌+◌, ◌*◌}
 use Rattle.std.specs.Prelude.{nat_lt}
 use Rattle.sb_model.specs.Expressions.{term_of, terms_of}
 use Rattle.sb_sqlgrammar.specs.Reading as reading

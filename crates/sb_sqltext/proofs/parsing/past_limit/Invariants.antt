@@ -1,4 +1,4 @@
-use Rattle.std.proofs.Common.{◌≡◌, ◌+◌, ℕ, length}
+use Rattle.std.proofs.Common.{◌≡◌, ◌+◌, length}
 use Rattle.sb_sqltext.specs.Texts as texts
 use Rattle.sb_sqltext.proofs.parsing.past_limit.Given as goal
 
