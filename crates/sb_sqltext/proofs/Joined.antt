@@ -12,7 +12,7 @@ use Rattle.sb_sqlgrammar.proofs.Whole.{filters_spelled, filter_faults, actions_s
 use Rattle.sb_sqltokens.specs.Tokens.{tokens_of}
 use Rattle.sb_sqltext.specs.Texts.{past_limit, kinds_of, end_of, SpellsText, IsTokenFault, IsTextFault, end_before}
 
-abbrev Tokens : Type 0
+abbrev pub Tokens : Type 0
 Tokens = List (Kind × ℕ)
 
 record Split (tokens : Tokens) (front rest : List Kind) : Type 0 where
@@ -53,7 +53,7 @@ end_is (t ∷ front) rest ends left e l =
     let place : length ends - left - 1 ≡ length front = omega arith in
     rw (too_few (length ends) left less, place, e) (last_end t front rest)
 
-fault_of : {T : Type 0} (S : List Kind → T → Type 0) (tokens : Tokens) (rest : List Kind) (ends : List ℕ) → ends ≡ map (λ x. x.1) tokens → IsFault S (kinds_of tokens) rest → IsTokenFault S tokens (end_before ends (length rest))
+pub fault_of : {T : Type 0} (S : List Kind → T → Type 0) (tokens : Tokens) (rest : List Kind) (ends : List ℕ) → ends ≡ map (λ x. x.1) tokens → IsFault S (kinds_of tokens) rest → IsTokenFault S tokens (end_before ends (length rest))
 fault_of S tokens rest ends e f =
     let s = split_kinds f.front rest tokens f.split in
     let many : length (kinds_of s.after) ≡ length s.after = rw length-map refl in

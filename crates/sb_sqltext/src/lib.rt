@@ -7,6 +7,7 @@
 
 mod actions;
 mod expressions;
+mod laws;
 mod missed;
 mod names;
 mod parsing;
@@ -14,6 +15,7 @@ mod steps;
 mod texts;
 mod worked;
 
+pub use laws::texts_are_read_exactly;
 pub use missed::Missed;
 pub use parsing::{MAX_CHARACTERS, MAX_DEPTH, parse_action, parse_filter};
 pub use texts::ParseFault;

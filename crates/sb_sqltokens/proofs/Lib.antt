@@ -2,3 +2,5 @@ pub mod Cuts
 pub mod Digits
 pub mod Quoting
 pub mod Listing
+pub mod Longest
+pub mod Having

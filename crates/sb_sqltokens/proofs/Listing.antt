@@ -16,7 +16,7 @@ pub not_zero : (n : ℕ) → false ≡ (n == 0) → 0 < n
 not_zero n e = grind (arith, nat_tests)
 
 -- what stands behind is shorter than n
-abbrev Below : {A : Type 0} → ℕ → Option (A × List ℕ) → Type 0
+abbrev pub Below : {A : Type 0} → ℕ → Option (A × List ℕ) → Type 0
 Below n o = IfSome o (λ x. length x.1 < n)
 
 either_below : {A : Type 0} (n : ℕ) (b : Bool) (x y : Option (A × List ℕ)) → (b ≡ true → Below n x) → (b ≡ false → Below n y) → Below n (if b then x else y)
@@ -31,7 +31,7 @@ front_below : (m n : ℕ) (front : List ℕ) (o : Option (List ℕ × List ℕ))
 front_below m n front None le b = tt
 front_below m n front (Some x) le b = omega arith
 
-quoted_below : (q : ℕ) (bytes : List ℕ) → Below (length bytes) (quoted q bytes)
+pub quoted_below : (q : ℕ) (bytes : List ℕ) → Below (length bytes) (quoted q bytes)
 quoted_below q [] = tt
 quoted_below q (a ∷ []) = either_below 1 (a == q) (Some ([], [])) None (λ e. omega arith) (λ e. tt)
 quoted_below q (a ∷ b ∷ rest) =

@@ -3,10 +3,12 @@
 #![tactic(auto)]
 
 mod bytes;
+mod laws;
 mod numbers;
 mod quotes;
 mod symbols;
 mod tokens;
 mod words;
 
+pub use laws::tokens_are_longest;
 pub use tokens::{Tokens, tokens_of};
