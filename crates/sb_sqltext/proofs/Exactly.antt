@@ -1,10 +1,10 @@
 -- A text has one tree or one place of a fault, and not both.
-use Rattle.std.proofs.Common.{◌≡◌, ◌-◌, ◌+◌, ℕ, zero, suc, ◌<◌, ◌≤◌, List, [], ◌∷◌, ◌++◌, length, map, Option, Some, None, Result, Ok, Err, refl, ap, sym, ◌∙◌, append_assoc, append-nil, subst, inl, inr, ◌⊎◌}
+use Rattle.std.proofs.Common.{◌≡◌, ℕ, List, [], ◌∷◌, ◌++◌, length, map, Option, Some, None, Result, Ok, Err, refl, ap, sym, ◌∙◌, append_assoc, append-nil, subst}
 use Rattle.std.specs.Prelude.{MatchOption}
 use Rattle.std.proofs.lemmas.List.{map-append}
 use Rattle.sb_model.specs.Expressions.{Term, Change}
 use Rattle.sb_sqlgrammar.specs.declared.token.Kind.{Kind}
-use Rattle.sb_sqlgrammar.specs.Readers.{Reader, ◌>>=◌, next, ended}
+use Rattle.sb_sqlgrammar.specs.Readers.{◌>>=◌, ended}
 use Rattle.sb_sqlgrammar.specs.Language.{SpellsFilter, SpellsAction}
 use Rattle.sb_sqlgrammar.specs.Reading.{filter_of, action_of}
 use Rattle.sb_sqlgrammar.specs.Laws.{ReadsSpelled, ReadsEach, FaultsExactly, IsNoFurther, IsContinued}

@@ -1,8 +1,7 @@
 -- What is read is spelled, and which tokens a text has.
-use Rattle.std.proofs.Common.{◌≡◌, ◌-◌, ◌+◌, ◌^◌, ℕ, zero, suc, ◌<◌, ◌≤◌, List, [], ◌∷◌, ◌++◌, length, take, drop, Option, Some, None, refl, ap, sym, ◌∙◌, append_assoc, append-nil, one-add, arith, length-append, length-drop, Bool, true, false, subst, inl, inr, ◌⊎◌}
-use Rattle.std.specs.Prelude.{◌==◌, ◌||◌, ◌&&◌, if◌then◌else◌, option_map, nat_lt, pos, ℤ}
-use Rattle.std.specs.List.{list_all, prefix_len, take_while}
-use Rattle.std.proofs.Math.Seq.{take-append_seam, drop-append_seam}
+use Rattle.std.proofs.Common.{◌≡◌, ◌-◌, ◌^◌, ℕ, zero, suc, ◌<◌, ◌≤◌, List, [], ◌∷◌, ◌++◌, length, take, drop, Option, Some, None, refl, ap, sym, ◌∙◌, append-nil, one-add, arith, length-append, Bool, true, false, subst, inl, inr, ◌⊎◌}
+use Rattle.std.specs.Prelude.{◌==◌, if◌then◌else◌, option_map, nat_lt, pos, ℤ}
+use Rattle.std.specs.List.{list_all, prefix_len}
 use Rattle.std.proofs.lemmas.List.{take-append-drop}
 use Rattle.std.proofs.lemmas.Bool.Decides.{nat_tests}
 use Rattle.sb_model.specs.declared.message.PropertyValue.TheVariants.{Int, Text}
@@ -10,10 +9,10 @@ use Rattle.sb_sqlgrammar.specs.declared.token.Kind.{Kind}
 use Rattle.sb_sqlgrammar.specs.declared.token.Kind.TheVariants.{Constant, Name, Unknown}
 use Rattle.sb_sqlgrammar.specs.declared.token.Role.TheVariants.{Plain}
 use Rattle.sb_sqltokens.specs.Bytes.{is_white, is_digit, is_word, with_front, or_else, quoted, digits_value}
-use Rattle.sb_sqltokens.specs.Tokens.{goes_on, number_of, word_kind, pair_kind, symbol_kind, text_at, name_at, number_at, word_at, followed, pair_at, single_at, symbol_at, token_at, behind_white, next_token, and_more, tokens_in, tokens_left, tokens_of}
+use Rattle.sb_sqltokens.specs.Tokens.{goes_on, number_of, word_kind, pair_kind, symbol_kind, text_at, name_at, number_at, word_at, followed, symbol_at, token_at, behind_white, next_token, and_more, tokens_in, tokens_left, tokens_of}
 use Rattle.sb_sqltokens.specs.Spelled.{IsQuoted, closed, doubled, other, IsToken, text, name, bracketed, number, word, pair, single, IsLongest, BeginsNone, HasTokens, over, unknown, token, TokensFound, TokensOnly}
 use Rattle.sb_sqltokens.proofs.Listing.{token_shorter}
-use Rattle.sb_sqltokens.proofs.Longest.{both_true, is_byte, IsPlain, symbol_plain, pair_plain, Longest, longest_is}
+use Rattle.sb_sqltokens.proofs.Longest.{both_true, is_byte, symbol_plain, pair_plain, longest_is}
 
 if_cases : {A : Type 0} (c : Bool) (x y z : A) → (if c then x else y) ≡ z → ((c ≡ true) × (x ≡ z)) ⊎ ((c ≡ false) × (y ≡ z))
 if_cases true x y z e = inl (refl, e)
@@ -69,9 +68,9 @@ quote_found q (a ∷ b ∷ more) t rest e =
     let two : Option (List ℕ × List ℕ) = or_else (with_front (a ∷ []) (quoted q more)) here in
     elim (if_cases (a == q) (if b == q then two else here) (with_front (a ∷ []) (quoted q (b ∷ more))) (found_as t rest) e) [
       | inl x ↦ elim (if_cases (b == q) two here (found_as t rest) x.1) [
-          | inl y ↦ doubles q a b more t rest (quoted q more) x.0 y.0 (λ z f. quote_found q more z.0 z.1 f) y.1
-          | inr y ↦ ends_at q a (b ∷ more) t rest x.0 y.1
-        ]
+        | inl y ↦ doubles q a b more t rest (quoted q more) x.0 y.0 (λ z f. quote_found q more z.0 z.1 f) y.1
+        | inr y ↦ ends_at q a (b ∷ more) t rest x.0 y.1
+      ]
       | inr x ↦ goes_by q a (b ∷ more) t rest (quoted q (b ∷ more)) x.0 (λ z f. quote_found q (b ∷ more) z.0 z.1 f) x.1
     ]
 
@@ -174,18 +173,18 @@ token_found (b ∷ bytes) rest k e =
     elim (if_cases (b == 39) (text_at bytes) names (found_as k rest) e) [
       | inl x ↦ quoted_token 39 39 b (λ t. Constant (Text t)) (λ u t r s. text s) bytes rest k (quoted 39 bytes) x.0 refl x.1
       | inr x1 ↦ elim (if_cases (b == 34) (name_at 34 bytes) brackets (found_as k rest) x1.1) [
-          | inl x ↦ quoted_token 34 34 b (λ t. Name Plain t) (λ u t r s. name s) bytes rest k (quoted 34 bytes) x.0 refl x.1
-          | inr x2 ↦ elim (if_cases (b == 91) (name_at 93 bytes) numbers (found_as k rest) x2.1) [
-              | inl x ↦ quoted_token 93 91 b (λ t. Name Plain t) (λ u t r s. bracketed s) bytes rest k (quoted 93 bytes) x.0 refl x.1
-              | inr x3 ↦ elim (if_cases (is_digit b) (number_at (b ∷ bytes)) words (found_as k rest) x3.1) [
-                  | inl x ↦ number_found b bytes rest k x.0 x.1
-                  | inr x4 ↦ elim (if_cases (is_word b) (word_at (b ∷ bytes)) symbols (found_as k rest) x4.1) [
-                      | inl x ↦ word_found b bytes rest k x4.0 x.0 x.1
-                      | inr x ↦ symbol_found b bytes rest k x.1
-                    ]
-                ]
+        | inl x ↦ quoted_token 34 34 b (λ t. Name Plain t) (λ u t r s. name s) bytes rest k (quoted 34 bytes) x.0 refl x.1
+        | inr x2 ↦ elim (if_cases (b == 91) (name_at 93 bytes) numbers (found_as k rest) x2.1) [
+          | inl x ↦ quoted_token 93 91 b (λ t. Name Plain t) (λ u t r s. bracketed s) bytes rest k (quoted 93 bytes) x.0 refl x.1
+          | inr x3 ↦ elim (if_cases (is_digit b) (number_at (b ∷ bytes)) words (found_as k rest) x3.1) [
+            | inl x ↦ number_found b bytes rest k x.0 x.1
+            | inr x4 ↦ elim (if_cases (is_word b) (word_at (b ∷ bytes)) symbols (found_as k rest) x4.1) [
+              | inl x ↦ word_found b bytes rest k x4.0 x.0 x.1
+              | inr x ↦ symbol_found b bytes rest k x.1
             ]
+          ]
         ]
+      ]
     ]
 
 -- the longest one

@@ -1,7 +1,7 @@
 -- The longest token is read.
-use Rattle.std.proofs.Common.{◌≡◌, ◌-◌, ◌+◌, ◌^◌, ℕ, zero, suc, ◌<◌, ◌≤◌, List, [], ◌∷◌, ◌++◌, length, take, drop, Option, Some, None, refl, ap, sym, ◌∙◌, append_assoc, append-nil, one-add, arith, length-append, length-drop, Bool, true, false, subst}
-use Rattle.std.specs.Prelude.{◌==◌, ◌||◌, ◌&&◌, if◌then◌else◌, option_map, nat_lt, nat_le, pos}
-use Rattle.std.specs.List.{list_all, prefix_len, take_while}
+use Rattle.std.proofs.Common.{◌≡◌, ◌+◌, ◌^◌, ℕ, ◌<◌, ◌≤◌, List, [], ◌∷◌, ◌++◌, length, take, drop, Option, Some, None, refl, ap, ◌∙◌, arith, length-append, length-drop, Bool, true, false}
+use Rattle.std.specs.Prelude.{◌==◌, ◌||◌, ◌&&◌, if◌then◌else◌, nat_lt, pos}
+use Rattle.std.specs.List.{list_all, prefix_len}
 use Rattle.std.proofs.Math.Seq.{take-append_seam, drop-append_seam}
 use Rattle.std.proofs.lemmas.List.Sums.{prefix_len-le-length}
 use Rattle.std.proofs.lemmas.Bool.Decides.{nat_tests}
@@ -9,8 +9,8 @@ use Rattle.sb_model.specs.declared.message.PropertyValue.TheVariants.{Int, Text}
 use Rattle.sb_sqlgrammar.specs.declared.token.Kind.{Kind}
 use Rattle.sb_sqlgrammar.specs.declared.token.Kind.TheVariants.{Constant, Name}
 use Rattle.sb_sqlgrammar.specs.declared.token.Role.TheVariants.{Plain}
-use Rattle.sb_sqltokens.specs.Bytes.{is_white, is_digit, is_word, with_front, or_else, quoted, digits_value}
-use Rattle.sb_sqltokens.specs.Tokens.{goes_on, number_of, word_kind, pair_kind, symbol_kind, number_at, word_at, followed, symbol_at, token_at}
+use Rattle.sb_sqltokens.specs.Bytes.{is_white, is_digit, is_word, with_front, quoted, digits_value}
+use Rattle.sb_sqltokens.specs.Tokens.{goes_on, word_kind, pair_kind, symbol_kind, number_at, word_at, symbol_at, token_at}
 use Rattle.sb_sqltokens.specs.Spelled.{IsQuoted, closed, doubled, other, IsToken, text, name, bracketed, number, word, pair, single}
 use Rattle.sb_sqltokens.proofs.Listing.{Below, quoted_below}
 

@@ -1,5 +1,5 @@
 -- Which bytes spell which token, and which tokens a text has.
-use Rattle.std.specs.Prelude.{◌≡◌, ℕ, ◌<◌, ◌≤◌, ◌-◌, ◌^◌, ◌==◌, Bool, true, false, List, [], ◌∷◌, ◌++◌, length, Some, pos}
+use Rattle.std.specs.Prelude.{◌≡◌, ℕ, ◌<◌, ◌≤◌, ◌-◌, ◌^◌, ◌==◌, true, false, List, [], ◌∷◌, ◌++◌, length, Some, pos}
 use Rattle.std.specs.List.{list_all}
 use Rattle.sb_model.specs.declared.message.PropertyValue.TheVariants.{Int, Text}
 use Rattle.sb_sqlgrammar.specs.declared.token.Kind.{Kind}
