@@ -6,3 +6,5 @@ pub mod History
 pub mod Consistent
 pub mod Laws
 pub mod Worked
+pub mod Truth
+pub mod Expressions

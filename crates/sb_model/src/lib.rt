@@ -8,15 +8,20 @@
 #![tactic(auto)]
 
 mod call;
+mod expression;
 mod laws;
 mod message;
 mod reply;
 mod rows;
 mod state;
 mod text;
+mod truth;
 mod worked;
 
 pub use call::{Act, By, Call, Description, Event, EventRef, Mode, Part, Path, TimedCall, Token};
+pub use expression::{
+    Action, BinaryOperator, Expression, Filter, Items, PropertyName, Statement, UnaryOperator,
+};
 pub use laws::{
     answers_legally, answers_no_fault, goes_on, keeps_time, starts_consistent, stays_consistent,
 };
@@ -25,4 +30,5 @@ pub use reply::{Answer, CopyShown, CopyState, Receipt, Refusal, Reply, Showing};
 pub use rows::Rows;
 pub use state::{Entity, Leaf, State, StoredCopy};
 pub use text::Text;
+pub use truth::Truth;
 pub use worked::worked_rows;

@@ -1,0 +1,5 @@
+pub mod Readers
+pub mod Basics
+pub mod Tests
+pub mod Actions
+pub mod Whole

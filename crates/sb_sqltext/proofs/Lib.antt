@@ -1,0 +1,4 @@
+pub mod Onward
+pub mod Statements
+pub mod Joined
+pub mod Exactly

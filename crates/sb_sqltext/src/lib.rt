@@ -1,0 +1,22 @@
+//! SQL filters and actions from text to tree (Microsoft Learn, Service Bus, "SQL filter syntax").
+//!
+//! `parse_filter` and `parse_action` give the tree that the grammar spells, or the exact place of
+//! the fault. A text is cut into tokens, which a parser reads by recursive descent: one function
+//! for each production, with the nesting as its only recursion.
+#![tactic(auto)]
+
+mod actions;
+mod expressions;
+mod laws;
+mod missed;
+mod names;
+mod parsing;
+mod steps;
+mod texts;
+mod worked;
+
+pub use laws::texts_are_read_exactly;
+pub use missed::Missed;
+pub use parsing::{MAX_CHARACTERS, MAX_DEPTH, parse_action, parse_filter};
+pub use texts::ParseFault;
+pub use worked::worked_texts;
