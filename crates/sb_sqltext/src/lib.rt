@@ -15,8 +15,9 @@ mod steps;
 mod texts;
 mod worked;
 
+use missed::Missed;
+
 pub use laws::texts_are_read_exactly;
-pub use missed::Missed;
 pub use parsing::{MAX_CHARACTERS, MAX_DEPTH, parse_action, parse_filter};
 pub use texts::ParseFault;
 pub use worked::worked_texts;

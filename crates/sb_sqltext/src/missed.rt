@@ -3,7 +3,7 @@ use std::alloc::AllocError;
 
 /// Why no tree was read: the tokens from the one on that fits nowhere, or want of memory.
 #[derive(Debug, Drop)]
-pub enum Missed<'a> {
+pub(crate) enum Missed<'a> {
     Here(&'a [Kind]),
     OutOfMemory,
 }
