@@ -105,11 +105,7 @@ impl Expression {
     ) -> Result<Self, AllocError>
         ensures { IfOk result (λ x. term_of x ≡ binary operator (term_of left) (term_of right)) }
     {
-        Ok(Expression::Binary(
-            operator,
-            Box::new(alloc, left)?,
-            Box::new(alloc, right)?,
-        ))
+        Ok(Expression::Binary(operator, Box::new(alloc, left)?, Box::new(alloc, right)?))
     }
 
     /// `left IN items`, or with `false` `left NOT IN items`.
@@ -121,11 +117,7 @@ impl Expression {
     ) -> Result<Self, AllocError>
         ensures { IfOk result (λ x. term_of x ≡ within affirmed (term_of left) (terms_of items)) }
     {
-        Ok(Expression::In(
-            affirmed,
-            Box::new(alloc, left)?,
-            Box::new(alloc, items)?,
-        ))
+        Ok(Expression::In(affirmed, Box::new(alloc, left)?, Box::new(alloc, items)?))
     }
 
     /// `left LIKE pattern`, or with `false` `left NOT LIKE pattern`.
@@ -137,11 +129,7 @@ impl Expression {
     ) -> Result<Self, AllocError>
         ensures { IfOk result (λ x. term_of x ≡ like affirmed (term_of left) (term_of pattern)) }
     {
-        Ok(Expression::Like(
-            affirmed,
-            Box::new(alloc, left)?,
-            Box::new(alloc, pattern)?,
-        ))
+        Ok(Expression::Like(affirmed, Box::new(alloc, left)?, Box::new(alloc, pattern)?))
     }
 
     /// `left LIKE pattern ESCAPE escape`, or with `false` `left NOT LIKE ..`.
@@ -175,9 +163,6 @@ impl Items {
     pub fn later(alloc: Global, items: Items, item: Expression) -> Result<Self, AllocError>
         ensures { IfOk result (λ xs. terms_of xs ≡ later (terms_of items) (term_of item)) }
     {
-        Ok(Items::Later(
-            Box::new(alloc, items)?,
-            Box::new(alloc, item)?,
-        ))
+        Ok(Items::Later(Box::new(alloc, items)?, Box::new(alloc, item)?))
     }
 }

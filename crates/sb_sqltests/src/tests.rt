@@ -35,7 +35,10 @@ fn filters_and_their_faults(rt: HostRuntime) -> Result<(), Fail> {
         ("EXISTS(user.a) AND p('b') <> [c]]d]", None),
         ("a = 'it''s", Some(8)),
         ("9223372036854775808 = a", Some(0)),
-        ("((((((((((((((((((((((((((((((((((((((((((((((((((((((((((((((((", Some(64)),
+        (
+            "((((((((((((((((((((((((((((((((((((((((((((((((((((((((((((((((",
+            Some(64),
+        ),
     ];
     for (text, place) in rows {
         assert_eq!(rt; filter_fault(rt.alloc(), text)?, place, "{text}");
@@ -67,7 +70,9 @@ fn a_tree(rt: HostRuntime) -> Result<(), Fail> {
         _ => false,
     };
     assert!(rt; is_less);
-    let action = parse_action(rt.alloc(), "REMOVE b").ok().ok_or("no action")?;
+    let action = parse_action(rt.alloc(), "REMOVE b")
+        .ok()
+        .ok_or("no action")?;
     assert!(rt; matches!(action.as_slice(), [Statement::Remove(_)]));
     Ok(())
 }

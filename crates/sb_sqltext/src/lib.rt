@@ -15,9 +15,8 @@ mod steps;
 mod texts;
 mod worked;
 
-use missed::Missed;
-
 pub use laws::texts_are_read_exactly;
+use missed::Missed;
 pub use parsing::{MAX_CHARACTERS, MAX_DEPTH, parse_action, parse_filter};
 pub use texts::ParseFault;
 pub use worked::worked_texts;
