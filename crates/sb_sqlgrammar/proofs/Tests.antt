@@ -11,7 +11,7 @@ use Rattle.sb_sqlgrammar.specs.declared.token.Kind.TheVariants.{Constant, Open, 
 use Rattle.sb_sqlgrammar.specs.Readers.{Reader, Grammar, pure, one, next, either, Nothing, One, Next, Behind, Either, stop}
 use Rattle.sb_sqlgrammar.specs.Exact.{Stops, Exact, Example}
 use Rattle.sb_sqlgrammar.specs.Language.{Part, or_part, not_part, sum_part, sign_part, binding, operator_at, is_comma, a_constant, Level, value, Sign, unsigned, Product, Sum, Listed, Choice, is_in, is_like, escaped, Question, compared, is_null, is_not_null, chosen, not_chosen, Test, plain, tested, Negation, affirmed, negated, Conjunction, Disjunction, Each, Lower, SpellsFilter}
-use Rattle.sb_sqlgrammar.specs.Reading.{when, is_open, closing, is_not, is_escape, null_as, basic, sign, level, product, sum, listed, Choosing, in_items, like_pattern, Asked, compares, nulls, denies, chooses, choosing, asked, after_choosing, after_asked, test, negation, conjunction, disjunction, each, lower}
+use Rattle.sb_sqlgrammar.specs.Reading.{when, is_open, closing, is_not, is_escape, null_as, basic, sign, level, product, sum, listed, Choosing, in_items, like_pattern, Asked, compares, nulls, denies, chooses, choosing, asked, after_choosing, after_asked, condition, negation, conjunction, disjunction, each, lower}
 use Rattle.sb_sqlgrammar.proofs.Readers.{exact_pure, exact_one, exact_next, exact_either, exact_chain, exact_as, apart_from, apart_pure, stops_in}
 use Rattle.sb_sqlgrammar.proofs.Basics.{from, looser, goes, Nested, stops_none, then_pure, closing_is, then_close, example_closed, when_is, open_is, exact_sign}
 
@@ -152,7 +152,7 @@ from_choice deep low is t _ _ (is_in {v = v} {xs = xs} on s) = record { token = 
 from_choice deep low is t _ _ (is_like {v = v} {s = p} s) = record { token = Like; class = like_pattern; back = v; split = refl; is = refl; follows = record { front = v; first = p; back = []; split = sym (append-nil v); begins = s; follows = inl (record { no_token = refl; tree = refl }) } }
 from_choice deep low is t _ _ (escaped {v = v} {w = w} {s = p} {e = q} s r) = record { token = Like; class = like_pattern; back = v ++ Escape ∷ w; split = refl; is = refl; follows = record { front = v; first = p; back = Escape ∷ w; split = refl; begins = s; follows = inr (record { token = Escape; class = tt; back = w; split = refl; is = refl; follows = record { front = w; first = q; back = []; split = sym (append-nil w); begins = r; follows = record { no_token = refl; tree = refl } } }) } }
 
--- what a test asks
+-- what a condition asks
 AfterAsked : Bool → (Part → Grammar Kind Term) → Term → Asked → Grammar Kind Term
 AfterAsked deep low t (compares op) = Next (Sum deep low) (λ s. Nothing (binary op t s))
 AfterAsked deep low t nulls = Either is_not (λ o. One (null_as (unary unary_operator.IsNotNull t))) (One (null_as (unary unary_operator.IsNull t)))
@@ -246,12 +246,12 @@ asked_stops deep In a e = (refl, refl)
 asked_stops deep Like a e = (refl, refl)
 asked_stops deep _ a e = absurd cc
 
--- test
+-- condition
 Asking : Bool → (Part → Grammar Kind Term) → Grammar Kind Term
 Asking deep glow = Next (Sum deep glow) (λ t. Either (asked deep) (AfterAsked deep glow t) (Nothing t))
 
-exact_test : (deep : Bool) (low : Part → Reader Kind Term) (glow : Part → Grammar Kind Term) → Nested low glow → Exact (test deep low) (Test deep glow) (from 3)
-unfolding test Asking
+exact_test : (deep : Bool) (low : Part → Reader Kind Term) (glow : Part → Grammar Kind Term) → Nested low glow → Exact (condition deep low) (Test deep glow) (from 3)
+unfolding condition Asking
 exact_test deep low glow l =
     exact_as (next (sum deep low) (λ t. either (asked deep) (after_asked deep low t) (pure t))) (Asking deep glow) (Test deep glow) (from 3)
     (exact_next (sum deep low) (Sum deep glow) (from 4) (λ t. either (asked deep) (after_asked deep low t) (pure t)) (λ t. Either (asked deep) (AfterAsked deep glow t) (Nothing t)) (from 3)
@@ -278,22 +278,22 @@ exact_test deep low glow l =
 denied : (deep : Bool) (k : Kind) (o : Unit {0}) → when deep (is_not k) ≡ Some o → (k ≡ Not) × (deep ≡ true)
 denied deep k o e = let w = when_is deep (is_not k) o e in (not_is k o w.1, w.0)
 
-test_none : (deep : Bool) (low : Part → Reader Kind Term) → test deep low [] ≡ Err []
-unfolding test sum product sign basic
+test_none : (deep : Bool) (low : Part → Reader Kind Term) → condition deep low [] ≡ Err []
+unfolding condition sum product sign basic
 test_none deep low = refl
 
-test_refuses : (deep : Bool) (low : Part → Reader Kind Term) (ts : List Kind) → test deep low (Not ∷ ts) ≡ Err (Not ∷ ts)
-unfolding test sum product sign basic
+test_refuses : (deep : Bool) (low : Part → Reader Kind Term) (ts : List Kind) → condition deep low (Not ∷ ts) ≡ Err (Not ∷ ts)
+unfolding condition sum product sign basic
 test_refuses deep low ts = refl
 
 exact_negation : (deep : Bool) (low : Part → Reader Kind Term) (glow : Part → Grammar Kind Term) → Nested low glow → Exact (negation deep low) (Negation deep glow) (from 3)
 unfolding negation
 exact_negation deep low glow l =
-    exact_as (either (λ k. when deep (is_not k)) (λ o. next (low not_part) (λ t. pure (unary unary_operator.Not t))) (test deep low)) (Either (λ k. when deep (is_not k)) (λ o. Next (glow not_part) (λ t. Nothing (unary unary_operator.Not t))) (Test deep glow)) (Negation deep glow) (from 3)
-    (exact_either (λ k. when deep (is_not k)) (λ o. next (low not_part) (λ t. pure (unary unary_operator.Not t))) (λ o. Next (glow not_part) (λ t. Nothing (unary unary_operator.Not t))) (test deep low) (Test deep glow) (from 3)
+    exact_as (either (λ k. when deep (is_not k)) (λ o. next (low not_part) (λ t. pure (unary unary_operator.Not t))) (condition deep low)) (Either (λ k. when deep (is_not k)) (λ o. Next (glow not_part) (λ t. Nothing (unary unary_operator.Not t))) (Test deep glow)) (Negation deep glow) (from 3)
+    (exact_either (λ k. when deep (is_not k)) (λ o. next (low not_part) (λ t. pure (unary unary_operator.Not t))) (λ o. Next (glow not_part) (λ t. Nothing (unary unary_operator.Not t))) (condition deep low) (Test deep glow) (from 3)
     (λ o. then_pure (low not_part) (glow not_part) (from 3) (from 3) (unary unary_operator.Not) (λ k e. e) (l.reads not_part))
     (exact_test deep low glow l)
-    (apart_from (λ k. when deep (is_not k)) (test deep low) (Test deep glow) (from 3) (from 3) (exact_test deep low glow l) (test_none deep low) (λ k o ts e. rw ((denied deep k o e).0) (test_refuses deep low ts))))
+    (apart_from (λ k. when deep (is_not k)) (condition deep low) (Test deep glow) (from 3) (from 3) (exact_test deep low glow l) (test_none deep low) (λ k o ts e. rw ((denied deep k o e).0) (test_refuses deep low ts))))
     to from_not where
       to : (u : List Kind) (t : Term) → Either (λ k. when deep (is_not k)) (λ o. Next (glow not_part) (λ t. Nothing (unary unary_operator.Not t))) (Test deep glow) u t → Negation deep glow u t
       to u t (inl s) = affirmed s

@@ -149,11 +149,11 @@ after_asked deep low t nulls = either is_not (λ o. one (null_as (unary unary_op
 after_asked deep low t denies = next (one (choosing deep)) (after_choosing deep low false t)
 after_asked deep low t (chooses c) = after_choosing deep low true t c
 
-unfoldable pub test : Bool → (Part → Reader Kind Term) → Reader Kind Term
-test deep low = next (sum deep low) (λ t. either (asked deep) (after_asked deep low t) (pure t))
+unfoldable pub condition : Bool → (Part → Reader Kind Term) → Reader Kind Term
+condition deep low = next (sum deep low) (λ t. either (asked deep) (after_asked deep low t) (pure t))
 
 unfoldable pub negation : Bool → (Part → Reader Kind Term) → Reader Kind Term
-negation deep low = either (λ k. when deep (is_not k)) (λ o. next (low not_part) (λ t. pure (unary unary_operator.Not t))) (test deep low)
+negation deep low = either (λ k. when deep (is_not k)) (λ o. next (low not_part) (λ t. pure (unary unary_operator.Not t))) (condition deep low)
 
 unfoldable pub conjunction : Bool → (Part → Reader Kind Term) → Reader Kind Term
 conjunction deep low = level 2 (negation deep low)

@@ -267,13 +267,13 @@ fn nullness<'a>(
 }
 
 #[cycle(parser)]
-#[tactic(auto, using(crate::proofs::Onward::steps), unfolding(sb_sqlgrammar::specs::Reading::test))]
-fn test<'a>(
+#[tactic(auto, using(crate::proofs::Onward::steps), unfolding(sb_sqlgrammar::specs::Reading::condition))]
+fn condition<'a>(
     alloc: Global,
     depth: usize,
     tokens: &'a [Kind],
 ) -> Result<(Expression, &'a [Kind]), Missed<'a>>
-    ensures reads { Reads (λ x. (term_of x.0, x.1.now)) result (reading.test (nat_lt 0 depth) (reading.lower depth) tokens.now) }
+    ensures reads { Reads (λ x. (term_of x.0, x.1.now)) result (reading.condition (nat_lt 0 depth) (reading.lower depth) tokens.now) }
     ensures shorter { IfOk result (λ x. length x.1.now ≤ length tokens.now) }
 {
     let (left, rest) = sum(alloc, depth, tokens)?;
@@ -307,7 +307,7 @@ fn negation<'a>(
             let tree = Expression::unary(alloc, UnaryOperator::Not, inner)?;
             Ok((tree, rest))
         }
-        _ => test(alloc, depth, tokens),
+        _ => condition(alloc, depth, tokens),
     }
 }
 

@@ -44,8 +44,8 @@ decreases-pattern l = 16 * l.depth + 5
 abbrev pub decreases-denied : goal.decreases-denied
 decreases-denied l = 16 * l.depth + 6
 
-abbrev pub decreases-test : goal.decreases-test
-decreases-test l = 16 * l.depth + 7
+abbrev pub decreases-condition : goal.decreases-condition
+decreases-condition l = 16 * l.depth + 7
 
 abbrev pub decreases-negation : goal.decreases-negation
 decreases-negation l = 16 * l.depth + 8
