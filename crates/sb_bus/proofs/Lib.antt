@@ -4,4 +4,6 @@ pub mod Readings
 pub mod Saying
 pub mod Steps
 pub mod Advances
+pub mod Cuts
+pub mod Early
 pub mod Whole

@@ -1,10 +1,10 @@
 -- A line that is read part by part.
-use Rattle.std.proofs.Common.{◌≡◌, inl, inr, ℕ, ◌+◌, ◌-◌, ◌≤◌, List, [], ◌∷◌, ◌++◌, length, take, drop, Bool, true, false, Option, Some, None, refl, sym, ◌∙◌, ap, subst, arith, append_assoc, length-append, length-take}
-use Rattle.std.specs.Prelude.{IsTrue}
+use Rattle.std.proofs.Common.{◌≡◌, inl, inr, ℕ, ◌+◌, ◌-◌, ◌≤◌, ◌^◌, List, [], ◌∷◌, ◌++◌, length, take, drop, Bool, true, false, Option, Some, None, refl, sym, ◌∙◌, ap, subst, arith, append_assoc, length-append, length-take, rules}
+use Rattle.std.specs.Prelude.{IsTrue, Result, Ok, Err, IsErr, IsErrAnd}
 use Rattle.std.proofs.lemmas.List.{append-nil}
 use Rattle.sb_bus.specs.declared.front.Front.{Front}
 use Rattle.sb_bus.specs.declared.reader.Reader.{Reader}
-use Rattle.sb_bus.specs.Fronts.{StandsFor, NoFeed, Took, HasEnded, IsLastOf}
+use Rattle.sb_bus.specs.Fronts.{StandsFor, NoFeed, Took, HasEnded, IsLastOf, IsLong, IsLongPiece}
 use Rattle.sb_bus.specs.Readers.{pending_of, IsAt, TakesPart, ReadsLine, Reads}
 use Rattle.sb_bus.proofs.Splits.{NoFeed-append, took-took, took-ended}
 
@@ -80,3 +80,15 @@ end_at start input piece left after r next n at took none ended taken = record {
   ended = λ e. took-ended start left after input at.took ended;
   taken = omega (arith, taken, at.taken, none);
 }
+
+-- too much was read
+pub long_piece : (piece : List ℕ) (left after : Option (List ℕ)) (r : Reader) (n : ℕ) → Took left after (take n piece) → n ≤ length piece → 2 ^ 40 ≤ r.taken + n → IsLongPiece left after r.taken
+long_piece piece left after r n took within long = (take n piece, took, omega (arith, long, length-take n piece, within))
+
+pub long_at : (start : Option (List ℕ)) (input : List ℕ) (left after : Option (List ℕ)) (r : Reader) → IsAt start input left r → IsLongPiece left after r.taken → IsLong start after
+long_at start input left after r at long = (input ++ long.0, took-took start left after input long.0 at.took long.1, omega (arith, long.2, at.taken, length-append input long.0))
+
+-- an error that was passed on is the one that came
+pub error_passed : {T E : Type 0} (r : Result T E) (e x : E) → IsErr r × IsErrAnd r (λ y. y ≡ e) → r ≡ Err x → e ≡ x
+error_passed (Ok v) e x given is = absurd cc
+error_passed (Err y) e x given is = search (rules, given.1, is)

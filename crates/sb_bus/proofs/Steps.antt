@@ -36,7 +36,7 @@ pub refused_answer : (a : Result Reply Refusal) → kind_of a ≡ Refused → (i
 refused_answer (Ok reply) is = absurd cc
 refused_answer (Err r) is = (refused_kind r is, refl)
 
-going_on : (a : Result Reply Refusal) → is_fault a ≡ false → stops a ≡ false
+pub going_on : (a : Result Reply Refusal) → is_fault a ≡ false → stops a ≡ false
 going_on (Ok reply) e = refl
 going_on (Err r) e = by_refusal r e
   where
@@ -70,3 +70,8 @@ served s after asked a stopped told told_after refused step gains is = record {
   leads = step.leads;
   says = sym is ∙ ap is_err step.says;
 }
+
+-- want of memory doesn't stop a node
+pub still_runs_wanting : (s after : State) (before stopped : Option ℕ) (reading : ℕ) (call : Call) (a : Result Reply Refusal) → before ≡ None → IsStep (is_some before) s (answered 0 reading call a) (is_some stopped) after → a ≡ Err OutOfMemory → stopped ≡ None
+still_runs_wanting s after before stopped reading call a running step wants =
+    none_of stopped (step.stop ∙ ap (λ (b : Bool). if b then true else stops a) (ap is_some running) ∙ ap stops wants)

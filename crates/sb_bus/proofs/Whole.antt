@@ -19,7 +19,7 @@ use Rattle.sb_bus.specs.Runs.{IsScriptRun, state_after_all, calls_in, said_in, s
 use Rattle.sb_bus.specs.Tops.{Pair, IsWholeRun}
 
 -- the state after all lines is the state after the calls among them
-led_to : (s : State) (ls : List Said) → state_after_all s ls ≡ state_after s (entries_of 0 s (calls_in ls))
+pub led_to : (s : State) (ls : List Said) → state_after_all s ls ≡ state_after s (entries_of 0 s (calls_in ls))
 led_to s [] = refl
 led_to s (Blank ∷ ls) = led_to s ls
 led_to s (Faulty key ∷ ls) = led_to s ls

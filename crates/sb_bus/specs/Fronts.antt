@@ -1,5 +1,5 @@
 -- What is kept of a line that is being read, and what has been read of a source.
-use Rattle.std.specs.Prelude.{◌≡◌, ◌≢◌, ◌<◌, ◌≤◌, ℕ, List, [], ◌∷◌, ◌++◌, length, false, ◌==◌, Option, Some, None}
+use Rattle.std.specs.Prelude.{◌≡◌, ◌≢◌, ◌<◌, ◌≤◌, ◌+◌, ◌^◌, ℕ, List, [], ◌∷◌, ◌++◌, length, false, ◌==◌, Option, Some, None}
 use Rattle.sb_bus.specs.Lines.{is_blank, max_line}
 use Rattle.sb_bus.specs.declared.front.Front.{Front}
 use Rattle.sb_bus.specs.declared.front.Front.TheVariants.{Short, Long}
@@ -28,3 +28,11 @@ Took (Some before) after more = (rest : List ℕ) × (before ≡ more ++ rest) �
 abbrev pub HasEnded : Option (List ℕ) → Option (List ℕ) → Type 0
 HasEnded None after = Unit {0}
 HasEnded (Some before) after = after ≡ Some []
+
+-- 2^40 bytes or more were taken
+abbrev pub IsLong : Option (List ℕ) → Option (List ℕ) → Type 0
+IsLong left left_after = (input : List ℕ) × Took left left_after input × (2 ^ 40 ≤ length input)
+
+-- with one more piece behind so many bytes 2^40 bytes or more were taken
+abbrev pub IsLongPiece : Option (List ℕ) → Option (List ℕ) → ℕ → Type 0
+IsLongPiece left left_after taken = (piece : List ℕ) × Took left left_after piece × (2 ^ 40 ≤ taken + length piece)

@@ -2,4 +2,5 @@ pub mod Lines
 pub mod Fronts
 pub mod Readers
 pub mod Runs
+pub mod Endings
 pub mod Tops

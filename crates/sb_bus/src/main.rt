@@ -8,6 +8,7 @@ mod reader;
 mod running;
 mod said;
 mod serve;
+mod tell;
 #[cfg(test)]
 mod tests;
 mod top;

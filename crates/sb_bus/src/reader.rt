@@ -2,7 +2,7 @@
 ghost use Rattle.std.specs.Prelude.{◌≡◌, ◌≢◌, ◌≤◌, ◌<◌, ◌+◌, ◌-◌, ◌^◌, ◌++◌, [], ◌∷◌, ℕ, List, Option, Some, None, Ok, Err, IsTrue, true, false, length, take, drop, IfOk, IfErr, IfSome, OnOk, OnErr, IfNone, OnSome, position, ◌==◌};
 ghost use Rattle.std.specs.Bool.{OnTrue, OnFalse};
 ghost use Rattle.sb_outside.specs.Causes.{Rose, HasCause};
-ghost use Rattle.sb_bus.specs.Fronts.{StandsFor, NoFeed, Took, HasEnded};
+ghost use Rattle.sb_bus.specs.Fronts.{StandsFor, NoFeed, Took, HasEnded, IsLong, IsLongPiece};
 ghost use Rattle.sb_bus.specs.declared.reader.ReadEnd.TheVariants.{Fault, TooMuch};
 
 use crate::front::{Front, extended, last_line};
@@ -94,6 +94,7 @@ impl Reader {
             → IfOk result (λ o. Reads o start input (pending_of self.old) (S.left source.new) self.new) }
         ensures less { IfOk result (λ o. OnSome o (work_of self.new < work_of self.old)) }
         ensures fits { OnOk result (self.new.taken < 2 ^ 40) }
+        ensures long { (start : Option (List ℕ)) (input : List ℕ) → IsAt start input (S.left source.old) self.old → result ≡ Err TooMuch → IsLong start (S.left source.new) }
         ensures cause { result ≡ Err Fault → Rose (S.count source.old) (S.count source.new) }
         ensures later { S.count source.old ≤ S.count source.new }
     {
@@ -170,6 +171,7 @@ fn fill<S: Source>(source: &mut S, reader: &mut Reader) -> Result<(), ReadEnd>
     ensures start { OnOk result (reader.new.at ≡ 0) }
     ensures taken { OnOk result (reader.new.taken ≡ reader.old.taken + reader.new.end) }
     ensures fits { OnOk result (reader.new.taken < 2 ^ 40) }
+    ensures long { result ≡ Err TooMuch → IsLongPiece (S.left source.old) (S.left source.new) reader.old.taken }
     ensures ended { OnOk result (reader.new.end ≡ 0 → HasEnded (S.left source.old) (S.left source.new)) }
     ensures cause { result ≡ Err Fault → Rose (S.count source.old) (S.count source.new) }
     ensures later { S.count source.old ≤ S.count source.new }

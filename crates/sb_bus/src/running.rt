@@ -1,10 +1,11 @@
 // A run over script lines.
-ghost use Rattle.std.specs.Prelude.{◌≡◌, ◌≢◌, ◌≤◌, ◌||◌, ℕ, List, Option, None, Some, IfOk, IfErr, OnOk, false};
+ghost use Rattle.std.specs.Prelude.{◌≡◌, ◌≢◌, ◌≤◌, ◌||◌, None, Err, IfOk, IfErr};
 ghost use Rattle.sb_outside.specs.Causes.{Rose};
 ghost use Rattle.sb_model.specs.Answers.{max_moment};
 ghost use Rattle.sb_node.specs.Nodes.{node_state, node_stopped, node_journal, node_disk_a, node_disk_b, IsKept};
 ghost use Rattle.sb_bus.specs.Runs.{IsScriptRun};
-ghost use Rattle.sb_bus.specs.declared.serve.RunEnd.TheVariants.{ReadFault, WriteFault, DiskFault, LongInput};
+ghost use Rattle.sb_bus.specs.Endings.{IsCutRun, end_of_reading};
+ghost use Rattle.sb_bus.specs.declared.serve.RunEnd.TheVariants.{ReadFault, DiskFault};
 
 use crate::reader::{ReadEnd, Reader};
 use crate::said::said_by;
@@ -14,8 +15,7 @@ use sb_outside::{Disk, Sink, Source};
 use std::alloc::Global;
 
 fn end_of(end: ReadEnd) -> RunEnd
-    ensures fault { result ≡ ReadFault → end ≡ ReadEnd.Fault }
-    ensures only { (result ≢ WriteFault) × (result ≢ DiskFault) }
+    ensures { result ≡ end_of_reading end }
 {
     match end {
         ReadEnd::Fault => RunEnd::ReadFault,
@@ -30,7 +30,8 @@ fn either(a: bool, b: bool) -> bool
     a || b
 }
 
-/// Answers each line of the input; at its end it says whether a line was refused.
+/// Answers each line of the input; at its end it says whether a line was refused. `Err` says why it
+/// ended before.
 pub fn run_script<D: Disk, S: Source, K: Sink>(
     alloc: Global,
     node: &mut Node<D>,
@@ -39,9 +40,9 @@ pub fn run_script<D: Disk, S: Source, K: Sink>(
 ) -> Result<bool, RunEnd>
     requires { node_stopped node.old ≡ None }
     ensures done { IfOk result (IsScriptRun (node_state node.old) (S.left input.old) (S.left input.new) (K.given output.old) (K.given output.new) (node_state node.new)) }
-    ensures kept { (node_state node.old).now ≤ max_moment → IsKept (node_journal node.old) (node_state node.old) → OnOk result (IsKept (node_journal node.new) (node_state node.new)) }
+    ensures cut { IfErr result (IsCutRun (node_state node.old) (S.left input.old) (S.left input.new) (K.given output.old) (K.given output.new) (K.count output.old) (K.count output.new) (node_state node.new)) }
+    ensures kept { (node_state node.old).now ≤ max_moment → IsKept (node_journal node.old) (node_state node.old) → result ≢ Err DiskFault → IsKept (node_journal node.new) (node_state node.new) }
     ensures read_fault { IfErr result (λ e. e ≡ ReadFault → Rose (S.count input.old) (S.count input.new)) }
-    ensures write_fault { IfErr result (λ e. e ≡ WriteFault → Rose (K.count output.old) (K.count output.new)) }
     ensures disk_fault { IfErr result (λ e. e ≡ DiskFault → Rose (D.count (node_disk_a node.old)) (D.count (node_disk_a node.new))) }
     ensures later { D.count (node_disk_a node.old) ≤ D.count (node_disk_a node.new) }
     ensures honesty { D.honest (node_disk_a node.new) ≡ D.honest (node_disk_a node.old) }

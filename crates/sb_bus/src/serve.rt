@@ -1,19 +1,21 @@
 // Answering what a line says.
-ghost use Rattle.std.specs.Prelude.{◌≡◌, ◌≢◌, ◌⊎◌, ◌≤◌, ◌++◌, ℕ, List, None, Some, Ok, Err, OnOk, OnErr, IfOk, IfErr, true, false};
+ghost use Rattle.std.specs.Prelude.{◌≡◌, ◌≢◌, ◌≤◌, ℕ, List, None, Ok, Err, OnOk, IfOk, IfErr};
 ghost use Rattle.sb_outside.specs.Causes.{Rose};
-ghost use Rattle.sb_outside.specs.Streams.{Gains, GainsPart};
+ghost use Rattle.sb_outside.specs.Streams.{Gains};
 ghost use Rattle.sb_model.specs.Answers.{max_moment};
 ghost use Rattle.sb_script.specs.Replies.{answer_line};
 ghost use Rattle.sb_node.specs.Nodes.{node_state, node_stopped, node_journal, node_disk_a, node_disk_b, IsKept};
 ghost use Rattle.sb_bus.specs.Runs.{kind_of, IsServed};
-ghost use Rattle.sb_bus.specs.declared.serve.RunEnd.TheVariants.{ReadFault, WriteFault, DiskFault, OutOfMemory, LongInput};
-ghost use Rattle.sb_bus.specs.declared.said.Said.TheVariants.{Asked, Faulty};
+ghost use Rattle.sb_bus.specs.Endings.{IsUnsaid, IsCutAt};
+ghost use Rattle.sb_bus.specs.declared.serve.RunEnd.TheVariants.{DiskFault};
+ghost use Rattle.sb_bus.specs.declared.said.Said.TheVariants.{Asked};
 
 use crate::said::Said;
+use crate::tell::tell;
 use sb_model::{Answer, Refusal, Text, TimedCall};
 use sb_node::Node;
 use sb_outside::{Disk, Sink, write_all};
-use sb_script::write_reply;
+use sb_script::{disk_fault_line, out_of_memory_line, write_reply};
 use std::alloc::Global;
 
 /// Why a run ended before its input did.
@@ -50,9 +52,7 @@ fn kind_of_answer(answer: &Answer) -> AnswerKind
 // Writes the line of an answer.
 fn say<K: Sink>(alloc: Global, answer: &Answer, output: &mut K) -> Result<(), RunEnd>
     ensures ok { OnOk result (Gains (K.given output.old) (K.given output.new) (answer_line answer.now)) }
-    ensures err { OnErr result (GainsPart (K.given output.old) (K.given output.new) (answer_line answer.now)) }
-    ensures cause { result ≡ Err WriteFault → Rose (K.count output.old) (K.count output.new) }
-    ensures only { IfErr result (λ e. (e ≡ WriteFault) ⊎ (e ≡ OutOfMemory)) }
+    ensures err { IfErr result (λ e. IsUnsaid (answer_line answer.now) (K.given output.old) (K.given output.new) (K.count output.old) (K.count output.new) e) }
     ensures later { K.count output.old ≤ K.count output.new }
 {
     let Ok(line) = write_reply(alloc, answer) else {
@@ -73,26 +73,30 @@ fn serve_call<D: Disk, K: Sink>(
 ) -> Result<bool, RunEnd>
     requires { node_stopped node.old ≡ None }
     ensures done { IfOk result (IsServed (node_state node.old) (Asked asked.now) (K.given output.old) (K.given output.new) (node_state node.new)) }
+    ensures cut { IfErr result (IsCutAt (node_state node.old) (Asked asked.now) (K.given output.old) (K.given output.new) (K.count output.old) (K.count output.new) (node_state node.new)) }
     ensures running { OnOk result (node_stopped node.new ≡ None) }
-    ensures kept { (node_state node.old).now ≤ max_moment → IsKept (node_journal node.old) (node_state node.old) → OnOk result (IsKept (node_journal node.new) (node_state node.new)) }
-    ensures write_fault { result ≡ Err WriteFault → Rose (K.count output.old) (K.count output.new) }
+    ensures kept { (node_state node.old).now ≤ max_moment → IsKept (node_journal node.old) (node_state node.old) → result ≢ Err DiskFault → IsKept (node_journal node.new) (node_state node.new) }
     ensures disk_fault { result ≡ Err DiskFault → Rose (D.count (node_disk_a node.old)) (D.count (node_disk_a node.new)) }
-    ensures only { IfErr result (λ e. (e ≢ ReadFault) × (e ≢ LongInput)) }
     ensures later { (D.count (node_disk_a node.old) ≤ D.count (node_disk_a node.new)) × (K.count output.old ≤ K.count output.new) }
     ensures honesty { D.honest (node_disk_a node.new) ≡ D.honest (node_disk_a node.old) }
     ensures disk_b { node_disk_b node.new ≡ node_disk_b node.old }
 {
     let answer = node.step(asked.reading, &asked.call);
-    let said = say(alloc, &answer, output);
     match kind_of_answer(&answer) {
-        AnswerKind::Failed => Err(RunEnd::DiskFault),
-        AnswerKind::Wanting => Err(RunEnd::OutOfMemory),
+        AnswerKind::Failed => {
+            tell(output, disk_fault_line());
+            Err(RunEnd::DiskFault)
+        }
+        AnswerKind::Wanting => {
+            tell(output, out_of_memory_line());
+            Err(RunEnd::OutOfMemory)
+        }
         AnswerKind::Accepted => {
-            said?;
+            say(alloc, &answer, output)?;
             Ok(false)
         }
         AnswerKind::Refused => {
-            said?;
+            say(alloc, &answer, output)?;
             Ok(true)
         }
     }
@@ -107,11 +111,10 @@ pub fn serve_line<D: Disk, K: Sink>(
 ) -> Result<bool, RunEnd>
     requires { node_stopped node.old ≡ None }
     ensures done { IfOk result (IsServed (node_state node.old) line (K.given output.old) (K.given output.new) (node_state node.new)) }
+    ensures cut { IfErr result (IsCutAt (node_state node.old) line (K.given output.old) (K.given output.new) (K.count output.old) (K.count output.new) (node_state node.new)) }
     ensures running { OnOk result (node_stopped node.new ≡ None) }
-    ensures kept { (node_state node.old).now ≤ max_moment → IsKept (node_journal node.old) (node_state node.old) → OnOk result (IsKept (node_journal node.new) (node_state node.new)) }
-    ensures write_fault { result ≡ Err WriteFault → Rose (K.count output.old) (K.count output.new) }
+    ensures kept { (node_state node.old).now ≤ max_moment → IsKept (node_journal node.old) (node_state node.old) → result ≢ Err DiskFault → IsKept (node_journal node.new) (node_state node.new) }
     ensures disk_fault { result ≡ Err DiskFault → Rose (D.count (node_disk_a node.old)) (D.count (node_disk_a node.new)) }
-    ensures only { IfErr result (λ e. (e ≢ ReadFault) × (e ≢ LongInput)) }
     ensures later { (D.count (node_disk_a node.old) ≤ D.count (node_disk_a node.new)) × (K.count output.old ≤ K.count output.new) }
     ensures honesty { D.honest (node_disk_a node.new) ≡ D.honest (node_disk_a node.old) }
     ensures disk_b { node_disk_b node.new ≡ node_disk_b node.old }

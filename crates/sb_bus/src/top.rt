@@ -1,54 +1,46 @@
 // The program over whatever disks, streams, clock, doors and link it is handed.
-ghost use Rattle.std.specs.Prelude.{◌≡◌, ◌≢◌, ◌⊎◌, ◌≤◌, ◌↔◌, ℕ, Bool, List, map, Option, None, Some, IfSome, IsSome, IsTrue};
+ghost use Rattle.std.specs.Prelude.{◌≡◌, ◌≢◌, ◌≤◌, ◌↔◌, Bool, map, None, Some, IfOk, IfSome, IsSome, IsTrue, string_bytes};
 ghost use Rattle.sb_outside.specs.Causes.{Rose};
-ghost use Rattle.sb_node.specs.Recovery.{recovered, damaged};
+ghost use Rattle.sb_node.specs.Recovery.{recovered};
 ghost use Rattle.sb_model.specs.Answers.{max_moment};
 ghost use Rattle.sb_node.specs.Nodes.{node_state, node_stopped, node_journal, node_disk_a, node_disk_b, IsKept};
+ghost use Rattle.sb_bus.specs.Fronts.{IsLong};
 ghost use Rattle.sb_bus.specs.Runs.{IsScriptRun, status_by};
-ghost use Rattle.sb_bus.specs.Tops.{folder_in, IsWholeRun, IsBroken, pair_of};
-ghost use Rattle.sb_journal.specs.declared.found.Side.{Side};
+ghost use Rattle.sb_bus.specs.Endings.{IsCutRun, IsSaid, status_of_end};
+ghost use Rattle.sb_bus.specs.Tops.{folder_in, IsWholeRun, IsEarly, IsRefused, IsDamageSaid, IsStatus, IsRunStatus, IsFree, IsComplete, letter_of, usage_line, count_of, pair_of};
+ghost use Rattle.sb_bus.specs.Tops as tops;
+ghost use Rattle.sb_bus.specs.declared.serve.RunEnd.{RunEnd};
 
 use crate::running::run_script;
 use crate::serve::RunEnd;
+use crate::tell::tell;
 use crate::words::run_folder;
 use sb_journal::{OpenFault, OpenWhy, Side};
 use sb_node::Node;
-use sb_outside::{Clock, Disk, Door, Link, Sink, Source, write_all};
-use std::alloc::Global;
+use sb_outside::{Clock, Disk, Door, Link, Sink, Source};
+use std::alloc::{AllocError, Global};
 
 const USAGE: &str = "usage: bus COMMAND (run, serve, client, check, drill)\n";
 
-// Writes as much of a last line as the output takes.
-fn write_last<K: Sink>(output: &mut K, line: &str)
-    ensures { K.count output.old ≤ K.count output.new }
+fn letter(side: Side) -> &'static str
+    ensures { result.now ≡ letter_of side }
 {
-    let _ = write_all(output, line.as_bytes());
-}
-
-fn letter_of(side: Side) -> &'static str {
     match side {
         Side::A => "a",
         Side::B => "b",
     }
 }
 
-// Writes the line of a damaged journal, if there is memory for it.
-fn write_damage<K: Sink>(alloc: Global, output: &mut K, side: Side, place: u64)
-    ensures { K.count output.old ≤ K.count output.new }
+// The line of a damaged journal.
+fn damage_line(alloc: Global, side: Side, place: u64) -> Result<String, AllocError>
+    ensures { IfOk result (λ s. string_bytes s ≡ tops.damage_line side place) }
 {
-    let disk = letter_of(side);
-    if let Ok(line) = format!(in alloc;
-        "{{\"disk\":\"{disk}\",\"place\":{place},\"refused\":\"Damaged\"}}\n"
-    ) {
-        write_last(output, line.as_str());
-    }
+    let disk = letter(side);
+    format!(in alloc; "{{\"disk\":\"{disk}\",\"place\":{place},\"refused\":\"Damaged\"}}\n")
 }
 
 fn status_of(end: RunEnd) -> u8
-    ensures input { result ≡ 3 → end ≡ RunEnd.ReadFault }
-    ensures output { result ≡ 4 → end ≡ RunEnd.WriteFault }
-    ensures disk { result ≡ 5 → end ≡ RunEnd.DiskFault }
-    ensures others { (3 ≤ result) × (result ≢ 6) }
+    ensures { result ≡ status_of_end end }
 {
     match end {
         RunEnd::ReadFault => 3,
@@ -68,11 +60,12 @@ fn run_status<D: Disk, S: Source, K: Sink>(
     requires { node_stopped node.old ≡ None }
     ensures done { (refused : Bool) → result ≡ status_by refused
         → IsScriptRun (node_state node.old) (S.left input.old) (S.left input.new) (K.given output.old) (K.given output.new) (node_state node.new) refused }
-    ensures kept { (refused : Bool) → result ≡ status_by refused → (node_state node.old).now ≤ max_moment → IsKept (node_journal node.old) (node_state node.old) → IsKept (node_journal node.new) (node_state node.new) }
+    ensures cut { (end : RunEnd) → result ≡ status_of_end end
+        → IsCutRun (node_state node.old) (S.left input.old) (S.left input.new) (K.given output.old) (K.given output.new) (K.count output.old) (K.count output.new) (node_state node.new) end }
+    ensures kept { (node_state node.old).now ≤ max_moment → IsKept (node_journal node.old) (node_state node.old) → result ≢ 5 → IsKept (node_journal node.new) (node_state node.new) }
     ensures read_fault { result ≡ 3 → Rose (S.count input.old) (S.count input.new) }
-    ensures write_fault { result ≡ 4 → Rose (K.count output.old) (K.count output.new) }
     ensures disk_fault { result ≡ 5 → Rose (D.count (node_disk_a node.old)) (D.count (node_disk_a node.new)) }
-    ensures known { (result ≢ 2) × (result ≢ 6) }
+    ensures known { IsRunStatus result }
     ensures later { D.count (node_disk_a node.old) ≤ D.count (node_disk_a node.new) }
     ensures honesty { D.honest (node_disk_a node.new) ≡ D.honest (node_disk_a node.old) }
     ensures disk_b { node_disk_b node.new ≡ node_disk_b node.old }
@@ -84,16 +77,19 @@ fn run_status<D: Disk, S: Source, K: Sink>(
     }
 }
 
-// The status of an opening that failed, with the line that says so.
+// The status of an opening that failed, with the line that says so of a damaged journal.
 fn failed_status<K: Sink>(alloc: Global, output: &mut K, why: OpenWhy) -> u8
-    ensures damaged { result ≡ 6 → (side : Side) × (place : ℕ) × (why ≡ OpenWhy.Damaged side place) }
+    ensures damaged { result ≡ 6 → IsDamageSaid why (K.given output.old) (K.given output.new) (K.count output.old) (K.count output.new) }
+    ensures silent { result ≢ 6 → output.new ≡ output.old }
     ensures disk_fault { result ≡ 5 → why ≡ OpenWhy.DiskFault }
     ensures known { (5 ≤ result) × (result ≤ 7) }
-    ensures later { K.count output.old ≤ K.count output.new }
 {
     match why {
         OpenWhy::Damaged(side, place) => {
-            write_damage(alloc, output, side, place);
+            let Ok(line) = damage_line(alloc, side, place) else {
+                return 7;
+            };
+            tell(output, line.as_str());
             6
         }
         OpenWhy::DiskFault => 5,
@@ -120,16 +116,27 @@ pub fn top_alone<D: Disk, C: Clock, S: Source, K: Sink, N: Link>(
     ensures whole { (refused : Bool) → result.0 ≡ status_by refused → IsWholeRun (D.honest disk_a)
         (pair_of (D.held disk_a).seen (D.held disk_b).seen) (pair_of (D.held result.1).seen (D.held result.2).seen) salt
         (S.left input.old) (S.left input.new) (K.given output.old) (K.given output.new) result.0 }
+    ensures early { (end : RunEnd) → result.0 ≡ status_of_end end → IsEarly (D.honest disk_a)
+        (pair_of (D.held disk_a).seen (D.held disk_b).seen) (pair_of (D.held result.1).seen (D.held result.2).seen) salt
+        (S.left input.old) (S.left input.new) (K.given output.old) (K.given output.new) (count_of (K.count output.old) (K.count output.new)) end }
     ensures usage { result.0 ≡ 2 ↔ folder_in (map (λ w. w.now) words.now) ≡ None }
+    ensures usage_said { result.0 ≡ 2 → IsSaid usage_line (K.given output.old) (K.given output.new) (K.count output.old) (K.count output.new) }
+    ensures usage_alone { result.0 ≡ 2 → (result.1 ≡ disk_a) × (input.new ≡ input.old) }
     ensures read_fault { result.0 ≡ 3 → Rose (S.count input.old) (S.count input.new) }
     ensures write_fault { result.0 ≡ 4 → Rose (K.count output.old) (K.count output.new) }
     ensures disk_fault { result.0 ≡ 5 → Rose (D.count disk_a) (D.count result.1) }
-    ensures broken { result.0 ≡ 6 → IsTrue (D.honest disk_a) → IsBroken (recovered (D.held disk_a).seen (D.held disk_b).seen salt) }
+    ensures broken { result.0 ≡ 6 → IsRefused (D.honest disk_a) (recovered (D.held disk_a).seen (D.held disk_b).seen salt)
+        (S.left input.old) (S.left input.new) (K.given output.old) (K.given output.new) (count_of (K.count output.old) (K.count output.new)) }
+    ensures long { result.0 ≡ 10 → IsLong (S.left input.old) (S.left input.new) }
+    ensures known { IsStatus result.0 }
+    ensures complete { IsSome (folder_in (map (λ w. w.now) words.now)) → IsTrue (D.honest disk_a)
+        → IsFree (recovered (D.held disk_a).seen (D.held disk_b).seen salt) (S.left input.old) (count_of (S.count input.old) (S.count input.new)) (count_of (K.count output.old) (K.count output.new)) (count_of (D.count disk_a) (D.count result.1))
+        → IsComplete result.0 }
     ensures honesty { D.honest result.1 ≡ D.honest disk_a }
     ensures disk_b { result.2 ≡ disk_b }
 {
     if run_folder(words).is_none() {
-        write_last(output, USAGE);
+        tell(output, USAGE);
         return (2, disk_a, disk_b);
     }
     let mut node = match Node::open(alloc, disk_a, disk_b, salt) {
@@ -167,11 +174,22 @@ pub fn top<T, D: Disk + Send, C: Clock + Sync, S: Source, K: Sink, R: Door + Sen
     ensures whole { (refused : Bool) → result.0 ≡ status_by refused → IfSome result.1 (λ disks. IsWholeRun (D.honest disk_a)
         (pair_of (D.held disk_a).seen (D.held disk_b).seen) (pair_of (D.held disks.0).seen (D.held disks.1).seen) salt
         (S.left input.old) (S.left input.new) (K.given output.old) (K.given output.new) result.0) }
+    ensures early { (end : RunEnd) → result.0 ≡ status_of_end end → IfSome result.1 (λ disks. IsEarly (D.honest disk_a)
+        (pair_of (D.held disk_a).seen (D.held disk_b).seen) (pair_of (D.held disks.0).seen (D.held disks.1).seen) salt
+        (S.left input.old) (S.left input.new) (K.given output.old) (K.given output.new) (count_of (K.count output.old) (K.count output.new)) end) }
     ensures usage { result.0 ≡ 2 ↔ folder_in (map (λ w. w.now) words.now) ≡ None }
+    ensures usage_said { result.0 ≡ 2 → IsSaid usage_line (K.given output.old) (K.given output.new) (K.count output.old) (K.count output.new) }
+    ensures usage_alone { result.0 ≡ 2 → (result.1 ≡ Some (disk_a, disk_b)) × (input.new ≡ input.old) }
     ensures read_fault { result.0 ≡ 3 → Rose (S.count input.old) (S.count input.new) }
     ensures write_fault { result.0 ≡ 4 → Rose (K.count output.old) (K.count output.new) }
     ensures disk_fault { result.0 ≡ 5 → IfSome result.1 (λ disks. Rose (D.count disk_a) (D.count disks.0)) }
-    ensures broken { result.0 ≡ 6 → IsTrue (D.honest disk_a) → IsBroken (recovered (D.held disk_a).seen (D.held disk_b).seen salt) }
+    ensures broken { result.0 ≡ 6 → IsRefused (D.honest disk_a) (recovered (D.held disk_a).seen (D.held disk_b).seen salt)
+        (S.left input.old) (S.left input.new) (K.given output.old) (K.given output.new) (count_of (K.count output.old) (K.count output.new)) }
+    ensures long { result.0 ≡ 10 → IsLong (S.left input.old) (S.left input.new) }
+    ensures known { IsStatus result.0 }
+    ensures complete { IsSome (folder_in (map (λ w. w.now) words.now)) → IsTrue (D.honest disk_a) → IfSome result.1 (λ disks.
+        IsFree (recovered (D.held disk_a).seen (D.held disk_b).seen salt) (S.left input.old) (count_of (S.count input.old) (S.count input.new)) (count_of (K.count output.old) (K.count output.new)) (count_of (D.count disk_a) (D.count disks.0))
+        → IsComplete result.0) }
     ensures back { IsSome result.1 }
     ensures honesty { IfSome result.1 (λ disks. D.honest disks.0 ≡ D.honest disk_a) }
     ensures disk_b { IfSome result.1 (λ disks. disks.1 ≡ disk_b) }

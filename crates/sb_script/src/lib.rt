@@ -28,5 +28,5 @@ mod worked;
 pub use fault::LineFault;
 pub use laws::each_is_one_line;
 pub use line::read_line;
-pub use reply::write_reply;
+pub use reply::{disk_fault_line, out_of_memory_line, write_reply};
 pub use worked::{worked_calls, worked_faults, worked_replies};

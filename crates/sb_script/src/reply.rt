@@ -1,7 +1,7 @@
 // From an answer to the line of a reply.
-ghost use Rattle.std.specs.Prelude.{◌≡◌, ◌++◌, ◌∷◌, [], IfOk, false, map, string_bytes};
+ghost use Rattle.std.specs.Prelude.{◌≡◌, ◌++◌, ◌∷◌, [], Err, IfOk, false, map, string_bytes};
 ghost use Rattle.serde_json.specs.Data.{array, object};
-ghost use Rattle.sb_model.specs.declared.reply.Refusal.TheVariants.{BadCall};
+ghost use Rattle.sb_model.specs.declared.reply.Refusal.TheVariants.{BadCall, DiskFault, OutOfMemory};
 ghost use Rattle.serde_json.specs.View.{view, items_of};
 ghost use Rattle.serde_json.specs.Written.{has_float, compact_text};
 ghost use Rattle.sb_script.specs.Replies as replies;
@@ -122,4 +122,18 @@ pub fn write_reply(alloc: Global, answer: &Answer) -> Result<String, AllocError>
 {
     let value = answer_value(alloc, answer)?;
     line_text(alloc, &value)
+}
+
+/// The line of the refusal `DiskFault`, which takes no memory.
+pub fn disk_fault_line() -> &'static str
+    ensures { result.now ≡ replies.answer_line (Err DiskFault) }
+{
+    "{\"refused\":\"DiskFault\"}\n"
+}
+
+/// The line of the refusal `OutOfMemory`, which takes no memory itself.
+pub fn out_of_memory_line() -> &'static str
+    ensures { result.now ≡ replies.answer_line (Err OutOfMemory) }
+{
+    "{\"refused\":\"OutOfMemory\"}\n"
 }

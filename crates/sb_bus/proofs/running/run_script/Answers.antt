@@ -1,8 +1,11 @@
-use Rattle.std.proofs.Common.{◌≡◌, Option, arith, ◌∙◌, ap, subst}
+use Rattle.std.proofs.Common.{◌≡◌, Option, Err, arith, sym, ◌∙◌, ap, subst}
 use Rattle.sb_node.specs.Nodes.{node_state}
 use Rattle.sb_bus.specs.declared.front.Front.{Front}
 use Rattle.sb_bus.specs.Readers.{Reads, pending_of}
 use Rattle.sb_bus.proofs.Advances.{runs_on, still_runs, is_over, state_by_early}
+use Rattle.sb_bus.specs.declared.serve.RunEnd.TheVariants.{DiskFault, OutOfMemory}
+use Rattle.sb_bus.proofs.Cuts.{cut_at_once, cut_between, cut_at_line, reading_between, reading_long, passed_on, passes_on, same_error}
+use Rattle.sb_bus.specs.Endings.{IsBetween, end_of_reading}
 use Rattle.sb_bus.proofs.running.run_script.Goals as goal
 
 pub returns-then-is_done-clause-done : goal.returns-then-is_done-clause-done
@@ -16,7 +19,7 @@ returns-then-is_done-clause-done g c =
     is_over _ _ _ _ _ _ c.next_line.new.self _ run over.0 over.1
 
 pub returns-then-is_done-clause-kept : goal.returns-then-is_done-clause-kept
-returns-then-is_done-clause-kept g c early kept = c.in_ok-was_refused.ensures.kept (c.lines.invariant.early early) (c.lines.invariant.kept early kept)
+returns-then-is_done-clause-kept g c early kept sound = c.in_ok-was_refused.ensures.kept (c.lines.invariant.early early) (c.lines.invariant.kept early kept) (λ e. absurd cc)
 
 pub lines-preserved : goal.lines-preserved
 lines-preserved g c =
@@ -34,10 +37,40 @@ lines-preserved g c =
           let now : (node_state c.serve_line.new.node).now ≡ _ = ap (λ s. s.now) leads in
           let fits = state_by_early (node_state c.lines.node) c.in-Ok-said_by.line (c.lines.invariant.early before) in
           omega (arith, now, fits);
-      kept = λ before kept. c.in_ok-was_refused.ensures.kept (c.lines.invariant.early before) (c.lines.invariant.kept before kept);
+      kept = λ before kept. c.in_ok-was_refused.ensures.kept (c.lines.invariant.early before) (c.lines.invariant.kept before kept) (λ e. absurd cc);
       read_later = omega (arith, c.lines.invariant.read_later, c.next_line.ensures.later);
       write_later = omega (arith, c.lines.invariant.write_later, c.in_ok-was_refused.ensures.later.1);
       disk_later = omega (arith, c.lines.invariant.disk_later, c.in_ok-was_refused.ensures.later.0);
       honesty = c.in_ok-was_refused.ensures.honesty ∙ c.lines.invariant.honesty;
       disk_b = c.in_ok-was_refused.ensures.disk_b ∙ c.lines.invariant.disk_b;
     }
+
+pub returns-in_default-clause-cut : goal.returns-in_default-clause-cut
+returns-in_default-clause-cut g c = cut_at_once _ _ _ _ _
+
+pub returns-in-Err-clause-cut : goal.returns-in-Err-clause-cut
+returns-in-Err-clause-cut g c =
+    let so_far = c.lines.invariant.so_far in
+    let start = g.S.Source.left c.args.input.now in
+    let end : c.end_of.result ≡ end_of_reading c.in-Err.end = c.end_of.ensures in
+    cut_between (node_state c.args.node.now) (node_state c.lines.node) start (g.S.Source.left c.lines.input) (g.S.Source.left c.next_line.new.source) _ _ c.lines.reader c.lines.refused _ _ c.end_of.result so_far
+    (subst IsBetween (sym end) (reading_between c.in-Err.end)) (λ is. c.in-Err.ensures.long start so_far.input so_far.at (ap Err (reading_long c.in-Err.end (sym end ∙ is))))
+
+pub returns-in_default-said_by-clause-cut : goal.returns-in_default-said_by-clause-cut
+returns-in_default-said_by-clause-cut g c =
+    let so_far = c.lines.invariant.so_far in
+    cut_between _ _ _ _ _ _ _ c.lines.reader c.lines.refused _ _ OutOfMemory so_far tt (λ e. absurd cc)
+
+pub returns-in_err-was_refused-clause-cut : goal.returns-in_err-was_refused-clause-cut
+returns-in_err-was_refused-clause-cut g c =
+    let so_far = c.lines.invariant.so_far in
+    let start = g.S.Source.left c.args.input.now in
+    let left = g.S.Source.left c.next_line.new.source in
+    let reads = subst (λ (o : Option Front). Reads o start so_far.input (pending_of c.lines.reader) left c.next_line.new.self) c.in-Ok-Some.field-0-is (c.in-Ok-Some.ensures.reads start so_far.input so_far.at) in
+    passed_on _ c.in_err-was_refused.field-0.0 c.from_residual.result c.from_residual.ensures
+    (cut_at_line (node_state c.args.node.now) (node_state c.lines.node) (node_state c.serve_line.new.node) start (g.S.Source.left c.lines.input) left _ (g.K.Sink.given c.lines.output) _ c.lines.reader c.next_line.new.self c.lines.refused _ (g.K.Sink.count c.lines.output) _ c.in_err-was_refused.field-0.0
+    c.in-Ok-Some.front c.in-Ok-said_by.line so_far reads (c.in-Ok-said_by.ensures reads.line reads.stands) c.in_err-was_refused.ensures.cut c.lines.invariant.write_later)
+
+pub returns-in_err-was_refused-clause-kept : goal.returns-in_err-was_refused-clause-kept
+returns-in_err-was_refused-clause-kept g c early kept sound =
+    c.in_err-was_refused.ensures.kept (c.lines.invariant.early early) (c.lines.invariant.kept early kept) (λ is. sound (passes_on c.from_residual.result c.in_err-was_refused.field-0.0 DiskFault c.from_residual.ensures (same_error _ _ is)))

@@ -1,8 +1,8 @@
-use Rattle.std.proofs.Common.{◌≡◌, ◌+◌, ◌++◌, ℕ, List, arith, sym, ◌∙◌, ap, subst, take, length, refl, length-append, append_assoc, true, false}
+use Rattle.std.proofs.Common.{◌≡◌, ◌+◌, ◌++◌, ℕ, List, arith, sym, ◌∙◌, ap, subst, take, length, refl, length-append, append_assoc, true, false, Err}
 use Rattle.std.specs.Bool.{OnFalse}
 use Rattle.sb_bus.specs.Readers.{pending_of, work_of, IsAt}
 use Rattle.sb_bus.proofs.Splits.{took-ended}
-use Rattle.sb_bus.proofs.Readings.{same_at, line_found, line_ended, piece_at, piece_on, without_feed, start_pending, end_at}
+use Rattle.sb_bus.proofs.Readings.{same_at, line_found, line_ended, piece_at, piece_on, without_feed, start_pending, end_at, long_at, error_passed}
 use Rattle.sb_bus.proofs.reader.Reader.next_line.Goals as goal
 
 pub returns-then-found-clause-reads : goal.returns-then-found-clause-reads
@@ -53,3 +53,9 @@ pieces-preserved g c =
       fits = filled.fits;
       later = omega (arith, so_far.later, filled.later);
     }
+
+pub returns-in_err-fill-clause-long : goal.returns-in_err-fill-clause-long
+returns-in_err-fill-clause-long g c start input is end =
+    let so_far = c.pieces.invariant in
+    let at = same_at start (input ++ so_far.more) _ c.pieces.self c.take_part.new.self c.take_part.ensures.ended c.take_part.ensures.taken (so_far.at start input is) in
+    long_at start (input ++ so_far.more) _ _ c.take_part.new.self at (c.in_err-fill.ensures.long (ap Err (error_passed _ _ _ c.from_residual-in_err-fill.ensures end)))
