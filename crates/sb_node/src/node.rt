@@ -1,5 +1,5 @@
 // The node: a namespace whose every change is in its journal before it is answered.
-ghost use Rattle.std.specs.Prelude.{◌≡◌, ◌≤◌, ℕ, Some, None, Err, is_some, IsTrue, true, IfOk, IfErr, OnOk};
+ghost use Rattle.std.specs.Prelude.{◌≡◌, ◌≢◌, ◌≤◌, ℕ, Some, None, Err, is_some, IsTrue, true, false, IfOk, IfErr, OnOk};
 ghost use Rattle.std.specs.Result.{MatchResult};
 ghost use Rattle.sb_outside.specs.Causes.{Rose};
 ghost use Rattle.sb_journal.specs.Journals.{journal_disk_a, journal_disk_b};
@@ -46,7 +46,7 @@ impl<D: Disk> Node<D> {
     ghost use Rattle.sb_node.specs.Nodes.{node_state, node_stopped, node_journal, node_disk_a, node_disk_b, IsKept, IsStep, IsLogged, IsUnrecorded};
     ghost use Rattle.sb_node.specs.Recovery.{recovered, damaged, Recovers};
     ghost use Rattle.sb_node.specs.Engine.{planned, is_change, HasRoom, IsFitting};
-    ghost use Rattle.sb_model.specs.Answers.{row_of, max_moment};
+    ghost use Rattle.sb_model.specs.Answers.{row_of, moment_of, is_move, max_moment};
     ghost use Rattle.sb_model.specs.declared.call.Event.TheVariants.{Called};
     ghost use Rattle.sb_journal.specs.Text.{File};
     ghost use Rattle.sb_journal.specs.Journals.{IsSettled};
@@ -108,6 +108,13 @@ impl<D: Disk> Node<D> {
     pub fn step(&mut self, reading: u64, call: &Call) -> Answer
         ensures step { (seat : ℕ) → IsStep (is_some (node_stopped self.old)) (node_state self.old) (answered seat reading call.now result) (is_some (node_stopped self.new)) (node_state self.new) }
         ensures kept { (node_state self.old).now ≤ max_moment → IsKept (node_journal self.old) (node_state self.old) → node_stopped self.new ≡ None → IsKept (node_journal self.new) (node_state self.new) }
+
+        // What is refused changes nothing, and unless the disk failed its journal is as it was: all memory was taken before.
+        ensures untouched { IfErr result (λ e. (node_state self.new ≡ node_state self.old) × (e ≢ DiskFault → node_journal self.new ≡ node_journal self.old)) }
+
+        // So is the journal where the machine changes nothing.
+        ensures unchanging { is_move (row_of (node_state self.old) (moment_of (node_state self.old) reading) call.now) ≡ false
+            → (node_state self.new ≡ node_state self.old) × (node_journal self.new ≡ node_journal self.old) }
 
         // Each answer that isn't the machine's has its cause.
         ensures disk_fault { result ≡ Err DiskFault → Rose (D.count (node_disk_a self.old)) (D.count (node_disk_a self.new)) }
