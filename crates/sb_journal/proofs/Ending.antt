@@ -4,12 +4,11 @@ use Rattle.std.specs.Prelude.{nat_lt, ◌&&◌, ◌==◌, slice_index}
 use Rattle.std.proofs.lemmas.List.{take_at, drop_at, get_or_at}
 use Rattle.std.proofs.lemmas.Bool.Decides.{nat_tests}
 use Rattle.sb_outside.specs.Held.{Held, IsImage, Moves, MayMove, overwritten, touched, at_rest}
-use Rattle.sb_journal.specs.Text.{File, new_file, file_text}
-use Rattle.sb_journal.specs.Framing.{Framing, Uncreated, Whole, Damaged, framing}
+use Rattle.sb_journal.specs.Text.{File, file_text}
 use Rattle.sb_journal.specs.Laws.{Spells}
-use Rattle.sb_journal.specs.Settled.{IsOldNoneOrNew, IsTornEnd, MayLeave}
-use Rattle.sb_journal.specs.Moments.{EachMoment, FromSync}
-use Rattle.sb_journal.proofs.Moments.{started, goes_on, stays, may_go_on, from_start, weaker_moments}
+use Rattle.sb_journal.specs.Settled.{IsTornEnd}
+use Rattle.sb_journal.specs.Moments.{EachMoment}
+use Rattle.sb_journal.proofs.Moments.{started, goes_on, stays, may_go_on}
 use Rattle.sb_journal.proofs.Images.{rest_image, front_stays, one_place}
 
 module _ (f : File) (bytes : List ℕ) (end : ℕ) (spells : Spells f bytes) (end_is : end ≡ length (file_text f)) (p0 : List Held) (h0 : Held) (at : h0 ≡ at_rest bytes) where

@@ -1,5 +1,5 @@
 -- What two disks stand for, and what an opening says of it.
-use Rattle.std.specs.Prelude.{◌≡◌, ◌≤◌, ◌+◌, ◌&&◌, ◌==◌, ◌^◌, ℕ, List, [], length, nat_lt, slice_index, Bool, true}
+use Rattle.std.specs.Prelude.{◌≡◌, ◌≤◌, ◌+◌, ◌&&◌, ◌==◌, ◌^◌, ℕ, List, [], length, nat_lt, slice_index, true}
 use Rattle.sb_outside.specs.Held.{Held, at_rest}
 use Rattle.sb_journal.specs.declared.found.Side.{Side}
 use Rattle.sb_journal.specs.declared.found.Side.TheVariants.{A}
