@@ -4,12 +4,11 @@ use Rattle.std.specs.Prelude.{nat_lt, ◌&&◌, ◌==◌, slice_index}
 use Rattle.std.proofs.lemmas.List.{take_at, drop_at, get_or_at}
 use Rattle.std.proofs.lemmas.Bool.Decides.{nat_tests}
 use Rattle.sb_outside.specs.Held.{Held, IsImage, Moves, MayMove, overwritten, touched, at_rest}
-use Rattle.sb_journal.specs.Text.{File, new_file, file_text}
-use Rattle.sb_journal.specs.Framing.{Framing, Uncreated, Whole, Damaged, framing}
+use Rattle.sb_journal.specs.Text.{File, file_text}
 use Rattle.sb_journal.specs.Laws.{Spells}
-use Rattle.sb_journal.specs.Settled.{IsOldNoneOrNew, IsTornEnd, MayLeave}
-use Rattle.sb_journal.specs.Moments.{EachMoment, FromSync}
-use Rattle.sb_journal.proofs.Moments.{started, goes_on, stays, may_go_on, from_start, weaker_moments}
+use Rattle.sb_journal.specs.Settled.{IsTornEnd}
+use Rattle.sb_journal.specs.Moments.{EachMoment}
+use Rattle.sb_journal.proofs.Moments.{started, goes_on, stays, may_go_on}
 use Rattle.sb_journal.proofs.Images.{rest_image, front_stays, one_place}
 
 module _ (f : File) (bytes : List ℕ) (end : ℕ) (spells : Spells f bytes) (end_is : end ≡ length (file_text f)) (p0 : List Held) (h0 : Held) (at : h0 ≡ at_rest bytes) where
@@ -74,42 +73,3 @@ module _ (f : File) (bytes : List ℕ) (end : ℕ) (spells : Spells f bytes) (en
           gone was tail is =
               ap (λ (l : List ℕ). drop (end + 1) l) (is ∙ sym (append_assoc (file_text f) (was ∷ []) tail))
               ∙ drop_at (file_text f ++ was ∷ []) tail (end + 1) (omega (arith, end_is, length-append (file_text f) (was ∷ [])))
-
--- a file is made on a disk at rest, from its first sync on
-pub makes_from_rest : (file : File) (p0 p1 : List Held) (h0 h1 : Held) → h0 ≡ at_rest h0.seen → FromSync p0 h0 p1 h1 (IsOldNoneOrNew h0.seen file) → EachMoment p0 p1 h1 (IsOldNoneOrNew h0.seen file)
-makes_from_rest file p0 p1 h0 h1 at run = from_start p0 p1 h0 h1 (IsOldNoneOrNew h0.seen file) run (λ image left. inl (rest_image h0.seen image (subst (λ h. IsImage h image) at left)))
-
-pub unchanged : (salt : ℕ) (seen : List ℕ) (r : Framing) (image : List ℕ) → image ≡ seen → MayLeave salt seen r image
-unchanged salt seen Uncreated image is = inl is
-unchanged salt seen (Whole f) image is = inl is
-unchanged salt seen (Damaged place) image is = is
-
--- an opening, from its first sync on
-module _ (salt : ℕ) (p0 p1 p2 : List Held) (h0 h1 h2 : Held) (synced : Moves p0 h0 p1 h1 (at_rest h0.seen)) (same_past : p2 ≡ p1) (same_now : h2 ≡ h1) where
-  abbrev R : List ℕ → Type 0
-  R = MayLeave salt h0.seen (framing h0.seen)
-
-  pub now_at : h2 ≡ at_rest h0.seen
-  now_at = same_now ∙ synced.now_is
-
-  pub now_seen : h2.seen ≡ h0.seen
-  now_seen = ap (λ h. h.seen) now_at
-
-  past_at : p2 ≡ p0 ++ h0 ∷ []
-  past_at = same_past ∙ synced.past_is
-
-  from_here : (p3 : List Held) (h3 : Held) → EachMoment p2 p3 h3 R → FromSync p0 h0 p3 h3 R
-  from_here p3 h3 run = inr (subst (λ p. EachMoment p p3 h3 R) past_at run)
-
-  pub opening_stays : FromSync p0 h0 p2 h2 R
-  opening_stays = from_here p2 h2 (started p2 h2 R (λ image left. unchanged salt h0.seen (framing h0.seen) image (rest_image h0.seen image (subst (λ h. IsImage h image) now_at left))))
-
-  pub opening_makes : framing h0.seen ≡ Uncreated → (p3 : List Held) (h3 : Held) → EachMoment p2 p3 h3 (IsOldNoneOrNew h2.seen (new_file salt 1 1 [])) → FromSync p0 h0 p3 h3 R
-  opening_makes reads p3 h3 run = from_here p3 h3 (weaker_moments p2 p3 h3 _ R (λ image left.
-      let P : Framing → Type 0 = λ r. MayLeave salt h0.seen r image in
-      subst P (sym reads) (subst (λ (s : List ℕ). IsOldNoneOrNew s (new_file salt 1 1 []) image) now_seen left)) run)
-
-  pub opening_closes : (f : File) → framing h0.seen ≡ Whole f → (bytes : List ℕ) → bytes ≡ h0.seen → (p3 : List Held) (h3 : Held) → EachMoment p2 p3 h3 (λ image. (image ≡ bytes) ⊎ IsTornEnd f bytes image) → FromSync p0 h0 p3 h3 R
-  opening_closes f reads bytes bytes_is p3 h3 run = from_here p3 h3 (weaker_moments p2 p3 h3 _ R (λ image left.
-      let P : Framing → Type 0 = λ r. MayLeave salt h0.seen r image in
-      subst P (sym reads) (subst (λ (s : List ℕ). (image ≡ s) ⊎ IsTornEnd f s image) bytes_is left)) run)

@@ -9,5 +9,6 @@ pub mod Moments
 pub mod Onward
 pub mod Parts
 pub mod Scan
+pub mod Settling
 pub mod Shut
 pub mod Wholes

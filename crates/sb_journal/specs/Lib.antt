@@ -5,3 +5,4 @@ pub mod Moments
 pub mod Opened
 pub mod Settled
 pub mod Text
+pub mod Unsettled

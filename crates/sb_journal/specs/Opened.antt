@@ -1,14 +1,16 @@
 -- What two disks stand for, and what an opening says of it.
-use Rattle.std.specs.Prelude.{◌≡◌, ◌≤◌, ◌+◌, ◌^◌, ℕ, List, [], length}
+use Rattle.std.specs.Prelude.{◌≡◌, ◌≤◌, ◌+◌, ◌&&◌, ◌==◌, ◌^◌, ℕ, List, [], length, nat_lt, slice_index, true}
+use Rattle.sb_outside.specs.Held.{Held, at_rest}
 use Rattle.sb_journal.specs.declared.found.Side.{Side}
 use Rattle.sb_journal.specs.declared.found.Side.TheVariants.{A}
 use Rattle.sb_journal.specs.declared.found.Found.{Found}
 use Rattle.sb_journal.specs.declared.reading.Stand.{Stand}
+use Rattle.sb_journal.specs.declared.reading.Ending.{Ending}
 use Rattle.sb_journal.specs.declared.reading.Reading.{Reading}
 use Rattle.sb_journal.specs.declared.reading.Reading.TheVariants.{NoFile, AFile, BadFile}
-use Rattle.sb_journal.specs.Text.{File, new_file, file_text}
+use Rattle.sb_journal.specs.Text.{File, new_file, file_text, AreBytes}
 use Rattle.sb_journal.specs.Laws.{Spells}
-use Rattle.sb_journal.specs.Framing.{Framing, Uncreated, Whole, Damaged, framing}
+use Rattle.sb_journal.specs.Framing.{Framing, Uncreated, Whole, Damaged, framing, is_created}
 
 pub data Opened : Type 0 where
   -- this disk's file counts
@@ -50,3 +52,14 @@ abbrev pub IsReading : Reading → List ℕ → Type 0
 IsReading NoFile bytes = framing bytes ≡ Uncreated
 IsReading (AFile s) bytes = IsWholeStand s bytes
 IsReading (BadFile place) bytes = framing bytes ≡ Damaged place
+
+-- A disk was read and not written to, and this is where the file ends that counts.
+pub record IsRead (held : Held) (ending : Ending) : Type 0 where
+  pub rests : held ≡ at_rest held.seen
+  pub bytes : AreBytes held.seen
+  pub small : length held.seen ≤ 2 ^ 62
+  pub made : ending.made ≡ is_created held.seen
+  pub inside : ending.made ≡ true → ending.end ≤ length held.seen
+  pub closed : ending.made ≡ true → ending.closed ≡ (nat_lt ending.end (length held.seen) && (slice_index held.seen ending.end == 0))
+  pub end : (salt : ℕ) (file : File) → opened_alone salt (framing held.seen) ≡ Stands A file → ending.end ≡ length (file_text file)
+  pub next : (salt : ℕ) (file : File) → opened_alone salt (framing held.seen) ≡ Stands A file → ending.next ≡ file.first + length file.payloads

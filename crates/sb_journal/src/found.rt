@@ -28,8 +28,7 @@ pub struct Found {
 /// Why a journal isn't open.
 #[derive(Clone, Copy, Debug, PartialEq, Eq)]
 pub enum OpenWhy {
-    /// This disk has a file that can't be read, from this place on. Where the file's own framing is at
-    /// fault, nothing was written to it.
+    /// This disk has a file that can't be read, from this place on. Nothing was written to it.
     Damaged(Side, u64),
     /// A call of a disk failed.
     DiskFault,

@@ -1,14 +1,12 @@
 // A journal that is open on its disks.
-ghost use Rattle.std.specs.Prelude.{◌≡◌, ◌≤◌, ◌+◌, ◌^◌, List, ℕ, Bool, true, false, IsTrue, length, slice_index, [], vec_capacity, IfOk, IfErr, OnOk, OnErr};
+ghost use Rattle.std.specs.Prelude.{◌≡◌, ◌≢◌, ◌≤◌, ◌+◌, ◌^◌, List, ℕ, Bool, true, false, IsTrue, length, slice_index, [], vec_capacity, IfOk, IfErr, OnOk, OnErr};
 ghost use Rattle.std.specs.Result.{MatchResult};
 ghost use Rattle.sb_outside.specs.Causes.{HasCause, Rose};
 ghost use Rattle.sb_journal.specs.Text.{File, gate_after, max_payload, with_payload};
 ghost use Rattle.sb_journal.specs.Framing.{Uncreated, framing};
 
-use crate::append::{FRAME_BYTES, append_frame, frame_in};
-use crate::opening::recover;
-use crate::reading::{MAX_PAYLOAD, Stand};
-use crate::{Bytes, Found, OpenFault, OpenWhy, Side};
+use crate::append::{append_frame, frame_in};
+use crate::{Found, OpenFault, OpenWhy, Unsettled};
 use sb_outside::{Disk, DiskFault};
 use std::alloc::Global;
 
@@ -33,10 +31,9 @@ pub struct Journal<D: Disk> {
 
 impl<D: Disk> Journal<D> {
     ghost use Rattle.sb_journal.specs.declared.found.Side.{Side};
-    ghost use Rattle.sb_journal.specs.declared.found.Side.TheVariants.{A};
-    ghost use Rattle.sb_journal.specs.Opened.{Stands, Damage, opened, found_file, stand_file};
+    ghost use Rattle.sb_journal.specs.Opened.{Stands, Damage, opened, found_file};
     ghost use Rattle.sb_journal.specs.Settled.{Rests, IsBeforeOrAfter, IsTornAppend, MayLeave};
-    ghost use Rattle.sb_journal.specs.Moments.{EachMoment, FromSync};
+    ghost use Rattle.sb_journal.specs.Moments.{EachMoment, FromSync, IsUnwritten};
     ghost use Rattle.sb_journal.specs.Journals.{journal_disk_a, journal_disk_b, has_failed, fault_count, IsSettled};
 
     /// Opens the journal that stands on these disks, from what they hold: its file, and the
@@ -60,6 +57,9 @@ impl<D: Disk> Journal<D> {
         ensures damaged { IfErr result (λ e. IsTrue (D.honest disk_a) → (side : Side) (place : ℕ) → e.why ≡ OpenWhy.Damaged side place
             → (opened (D.held disk_a).seen (D.held disk_b).seen salt ≡ Damage side place) × ((D.held e.disk_a).seen ≡ (D.held disk_a).seen)) }
 
+        // Nothing was written unless a call of the disk failed.
+        ensures untouched { IfErr result (λ e. IsTrue (D.honest disk_a) → e.why ≢ OpenWhy.DiskFault → IsUnwritten (D.past disk_a) (D.held disk_a) (D.past e.disk_a) (D.held e.disk_a)) }
+
         // From the first sync on a crash leaves what was found, up to the end gate; where there was no file, no file or
         // the new one. What is no file of this kind, and begins with neither 00 nor 01, is taken over with no such word.
         ensures any_moment { IsTrue (D.honest disk_a) → (framing (D.held disk_a).seen ≡ Uncreated → slice_index (D.held disk_a).seen 0 ≤ 1)
@@ -71,20 +71,12 @@ impl<D: Disk> Journal<D> {
         ensures honesty { MatchResult result (λ x. D.honest (journal_disk_a x.0) ≡ D.honest disk_a) (λ e. D.honest e.disk_a ≡ D.honest disk_a) }
         ensures disk_b { MatchResult result (λ x. journal_disk_b x.0 ≡ disk_b) (λ e. e.disk_b ≡ disk_b) }
     {
-        let mut disk_a = disk_a;
-        let Ok(buffer) = Vec::with_capacity(alloc, MAX_PAYLOAD + FRAME_BYTES) else {
-            return Err(out_of_memory(disk_a, disk_b));
-        };
-        let Ok(base) = Bytes::of(alloc, &[]) else {
-            return Err(out_of_memory(disk_a, disk_b));
-        };
-        match recover(alloc, &mut disk_a, salt) {
-            Ok(stand) => Ok(Journal::started(disk_a, disk_b, buffer, base, stand)),
-            Err(why) => Err(OpenFault {
-                disk_a,
-                disk_b,
-                why,
-            }),
+        match Unsettled::read(alloc, disk_a, disk_b, salt) {
+            Ok((unsettled, found)) => match unsettled.settle() {
+                Ok(journal) => Ok((journal, found)),
+                Err(fault) => Err(fault),
+            },
+            Err(fault) => Err(fault),
         }
     }
 
@@ -121,43 +113,25 @@ impl<D: Disk> Journal<D> {
         Ok(number)
     }
 
-    // A journal that goes on behind the end gate of this file.
-    fn started(
-        disk_a: D,
-        disk_b: D,
-        buffer: Vec<u8>,
-        base: Bytes,
-        stand: Stand,
-    ) -> (Journal<D>, Found)
-        requires room { IsTrue (D.honest disk_a) → stand.end + 1 ≤ (D.held disk_a).least }
-        requires end_fits { stand.end ≤ 2 ^ 62 }
-        requires next_fits { stand.next ≤ 2 ^ 62 + stand.end }
+    // A journal that goes on behind the end gate at this place.
+    pub(crate) fn started(disk_a: D, disk_b: D, buffer: Vec<u8>, end: u64, next: u64) -> Journal<D>
+        requires room { IsTrue (D.honest disk_a) → end + 1 ≤ (D.held disk_a).least }
+        requires end_fits { end ≤ 2 ^ 62 }
+        requires next_fits { next ≤ 2 ^ 62 + end }
         requires buffer_fits { max_payload + 13 ≤ vec_capacity buffer }
-        requires base { base ≡ [] }
-        ensures disk_a { journal_disk_a result.0 ≡ disk_a }
-        ensures disk_b { journal_disk_b result.0 ≡ disk_b }
-        ensures running { has_failed result.0 ≡ false }
-        ensures file { found_file result.1 ≡ stand_file stand }
-        ensures side { result.1.disk ≡ A }
-        ensures settled { IsTrue (D.honest disk_a) → Rests (D.held disk_a) stand.end stand.next (stand_file stand) → IsSettled result.0 (stand_file stand) }
+        ensures disk_a { journal_disk_a result ≡ disk_a }
+        ensures disk_b { journal_disk_b result ≡ disk_b }
+        ensures running { has_failed result ≡ false }
+        ensures settled { (file : File) → IsTrue (D.honest disk_a) → Rests (D.held disk_a) end next file → IsSettled result file }
     {
-        let journal = Journal {
+        Journal {
             disk_a,
             disk_b,
             buffer,
-            end: stand.end,
-            next: stand.next,
+            end,
+            next,
             failed: false,
-        };
-        let found = Found {
-            disk: Side::A,
-            generation: stand.generation,
-            salt: stand.salt,
-            first: stand.first,
-            base,
-            payloads: stand.payloads,
-        };
-        (journal, found)
+        }
     }
 
     /// The count of faults of the disk whose call failed last, 0 where no call of this journal failed.
@@ -183,18 +157,5 @@ impl<D: Disk> Journal<D> {
             failed: _,
         } = self;
         (disk_a, disk_b)
-    }
-}
-
-// No memory for what an opening needs; no disk was called.
-fn out_of_memory<D>(disk_a: D, disk_b: D) -> OpenFault<D>
-    ensures disk_a { result.disk_a ≡ disk_a }
-    ensures disk_b { result.disk_b ≡ disk_b }
-    ensures why { result.why ≡ OpenWhy.OutOfMemory }
-{
-    OpenFault {
-        disk_a,
-        disk_b,
-        why: OpenWhy::OutOfMemory,
     }
 }

@@ -5,7 +5,8 @@
 //! at the first gate that isn't open. A record is written behind its closed gate and made safe, and
 //! then the gate is opened and made safe: so a crash at any moment leaves the file with the record
 //! or without it. That is what `append` says; `open` says that it reads exactly what the bytes
-//! stand for, and names the place of damage where they can't be read.
+//! stand for, and names the place of damage where they can't be read. Who judges the payloads too
+//! before anything is written opens in two parts: `Unsettled::read`, and then `settle`.
 //!
 //! ```text
 //! let (mut journal, found) = Journal::open(alloc, disk_a, disk_b, salt)?;
@@ -23,8 +24,10 @@ mod opening;
 mod reading;
 #[cfg(test)]
 mod tests;
+mod unsettled;
 
 pub use creating::create;
 pub use found::{Found, OpenFault, OpenWhy, Side};
 pub use journal::Journal;
 pub use sb_outside::Bytes;
+pub use unsettled::Unsettled;

@@ -1,18 +1,18 @@
-// Opening a journal: all of its file is read, a torn end is closed, and where there is no file one
-// is made.
-ghost use Rattle.std.specs.Prelude.{◌≡◌, ◌≢◌, ◌⊎◌, ◌≤◌, ◌<◌, ◌==◌, ◌&&◌, nat_lt, slice_index, ◌+◌, ◌++◌, [], ◌∷◌, ◌^◌, List, ℕ, IsTrue, length, take, IfOk, IfErr, OnOk};
+// Opening a journal, in two parts: all of its file is read, and only then a torn end is closed or,
+// where there is no file, one is made.
+ghost use Rattle.std.specs.Prelude.{◌≡◌, ◌≢◌, ◌⊎◌, ◌≤◌, ◌<◌, ◌==◌, ◌&&◌, nat_lt, slice_index, ◌+◌, ◌++◌, [], ◌∷◌, ◌^◌, List, ℕ, IsTrue, length, take, IfOk, IfErr, OnOk, OnErr};
 ghost use Rattle.sb_outside.specs.Causes.{HasCause, Rose};
-ghost use Rattle.sb_outside.specs.Held.{Held, at_rest};
+ghost use Rattle.sb_outside.specs.Held.{Held, at_rest, Moves};
 ghost use Rattle.sb_journal.specs.Text.{File, new_file, file_text};
 ghost use Rattle.sb_journal.specs.Framing.{Uncreated, framing};
 ghost use Rattle.sb_journal.specs.Laws.{Spells};
-ghost use Rattle.sb_journal.specs.Settled.{Rests, IsTornEnd, IsOldNoneOrNew, MayLeave};
-ghost use Rattle.sb_journal.specs.Moments.{EachMoment, FromSync};
-ghost use Rattle.sb_journal.specs.Opened.{Stands, Damage, opened_alone, stand_file, IsStand};
+ghost use Rattle.sb_journal.specs.Settled.{Rests, IsTornEnd, MayLeave};
+ghost use Rattle.sb_journal.specs.Moments.{EachMoment, IsUnwritten};
+ghost use Rattle.sb_journal.specs.Opened.{Stands, Damage, opened_alone, stand_file, IsStand, IsRead};
 ghost use Rattle.sb_journal.specs.declared.found.Side.{Side};
 ghost use Rattle.sb_journal.specs.declared.found.Side.TheVariants.{A};
 
-use crate::reading::{Reading, Stand, reading_of};
+use crate::reading::{Ending, Reading, Stand, reading_of};
 use crate::{OpenWhy, Side, create};
 use sb_outside::{Disk, DiskFault};
 use std::alloc::Global;
@@ -74,65 +74,84 @@ fn is_closed(bytes: &[u8], end: u64) -> bool
     end < bytes.len() as u64 && bytes[end as usize] == 0
 }
 
-// Makes sure that the end gate is closed, unless it is.
-fn close_end<D: Disk>(disk: &mut D, bytes: &[u8], end: u64) -> Result<(), DiskFault>
-    requires held { IsTrue (D.honest disk.old) → D.held disk.old ≡ at_rest bytes.now }
-    requires end { end ≤ length bytes.now }
-    requires small { length bytes.now ≤ 2 ^ 62 }
-    ensures honesty { D.honest disk.new ≡ D.honest disk.old }
-    ensures ok { (f : File) (next : ℕ) → IsTrue (D.honest disk.old) → Spells f bytes.now → end ≡ length (file_text f) → next ≡ f.first + length f.payloads
-        → OnOk result (Rests (D.held disk.new) end next f) }
-    ensures room { IsTrue (D.honest disk.old) → OnOk result (end + 1 ≤ (D.held disk.new).least) }
-    ensures any_moment { (f : File) → IsTrue (D.honest disk.old) → Spells f bytes.now → end ≡ length (file_text f)
-        → EachMoment (D.past disk.old) (D.past disk.new) (D.held disk.new) (λ image. (image ≡ bytes.now) ⊎ IsTornEnd f bytes.now image) }
-    ensures cause { HasCause (D.count disk.old) (D.count disk.new) result }
-{
-    if is_closed(bytes, end) {
-        return Ok(());
-    }
-    disk.write_at(end, &[0])?;
-    disk.sync()?;
-    Ok(())
+// What was read of a disk: the file that counts, and where it ends.
+#[derive(Drop)]
+pub(crate) struct Looked {
+    pub(crate) stand: Stand,
+    pub(crate) ending: Ending,
 }
 
-// Makes the first file of a journal.
-fn new_stand<D: Disk>(alloc: Global, disk: &mut D, salt: u64) -> Result<Stand, OpenWhy>
-    ensures honesty { D.honest disk.new ≡ D.honest disk.old }
-    ensures file { IfOk result (λ s. stand_file s ≡ new_file salt 1 1 []) }
-    ensures stand { IfOk result (λ s. IsStand s) }
-    ensures ok { IsTrue (D.honest disk.old) → IfOk result (λ s. Rests (D.held disk.new) s.end s.next (stand_file s)) }
-    ensures end_fits { IfOk result (λ s. s.end ≤ 2 ^ 62) }
-    ensures undamaged { IfErr result (λ e. e ≡ OpenWhy.DiskFault) }
-    ensures any_moment { IsTrue (D.honest disk.old) → D.held disk.old ≡ at_rest (D.held disk.old).seen → slice_index (D.held disk.old).seen 0 ≤ 1
-        → EachMoment (D.past disk.old) (D.past disk.new) (D.held disk.new) (IsOldNoneOrNew (D.held disk.old).seen (new_file salt 1 1 [])) }
-    ensures cause { HasCause (D.count disk.old) (D.count disk.new) result }
+// The file that is to be made where there is none.
+fn new_stand(alloc: Global, salt: u64) -> Stand
+    ensures file { stand_file result ≡ new_file salt 1 1 [] }
+    ensures stand { IsStand result }
+    ensures end { result.end ≡ 42 }
+    ensures next { result.next ≡ 1 }
 {
-    let Ok(()) = create(disk, salt, 1, 1, &[]) else {
-        return Err(OpenWhy::DiskFault);
-    };
-    Ok(Stand {
+    Stand {
         salt,
         generation: 1,
         first: 1,
         payloads: Vec::new(alloc),
         end: 42,
         next: 1,
-    })
+    }
 }
 
-// Reads the file, closes its end gate or makes a new file, and says what stands there then.
-pub(crate) fn recover<D: Disk>(alloc: Global, disk: &mut D, salt: u64) -> Result<Stand, OpenWhy>
+fn seen_as(stand: Stand, made: bool, closed: bool) -> Looked
+    ensures stand { result.stand ≡ stand }
+    ensures made { result.ending.made ≡ made }
+    ensures closed { result.ending.closed ≡ closed }
+    ensures end { result.ending.end ≡ stand.end }
+    ensures next { result.ending.next ≡ stand.next }
+{
+    let ending = Ending {
+        made,
+        closed,
+        end: stand.end,
+        next: stand.next,
+    };
+    Looked { stand, ending }
+}
+
+// What the bytes of a disk stand for; nothing is done to the disk.
+fn looked_of(alloc: Global, bytes: &[u8], salt: u64) -> Result<Looked, OpenWhy>
+    requires { length bytes.now ≤ 2 ^ 62 }
+    ensures ok { IfOk result (λ l. opened_alone salt (framing bytes.now) ≡ Stands A (stand_file l.stand)) }
+    ensures read { IfOk result (λ l. IsRead (at_rest bytes.now) l.ending) }
+    ensures stand { IfOk result (λ l. IsStand l.stand) }
+    ensures end { IfOk result (λ l. l.ending.end ≡ l.stand.end) }
+    ensures next { IfOk result (λ l. l.ending.next ≡ l.stand.next) }
+    ensures end_fits { IfOk result (λ l. l.stand.end ≤ 2 ^ 62) }
+    ensures damaged { IfErr result (λ e. (side : Side) (place : ℕ) → e ≡ OpenWhy.Damaged side place → opened_alone salt (framing bytes.now) ≡ Damage side place) }
+    ensures no_fault { IfErr result (λ e. e ≢ OpenWhy.DiskFault) }
+{
+    let Ok(reading) = reading_of(alloc, bytes) else {
+        return Err(OpenWhy::OutOfMemory);
+    };
+    match reading {
+        Reading::NoFile => Ok(seen_as(new_stand(alloc, salt), false, false)),
+        Reading::AFile(stand) => {
+            let closed = is_closed(bytes, stand.end);
+            Ok(seen_as(stand, true, closed))
+        }
+        Reading::BadFile(place) => Err(OpenWhy::Damaged(Side::A, place)),
+    }
+}
+
+// Makes sure of what is on the disk, reads all of it, and judges its framing. Nothing is written.
+pub(crate) fn look<D: Disk>(alloc: Global, disk: &mut D, salt: u64) -> Result<Looked, OpenWhy>
     ensures honesty { D.honest disk.new ≡ D.honest disk.old }
-    ensures ok { IsTrue (D.honest disk.old) → IfOk result (λ s. (opened_alone salt (framing (D.held disk.old).seen) ≡ Stands A (stand_file s))
-        × Rests (D.held disk.new) s.end s.next (stand_file s)) }
-    ensures room { IsTrue (D.honest disk.old) → IfOk result (λ s. s.end + 1 ≤ (D.held disk.new).least) }
-    ensures end_fits { IfOk result (λ s. s.end ≤ 2 ^ 62) }
-    ensures next_fits { IfOk result (λ s. s.next ≤ 2 ^ 62 + s.end) }
-    ensures stand { IfOk result (λ s. IsStand s) }
+    ensures ok { IsTrue (D.honest disk.old) → IfOk result (λ l. opened_alone salt (framing (D.held disk.old).seen) ≡ Stands A (stand_file l.stand)) }
+    ensures read { IsTrue (D.honest disk.old) → IfOk result (λ l. IsRead (D.held disk.new) l.ending) }
+    ensures synced { IsTrue (D.honest disk.old) → OnOk result (Moves (D.past disk.old) (D.held disk.old) (D.past disk.new) (D.held disk.new) (at_rest (D.held disk.old).seen)) }
+    ensures stand { IfOk result (λ l. IsStand l.stand) }
+    ensures end { IfOk result (λ l. l.ending.end ≡ l.stand.end) }
+    ensures next { IfOk result (λ l. l.ending.next ≡ l.stand.next) }
+    ensures end_fits { IfOk result (λ l. l.stand.end ≤ 2 ^ 62) }
     ensures damaged { IsTrue (D.honest disk.old) → IfErr result (λ e. (side : Side) (place : ℕ) → e ≡ OpenWhy.Damaged side place
-        → (opened_alone salt (framing (D.held disk.old).seen) ≡ Damage side place) × ((D.held disk.new).seen ≡ (D.held disk.old).seen)) }
-    ensures any_moment { IsTrue (D.honest disk.old) → (framing (D.held disk.old).seen ≡ Uncreated → slice_index (D.held disk.old).seen 0 ≤ 1)
-        → FromSync (D.past disk.old) (D.held disk.old) (D.past disk.new) (D.held disk.new) (MayLeave salt (D.held disk.old).seen (framing (D.held disk.old).seen)) }
+        → (opened_alone salt (framing (D.held disk.old).seen) ≡ Damage side place) × (D.held disk.new ≡ at_rest (D.held disk.old).seen)) }
+    ensures untouched { IsTrue (D.honest disk.old) → IsUnwritten (D.past disk.old) (D.held disk.old) (D.past disk.new) (D.held disk.new) }
     ensures later { D.count disk.old ≤ D.count disk.new }
     ensures cause { IfErr result (λ e. e ≡ OpenWhy.DiskFault → Rose (D.count disk.old) (D.count disk.new)) }
 {
@@ -144,17 +163,45 @@ pub(crate) fn recover<D: Disk>(alloc: Global, disk: &mut D, salt: u64) -> Result
         Err(BytesFault::Disk) => return Err(OpenWhy::DiskFault),
         Err(BytesFault::Memory) => return Err(OpenWhy::OutOfMemory),
     };
-    let Ok(reading) = reading_of(alloc, &bytes) else {
-        return Err(OpenWhy::OutOfMemory);
-    };
-    match reading {
-        Reading::NoFile => new_stand(alloc, disk, salt),
-        Reading::AFile(stand) => {
-            let Ok(()) = close_end(disk, &bytes, stand.end) else {
-                return Err(OpenWhy::DiskFault);
-            };
-            Ok(stand)
-        }
-        Reading::BadFile(place) => Err(OpenWhy::Damaged(Side::A, place)),
+    looked_of(alloc, &bytes, salt)
+}
+
+// Makes sure that the end gate is closed, unless it is.
+fn close_end<D: Disk>(disk: &mut D, closed: bool, end: u64) -> Result<(), DiskFault>
+    requires held { IsTrue (D.honest disk.old) → D.held disk.old ≡ at_rest (D.held disk.old).seen }
+    requires end { IsTrue (D.honest disk.old) → end ≤ length (D.held disk.old).seen }
+    requires closed { IsTrue (D.honest disk.old) → closed ≡ (nat_lt end (length (D.held disk.old).seen) && (slice_index (D.held disk.old).seen end == 0)) }
+    ensures honesty { D.honest disk.new ≡ D.honest disk.old }
+    ensures ok { (f : File) (next : ℕ) → IsTrue (D.honest disk.old) → Spells f (D.held disk.old).seen → end ≡ length (file_text f) → next ≡ f.first + length f.payloads
+        → OnOk result (Rests (D.held disk.new) end next f) }
+    ensures room { IsTrue (D.honest disk.old) → OnOk result (end + 1 ≤ (D.held disk.new).least) }
+    ensures any_moment { (f : File) → IsTrue (D.honest disk.old) → Spells f (D.held disk.old).seen → end ≡ length (file_text f)
+        → EachMoment (D.past disk.old) (D.past disk.new) (D.held disk.new) (λ image. (image ≡ (D.held disk.old).seen) ⊎ IsTornEnd f (D.held disk.old).seen image) }
+    ensures cause { HasCause (D.count disk.old) (D.count disk.new) result }
+{
+    if closed {
+        return Ok(());
     }
+    disk.write_at(end, &[0])?;
+    disk.sync()?;
+    Ok(())
+}
+
+// Closes the end gate of the file that was read, or makes the file where there is none.
+pub(crate) fn settle<D: Disk>(disk: &mut D, salt: u64, ending: Ending) -> Result<(), DiskFault>
+    requires { IsTrue (D.honest disk.old) → IsRead (D.held disk.old) ending }
+    ensures honesty { D.honest disk.new ≡ D.honest disk.old }
+    ensures ok { (file : File) → IsTrue (D.honest disk.old) → opened_alone salt (framing (D.held disk.old).seen) ≡ Stands A file → OnOk result (Rests (D.held disk.new) ending.end ending.next file) }
+    ensures room { IsTrue (D.honest disk.old) → OnOk result (ending.end + 1 ≤ (D.held disk.new).least) }
+    ensures any_moment { (file : File) → IsTrue (D.honest disk.old) → opened_alone salt (framing (D.held disk.old).seen) ≡ Stands A file
+        → (framing (D.held disk.old).seen ≡ Uncreated → slice_index (D.held disk.old).seen 0 ≤ 1)
+        → EachMoment (D.past disk.old) (D.past disk.new) (D.held disk.new) (MayLeave salt (D.held disk.old).seen (framing (D.held disk.old).seen)) }
+    ensures cause { HasCause (D.count disk.old) (D.count disk.new) result }
+{
+    if ending.made {
+        close_end(disk, ending.closed, ending.end)?;
+        return Ok(());
+    }
+    create(disk, salt, 1, 1, &[])?;
+    Ok(())
 }

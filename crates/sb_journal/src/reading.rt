@@ -162,6 +162,18 @@ pub(crate) struct Stand {
     pub(crate) next: u64,
 }
 
+// Where a file ends that counts, made or to be made.
+#[derive(Clone, Copy)]
+pub(crate) struct Ending {
+    pub(crate) made: bool,
+    // Whether its end gate is closed.
+    pub(crate) closed: bool,
+    // The place of the end gate.
+    pub(crate) end: u64,
+    // The number of the next record.
+    pub(crate) next: u64,
+}
+
 #[derive(Drop)]
 pub(crate) enum Reading {
     NoFile,

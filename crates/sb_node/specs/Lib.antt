@@ -3,3 +3,4 @@ pub mod Engine
 pub mod Recovery
 pub mod Nodes
 pub mod Laws
+pub mod Worked

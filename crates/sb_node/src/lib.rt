@@ -12,5 +12,5 @@ mod node;
 mod queue;
 mod replay;
 
-pub use laws::recovers_consistent;
+pub use laws::{recovers_consistent, worked_journal};
 pub use node::Node;

@@ -1,22 +1,24 @@
-use Rattle.std.proofs.Common.{arith, sym, subst, ap, refl}
-use Rattle.sb_journal.specs.Opened.{stand_file}
-use Rattle.sb_journal.specs.Text.{gate_after}
-use Rattle.sb_journal.proofs.Heads.{gate_after_file}
-use Rattle.sb_journal.specs.Framing.{framing}
-use Rattle.sb_journal.specs.Settled.{MayLeave}
-use Rattle.sb_journal.specs.Moments.{FromSync}
+use Rattle.std.proofs.Common.{sym, subst}
+use Rattle.std.specs.Prelude.{IsTrue}
+use Rattle.sb_journal.proofs.Settling.{opening_stays, opening_settles, ours_there}
 use Rattle.sb_journal.proofs.journal.Journal.open.Goals as goal
 
-pub returns-in-Ok-recover-clause-any_moment : goal.returns-in-Ok-recover-clause-any_moment
-returns-in-Ok-recover-clause-any_moment g c honest ours =
-    subst
-    (λ (d : g.row.D.Denot). FromSync (g.D.Disk.past c.args.disk_a) (g.D.Disk.held c.args.disk_a) (g.D.Disk.past d) (g.D.Disk.held d) (MayLeave c.args.salt (g.D.Disk.held c.args.disk_a).seen (framing (g.D.Disk.held c.args.disk_a).seen)))
-    (sym c.started.ensures.disk_a)
-    (c.recover.ensures.any_moment honest ours)
+pub returns-in-Ok-settle-clause-ok : goal.returns-in-Ok-settle-clause-ok
+returns-in-Ok-settle-clause-ok g c honest =
+    let honest_1 = subst IsTrue (sym c.in-Ok.ensures.honesty) honest in
+    (c.in-Ok.ensures.ok honest, c.in-Ok-settle.ensures.ok _ honest_1 (c.in-Ok.ensures.stands honest))
 
-pub returns-in-Ok-recover-clause-gates : goal.returns-in-Ok-recover-clause-gates
-returns-in-Ok-recover-clause-gates g c =
-    let file = c.started.ensures.file in
-    let s = stand_file c.in-Ok-recover.stand in
-    let last = gate_after_file s refl in
-    (ap (λ f. f.base) file, omega (arith, ap (λ f. gate_after 42 f.payloads) file, last, c.in-Ok-recover.ensures.stand.end_is, c.in-Ok-recover.ensures.end_fits))
+pub returns-in-Ok-settle-clause-any_moment : goal.returns-in-Ok-settle-clause-any_moment
+returns-in-Ok-settle-clause-any_moment g c honest ours =
+    let honest_1 = subst IsTrue (sym c.in-Ok.ensures.honesty) honest in
+    let synced = c.in-Ok.ensures.synced honest in
+    opening_settles c.args.salt _ _ _ _ _ _ _ c.in-Ok.ensures.salt synced (c.in-Ok-settle.ensures.any_moment _ honest_1 (c.in-Ok.ensures.stands honest) (ours_there _ _ _ _ synced ours))
+
+pub returns-in-Err-settle-clause-any_moment : goal.returns-in-Err-settle-clause-any_moment
+returns-in-Err-settle-clause-any_moment g c honest ours =
+    let honest_1 = subst IsTrue (sym c.in-Ok.ensures.honesty) honest in
+    let synced = c.in-Ok.ensures.synced honest in
+    opening_settles c.args.salt _ _ _ _ _ _ _ c.in-Ok.ensures.salt synced (c.in-Err-settle.ensures.any_moment _ honest_1 (c.in-Ok.ensures.stands honest) (ours_there _ _ _ _ synced ours))
+
+pub returns-in-Err-clause-any_moment : goal.returns-in-Err-clause-any_moment
+returns-in-Err-clause-any_moment g c honest ours = opening_stays c.args.salt _ _ _ _ (c.in-Err.ensures.untouched honest)

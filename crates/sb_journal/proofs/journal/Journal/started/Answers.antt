@@ -3,7 +3,7 @@ use Rattle.sb_journal.proofs.Adding.{rests_read, rests_leave}
 use Rattle.sb_journal.proofs.journal.Journal.started.Goals as goal
 
 pub returns-clause-settled : goal.returns-clause-settled
-returns-clause-settled g c honest rests = record {
+returns-clause-settled g c file honest rests = record {
   honest = honest;
   running = refl;
   rests = rests;
