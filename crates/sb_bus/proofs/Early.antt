@@ -3,6 +3,7 @@ use Rattle.std.proofs.Common.{◌≡◌, ◌≢◌, ◌≤◌, ◌<◌, ◌⊎�
 use Rattle.std.specs.Prelude.{if◌then◌else◌, IsTrue, IsSome}
 use Rattle.std.proofs.lemmas.List.{append-nil}
 use Rattle.sb_outside.specs.Causes.{Rose}
+use Rattle.sb_outside.specs.Held.{Held, at_rest}
 use Rattle.sb_model.specs.History.{Entry, ticked, answered, IsAllowed, IsLegal, IsFaultless, entries_of, after_entry, entry_stops, stops, state_after, stopped_after}
 use Rattle.sb_model.specs.declared.state.State.{State}
 use Rattle.sb_model.proofs.Histories.{goes_on_from, answered_legally, answered_faultless}
@@ -141,14 +142,15 @@ no_disk_end OutOfMemory status is sound five = absurd cc
 no_disk_end LongInput status is sound five = absurd cc
 
 -- an opening that found damage, and its line
-pub broken_by : (honest : Bool) (found : Recovered) (left told told_after : Option (List ℕ)) (before now : ℕ) (why : OpenWhy) → (IsTrue honest → (side : Side) (place : ℕ) → why ≡ Damaged side place → found ≡ damaged side place)
-    → IsDamageSaid why told told_after before now → IsRefused honest found left left told told_after (count_of before now)
-broken_by honest found left told told_after before now (Damaged side place) broken said = record {
+pub broken_by : (honest : Bool) (found : Recovered) (held held_after : Held) (left told told_after : Option (List ℕ)) (before now : ℕ) (why : OpenWhy) → (IsTrue honest → (side : Side) (place : ℕ) → why ≡ Damaged side place → found ≡ damaged side place)
+    → (IsTrue honest → (side : Side) (place : ℕ) → why ≡ Damaged side place → held_after ≡ at_rest held.seen) → IsDamageSaid why told told_after before now → IsRefused honest found held held_after left left told told_after (count_of before now)
+broken_by honest found held held_after left told told_after before now (Damaged side place) broken rests said = record {
   side = side;
   place = place;
   broken = λ true_disk. broken true_disk side place refl;
   said = said;
   unread = refl;
+  unwritten = λ true_disk. rests true_disk side place refl;
 }
-broken_by honest found left told told_after before now FailedDisk broken said = absurd said
-broken_by honest found left told told_after before now NoMemory broken said = absurd said
+broken_by honest found held held_after left told told_after before now FailedDisk broken rests said = absurd said
+broken_by honest found held held_after left told told_after before now NoMemory broken rests said = absurd said

@@ -2,6 +2,7 @@
 use Rattle.std.specs.Prelude.{◌≡◌, ◌≢◌, ◌⊎◌, ◌<◌, ◌^◌, ℕ, List, [], ◌∷◌, ◌++◌, length, Bool, ◌&&◌, IsTrue, codes, bytes_eq, Option, Some, None, if◌then◌else◌}
 use Rattle.std.specs.Fmt.{decimal}
 use Rattle.sb_outside.specs.Causes.{Rose}
+use Rattle.sb_outside.specs.Held.{Held, at_rest}
 use Rattle.sb_outside.specs.Streams.{Gains}
 use Rattle.sb_model.specs.Consistent.{IsConsistent}
 use Rattle.sb_model.specs.History.{IsLegal, IsFaultless, entries_of, state_after}
@@ -101,13 +102,15 @@ abbrev pub IsDamageSaid : OpenWhy → Option (List ℕ) → Option (List ℕ) �
 IsDamageSaid (Damaged side place) told told_after before now = IsSaid (damage_line side place) told told_after before now
 IsDamageSaid _ told told_after before now = ⊥
 
--- the journal can't be trusted: the line that says where was written, and nothing was read of the input
-pub record IsRefused (honest : Bool) (found : Recovered) (left left_after told told_after : Option (List ℕ)) (output : Count) : Type 0 where
+-- The journal can't be trusted: the line that says where was written, nothing was read of the input, and the disk is as it was
+-- read.
+pub record IsRefused (honest : Bool) (found : Recovered) (held held_after : Held) (left left_after told told_after : Option (List ℕ)) (output : Count) : Type 0 where
   pub side : Side
   pub place : ℕ
   pub broken : IsTrue honest → found ≡ damaged side place
   pub said : IsSaid (damage_line side place) told told_after output.before output.now
   pub unread : left_after ≡ left
+  pub unwritten : IsTrue honest → held_after ≡ at_rest held.seen
 
 -- ---- which statuses there are
 

@@ -1,5 +1,5 @@
 // Whole runs over memory.
-use crate::top::top;
+use crate::top::{top, top_alone};
 use sb_outside::{MemDisk, MemSink, MemSource, NoDoor, NoLink, StepClock};
 use std::test::Fail;
 
@@ -32,6 +32,10 @@ const SECOND: &str =
 const EMPTY: &str = "{\"ok\":\"empty\"}\n";
 
 const NOT_FOUND: &str = "{\"refused\":\"EntityNotFound\"}\n";
+
+const FAILED: &str = "{\"refused\":\"DiskFault\"}\n";
+
+const TAKEN: &str = "{\"refused\":\"EntityExists\"}\n";
 
 const USAGE: &str = "usage: bus COMMAND (run, serve, client, check, drill)\n";
 
@@ -200,35 +204,140 @@ fn changed(rt: &HostRuntime, bytes: &[u8], place: usize, byte: u8) -> Result<Vec
     Ok(all)
 }
 
+// The line that says where disk a is damaged.
+fn damaged_at(rt: &HostRuntime, place: u64) -> Result<String, Fail> {
+    Ok(format!(in rt.alloc(); "{{\"disk\":\"a\",\"place\":{place},\"refused\":\"Damaged\"}}\n")?)
+}
+
+// The file of three records with one byte changed is damaged at this place, and stays as it is.
+fn is_damaged(rt: &HostRuntime, file: &[u8], change: (usize, u8, u64)) -> Result<(), Fail> {
+    let (place, byte, damage) = change;
+    let bytes = changed(rt, file, place, byte)?;
+    let told = damaged_at(rt, damage)?;
+    let after = left_by_line(rt, &bytes, RECEIVE, told.as_str(), 6)?;
+    if after.as_slice() != bytes.as_slice() {
+        return Err(Fail::from("a damaged file was written"));
+    }
+    Ok(())
+}
+
+// Three records: gates at 42, 86 and 152, the end gate at 185.
 #[test]
 fn damage_has_its_place(rt: HostRuntime) -> Result<(), Fail> {
-    let made = leaves(&rt, answers(&[], &[CREATE], &[DONE], 0))?;
+    let script = [CREATE, SEND, RECEIVE];
+    let file = leaves(&rt, answers(&[], &script, &[DONE, SENT, FIRST], 0))?;
+    assert_eq!(rt; file.len(), 186);
     let rows = [
-        (
-            9,
-            127,
-            "{\"disk\":\"a\",\"place\":9,\"refused\":\"Damaged\"}\n",
-        ),
-        (
-            55,
-            2,
-            "{\"disk\":\"a\",\"place\":42,\"refused\":\"Damaged\"}\n",
-        ),
-        (
-            46,
-            255,
-            "{\"disk\":\"a\",\"place\":42,\"refused\":\"Damaged\"}\n",
-        ),
+        // The head: magic, version, generation 0 and above 2^62, first number the same, base.
+        (1, 84, 1),
+        (8, 75, 1),
+        (9, 2, 9),
+        (25, 0, 18),
+        (18, 64, 18),
+        (33, 0, 26),
+        (26, 64, 26),
+        (41, 1, 42),
+        // A record that is too long, one that is cut, and numbers out of order.
+        (43, 1, 42),
+        (156, 21, 152),
+        (54, 2, 42),
+        (164, 2, 152),
+        // No event: another kind, and bytes behind the last field.
+        (55, 2, 42),
+        (165, 0, 152),
+        // Not a changing event: no such queue, time going back, past the last moment.
+        (114, 114, 86),
+        (173, 4, 152),
+        (166, 1, 152),
     ];
     for row in &rows {
-        let (place, byte, told) = *row;
-        let bytes = changed(&rt, &made, place, byte)?;
-        let after = left_by_line(&rt, &bytes, RECEIVE, told, 6)?;
-        assert_eq!(rt; after.as_slice(), bytes.as_slice());
+        is_damaged(&rt, &file, *row)?;
     }
-    let mut torn = made;
-    torn.pop();
-    left_by_line(&rt, &torn, RECEIVE, EMPTY, 0)?;
+    let told = damaged_at(&rt, 152)?;
+    left_by_line(&rt, &file[..170], RECEIVE, told.as_str(), 6)?;
+    left_by_line(&rt, &file[..185], RECEIVE, SECOND, 0)?;
+    Ok(())
+}
+
+// A line above the limit, one that is no UTF-8 text, and a blank one above the limit.
+#[test]
+fn lines_that_are_no_text(rt: HostRuntime) -> Result<(), Fail> {
+    let alloc = rt.alloc();
+    let rows = [
+        (
+            b'x',
+            2_097_153,
+            "{\"key\":\"line\",\"refused\":\"BadCall\"}\n",
+            1,
+        ),
+        (
+            b'x',
+            2_097_152,
+            "{\"key\":\"\",\"refused\":\"BadCall\"}\n",
+            1,
+        ),
+        (b' ', 2_097_153, "", 0),
+        (255, 1, "{\"key\":\"\",\"refused\":\"BadCall\"}\n", 1),
+    ];
+    for row in &rows {
+        let (byte, count, told, status) = *row;
+        let line = vec![in alloc; byte; count]?;
+        let disk_a = MemDisk::new(alloc, Vec::new(alloc), Vec::new(alloc))?;
+        let disk_b = MemDisk::new(alloc, Vec::new(alloc), Vec::new(alloc))?;
+        let mut input = MemSource::new(line, 65_536, Vec::new(alloc));
+        let mut output = MemSink::new(alloc, 4096, Vec::new(alloc))?;
+        let (ended, _a, _b) = top_alone(
+            alloc,
+            &RUN,
+            disk_a,
+            disk_b,
+            7,
+            &StepClock::new(0, 1),
+            &mut input,
+            &mut output,
+            &mut NoLink::new(),
+        );
+        assert_eq!(rt; ended, status, "{count}");
+        assert_eq!(rt; output.bytes(), told.as_bytes(), "{count}");
+    }
+    Ok(())
+}
+
+// Each call of the disk fails in turn: opening reads in three calls and an append makes four. What
+// was synced with its gate is there for the next run, and no more.
+#[test]
+fn each_disk_call_fails(rt: HostRuntime) -> Result<(), Fail> {
+    let made = leaves(&rt, answers(&[], &[], &[], 0))?;
+    let rows = [
+        (0, "", DONE),
+        (1, "", DONE),
+        (2, "", DONE),
+        (3, FAILED, DONE),
+        (4, FAILED, DONE),
+        (5, FAILED, DONE),
+        (6, FAILED, TAKEN),
+        (7, DONE, TAKEN),
+    ];
+    for row in &rows {
+        let (call, told, next) = *row;
+        let case = Case {
+            failing: Failing {
+                disk: Some(call),
+                ..NOTHING
+            },
+            status: if call < 7 { 5 } else { 0 },
+            ..answers(&made, &[CREATE, ""], &[], 0)
+        };
+        let left = leaves(
+            &rt,
+            Case {
+                told: &[told],
+                ..case
+            },
+        )?;
+        let status = if next == TAKEN { 1 } else { 0 };
+        left_by_line(&rt, &left, CREATE, next, status)?;
+    }
     Ok(())
 }
 
@@ -247,7 +356,27 @@ fn each_status_has_its_cause(rt: HostRuntime) -> Result<(), Fail> {
         ..NOTHING
     };
     let run = answers(&[], &[CREATE], &[], 0);
+    // The first line is 40 bytes, in six reads of 7 bytes at most.
+    let late_input = Failing {
+        input: Some(6),
+        ..NOTHING
+    };
+    let late_output = Failing {
+        output: Some(1),
+        ..NOTHING
+    };
+    let two_lines = answers(&[], &[CREATE, PEEK], &[DONE], 0);
     let cases = [
+        Case {
+            failing: late_input,
+            status: 3,
+            ..two_lines
+        },
+        Case {
+            failing: late_output,
+            status: 4,
+            ..two_lines
+        },
         Case {
             words: &["serve"],
             told: &[USAGE],

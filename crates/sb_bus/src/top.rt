@@ -125,7 +125,7 @@ pub fn top_alone<D: Disk, C: Clock, S: Source, K: Sink, N: Link>(
     ensures read_fault { result.0 ≡ 3 → Rose (S.count input.old) (S.count input.new) }
     ensures write_fault { result.0 ≡ 4 → Rose (K.count output.old) (K.count output.new) }
     ensures disk_fault { result.0 ≡ 5 → Rose (D.count disk_a) (D.count result.1) }
-    ensures broken { result.0 ≡ 6 → IsRefused (D.honest disk_a) (recovered (D.held disk_a).seen (D.held disk_b).seen salt)
+    ensures broken { result.0 ≡ 6 → IsRefused (D.honest disk_a) (recovered (D.held disk_a).seen (D.held disk_b).seen salt) (D.held disk_a) (D.held result.1)
         (S.left input.old) (S.left input.new) (K.given output.old) (K.given output.new) (count_of (K.count output.old) (K.count output.new)) }
     ensures long { result.0 ≡ 10 → IsLong (S.left input.old) (S.left input.new) }
     ensures known { IsStatus result.0 }
@@ -183,8 +183,8 @@ pub fn top<T, D: Disk + Send, C: Clock + Sync, S: Source, K: Sink, R: Door + Sen
     ensures read_fault { result.0 ≡ 3 → Rose (S.count input.old) (S.count input.new) }
     ensures write_fault { result.0 ≡ 4 → Rose (K.count output.old) (K.count output.new) }
     ensures disk_fault { result.0 ≡ 5 → IfSome result.1 (λ disks. Rose (D.count disk_a) (D.count disks.0)) }
-    ensures broken { result.0 ≡ 6 → IsRefused (D.honest disk_a) (recovered (D.held disk_a).seen (D.held disk_b).seen salt)
-        (S.left input.old) (S.left input.new) (K.given output.old) (K.given output.new) (count_of (K.count output.old) (K.count output.new)) }
+    ensures broken { result.0 ≡ 6 → IfSome result.1 (λ disks. IsRefused (D.honest disk_a) (recovered (D.held disk_a).seen (D.held disk_b).seen salt) (D.held disk_a) (D.held disks.0)
+        (S.left input.old) (S.left input.new) (K.given output.old) (K.given output.new) (count_of (K.count output.old) (K.count output.new))) }
     ensures long { result.0 ≡ 10 → IsLong (S.left input.old) (S.left input.new) }
     ensures known { IsStatus result.0 }
     ensures complete { IsSome (folder_in (map (λ w. w.now) words.now)) → IsTrue (D.honest disk_a) → IfSome result.1 (λ disks.

@@ -25,7 +25,7 @@ returns-clause-whole g c refused is =
 
 pub returns-in-Err-clause-broken : goal.returns-in-Err-clause-broken
 returns-in-Err-clause-broken g c six =
-    broken_by (g.D.Disk.honest c.args.disk_a) (recovered (g.D.Disk.held c.args.disk_a).seen (g.D.Disk.held c.args.disk_b).seen c.args.salt) _ _ _ _ _ c.in-Err.fault.why c.in-Err.ensures.broken (c.failed_status-status.ensures.damaged six)
+    broken_by (g.D.Disk.honest c.args.disk_a) (recovered (g.D.Disk.held c.args.disk_a).seen (g.D.Disk.held c.args.disk_b).seen c.args.salt) _ _ _ _ _ _ _ c.in-Err.fault.why c.in-Err.ensures.broken c.in-Err.ensures.rests (c.failed_status-status.ensures.damaged six)
 
 pub returns-clause-early : goal.returns-clause-early
 returns-clause-early g c end is =
