@@ -2,7 +2,9 @@
 use crate::command::WordsFault;
 use crate::top::top;
 use crate::words::needs;
-use sb_outside::{MemDisk, NoDoor, NoLink, Reading, SystemClock, Writing, open_disk, sync_folder};
+use sb_outside::{
+    MemDisk, NoDoor, NoLink, Reading, SystemClock, Writing, hold_streams, open_disk, sync_folder,
+};
 use std::alloc::Global;
 use std::time::Duration;
 use std::{env, io};
@@ -35,6 +37,7 @@ fn salt_of(since_1970: Duration) -> u64 {
 // Calls the top over the files of a folder.
 fn over_folder(rt: &HostRuntime, words: &[&str], folder: &str) -> io::Result<u8> {
     let alloc = rt.alloc();
+    let _streams = hold_streams(rt, folder)?;
     let path_a = format!(in alloc; "{folder}/a.journal")?;
     let path_b = format!(in alloc; "{folder}/b.journal")?;
     let disk_a = open_disk(rt, path_a.as_str())?;

@@ -153,6 +153,26 @@ pub fn sync_folder<R: Files>(files: &R, folder: &str) -> io::Result<()> {
     File::open(files, folder)?.sync_all()
 }
 
+/// A folder that is held open three times, so that each standard stream has a file.
+#[derive(Drop)]
+pub struct HeldStreams<F: Drop> {
+    first: F,
+    second: F,
+    third: F,
+}
+
+/// Opens a folder three times. A program may be started with standard streams closed; the next files
+/// that it opens then get their numbers, and what is written to standard output would go into a
+/// journal. While these are open, a read or a write of a stream that was closed fails. The folder has
+/// to be there.
+pub fn hold_streams<R: Files>(files: &R, folder: &str) -> io::Result<HeldStreams<R::File>> {
+    Ok(HeldStreams {
+        first: File::open(files, folder)?,
+        second: File::open(files, folder)?,
+        third: File::open(files, folder)?,
+    })
+}
+
 /// A reader as a source. Each error is a counted fault.
 #[derive(Drop)]
 pub struct Reading<R: Read + Drop> {

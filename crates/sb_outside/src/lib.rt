@@ -19,7 +19,9 @@ mod streams;
 #[cfg(test)]
 mod tests;
 
-pub use adapters::{FileDisk, Reading, SystemClock, Writing, open_disk, sync_folder};
+pub use adapters::{
+    FileDisk, HeldStreams, Reading, SystemClock, Writing, hold_streams, open_disk, sync_folder,
+};
 pub use bytes::Bytes;
 pub use clock::Clock;
 pub use disk::{Disk, DiskFault, LONGEST_DISK};

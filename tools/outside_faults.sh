@@ -1,0 +1,101 @@
+#!/usr/bin/env bash
+# Runs the built program (its path is the one argument) where the outside fails it, and compares its
+# statuses: no folder, files and folders that may not be written, standard streams that are closed, an
+# output that is full or has no reader, a disk that is full. After each of them the journal must open.
+# As root it also tries what only an unprivileged user is refused, and the full disk (a tmpfs of 16 KiB).
+set -u
+program=$(realpath "${1:?the path of the program}") || exit 2
+here=$(CDPATH= cd -- "$(dirname -- "$0")/.." && pwd) || exit 2
+script="$here/examples/first.script"
+work=$(mktemp -d) || exit 2
+trap 'rm -rf "$work"' EXIT
+chmod 755 "$work"
+cp "$program" "$work/bus" && chmod 755 "$work/bus" && cd "$work" || exit 2
+failed=0
+
+# Compares a status with the one that is wanted.
+expect() {
+    if [ "$2" -eq "$3" ]; then
+        echo "ok: $1: status $2"
+    else
+        echo "WRONG: $1: status $2, and not $3"
+        failed=1
+    fi
+}
+
+# The journal of a folder has to open.
+opens() {
+    ./bus run --data "$1" </dev/null >/dev/null
+    expect "opening after: $1" $? 0
+}
+
+./bus run --data none </dev/null
+expect "no folder" $? 11
+
+mkdir closed_output
+./bus run --data closed_output <"$script" >&-
+expect "closed standard output" $? 4
+opens closed_output
+
+mkdir closed_input
+./bus run --data closed_input <&-
+expect "closed standard input" $? 3
+opens closed_input
+
+mkdir all_closed
+./bus run --data all_closed <&- >&- 2>&-
+expect "all standard streams closed" $? 3
+opens all_closed
+
+mkdir no_reader
+./bus run --data no_reader <"$script" | head -c0
+expect "an output that nobody reads" "${PIPESTATUS[0]}" 4
+opens no_reader
+
+mkdir full_output
+./bus run --data full_output <"$script" >/dev/full
+expect "a full output" $? 4
+opens full_output
+
+mkdir folder_as_input
+./bus run --data folder_as_input <"$work"
+expect "a folder as input" $? 3
+opens folder_as_input
+
+./bus serve >/dev/full
+expect "a full output for the usage line" $? 2
+
+if [ "$(id -u)" -eq 0 ]; then
+    mkdir read_only && chmod 555 read_only
+    su nobody -s /bin/sh -c "'$work/bus' run --data '$work/read_only' </dev/null"
+    expect "a folder that may not be written" $? 11
+
+    mkdir read_only_files && ./bus run --data read_only_files </dev/null && chmod 444 read_only_files/*
+    su nobody -s /bin/sh -c "'$work/bus' run --data '$work/read_only_files' </dev/null"
+    expect "files that may not be written" $? 11
+
+    mkdir full_disk
+    if mount -t tmpfs -o size=16k tmpfs full_disk; then
+        body=$(printf 'x%.0s' $(seq 1000))
+        {
+            echo '{"do":"create-queue","name":"q"}'
+            for _ in $(seq 40); do
+                echo "{\"do\":\"send\",\"to\":\"q\",\"messages\":[{\"body\":\"$body\"}]}"
+            done
+        } >many.script
+        ./bus run --data full_disk <many.script >replies
+        expect "a full disk" $? 5
+        [ "$(tail -n 1 replies)" = '{"refused":"DiskFault"}' ] || { echo "WRONG: no line says so"; failed=1; }
+        sent=$(grep -c '"ok":"sent"' replies)
+        kept=$(echo '{"do":"peek","from":"q","start":1,"count":100}' | ./bus run --data full_disk | grep -o '"seq"' | wc -l)
+        if [ "$kept" -ge "$sent" ]; then
+            echo "ok: $sent sends were acknowledged, $kept messages are there"
+        else
+            echo "WRONG: $sent sends were acknowledged, $kept messages are there"
+            failed=1
+        fi
+        opens full_disk
+        umount full_disk
+    fi
+fi
+exit "$failed"
