@@ -4,11 +4,12 @@
 usage: tools/damaged_files.py PROGRAM [--values N] [--jobs N] [--folder DIR]
 
 PROGRAM is the built program (crates/sb_bus/out/sb_bus) or the launcher `bus`. It makes a journal of
-three records. Then for every length from 0 to the whole, and for every byte with every other value
-(with --values N: with N others), the file is written to a folder, the program is run there on one
-peek, and what it says and leaves is compared with what a second reader, written here from
-docs/FORMATS.md alone, makes of the bytes. At the end stands how many files were of each class; the
-exit status is 1 where one was treated otherwise.
+three records. Then for every length from 0 to the whole, for every byte with every other value
+(with --values N: with N others), and for every byte with two values and a torn or missing end gate,
+the file is written to a folder, the program is run there on one peek, and what it says and leaves is
+compared with what a second reader, written here from docs/FORMATS.md alone, makes of the bytes. At
+the end stands how many files were of each class; the exit status is 1 where one was treated
+otherwise.
 """
 import argparse
 import collections
@@ -327,6 +328,12 @@ def cases(data, values):
         for step in steps:
             other = (byte + step) % 256
             yield f"byte {place} is {other:02x}", data[:place] + bytes([other]) + data[place + 1 :]
+    # both at once: a torn end gate must not be closed where anything before it is damaged
+    for place in range(len(data) - 1):
+        for other in (0, 0xFF):
+            changed = data[:place] + bytes([other]) + data[place + 1 : -1]
+            yield f"byte {place} is {other:02x}, the end gate 07", changed + b"\7"
+            yield f"byte {place} is {other:02x}, no end gate", changed
 
 
 def tried_all(work):
