@@ -8,6 +8,7 @@
 #![tactic(auto)]
 
 mod call;
+mod evaluation;
 mod expression;
 mod laws;
 mod message;
@@ -19,6 +20,7 @@ mod truth;
 mod worked;
 
 pub use call::{Act, By, Call, Description, Event, EventRef, Mode, Part, Path, TimedCall, Token};
+pub use evaluation::EvalFault;
 pub use expression::{
     Action, BinaryOperator, Expression, Filter, Items, PropertyName, Statement, UnaryOperator,
 };
@@ -31,4 +33,4 @@ pub use rows::Rows;
 pub use state::{Entity, Leaf, State, StoredCopy};
 pub use text::Text;
 pub use truth::Truth;
-pub use worked::worked_rows;
+pub use worked::{worked_filters, worked_rows};
