@@ -21,7 +21,7 @@ use Rattle.sb_model.specs.declared.expression.BinaryOperator.TheVariants.{Or, An
 use Rattle.sb_model.specs.declared.evaluation.EvalFault.{EvalFault}
 use Rattle.sb_model.specs.declared.evaluation.EvalFault.TheVariants.{Overflow, DivideByZero, NoSystemProperty}
 use Rattle.sb_model.specs.Expressions.{Term, Terms, constant, property, existing, unary, binary, within, like, like_escape, first, later}
-use Rattle.sb_model.specs.Truth.{truth_not, truth_and, truth_or}
+use Rattle.sb_model.specs.Truth.{known, truth_not, truth_and, truth_or}
 use Rattle.sb_model.specs.SystemNames.{system_code, system_named}
 use Rattle.sb_model.specs.Likes.{is_like, is_one_character}
 
@@ -31,10 +31,6 @@ and_then (Ok x) next = next x
 and_then (Err fault) next = Err fault
 
 -- ---- truth
-
-abbrev pub known : Bool → ThreeValued
-known true = True
-known false = False
 
 -- a whole number or a text stands for unknown
 abbrev pub truth_of : Option PropertyValue → ThreeValued

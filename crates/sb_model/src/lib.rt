@@ -27,7 +27,7 @@ pub use expression::{
 pub use laws::{
     answers_legally, answers_no_fault, goes_on, keeps_time, starts_consistent, stays_consistent,
 };
-pub use message::{Message, Name, Property, PropertyValue, SystemName, SystemText};
+pub use message::{Message, Name, Property, PropertyValue, SystemName, SystemText, is_same_word};
 pub use reply::{Answer, CopyShown, CopyState, Receipt, Refusal, Reply, Showing};
 pub use rows::Rows;
 pub use state::{Entity, Leaf, State, StoredCopy};
