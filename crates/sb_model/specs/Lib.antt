@@ -8,3 +8,4 @@ pub mod Laws
 pub mod Worked
 pub mod Truth
 pub mod Expressions
+pub mod Likes
