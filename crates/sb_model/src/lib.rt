@@ -11,6 +11,7 @@ mod call;
 mod evaluation;
 mod expression;
 mod laws;
+mod likes;
 mod message;
 mod reply;
 mod rows;
@@ -27,6 +28,7 @@ pub use expression::{
 pub use laws::{
     answers_legally, answers_no_fault, goes_on, keeps_time, starts_consistent, stays_consistent,
 };
+pub use likes::like_rows;
 pub use message::{Message, Name, Property, PropertyValue, SystemName, SystemText, is_same_word};
 pub use reply::{Answer, CopyShown, CopyState, Receipt, Refusal, Reply, Showing};
 pub use rows::Rows;
