@@ -2,7 +2,8 @@
 ghost use Rattle.std.specs.Prelude.{◌≡◌, Ok};
 ghost use Rattle.sb_model.specs.Expressions.{term_of, terms_of};
 ghost use Rattle.sb_model.specs.Meaning as meaning;
-ghost use Rattle.sb_sqleval.specs.Values.{value_in, Gives};
+ghost use Rattle.sb_sqleval.specs.Values.{value_in, Is, Gives};
+ghost use Rattle.sb_sqleval.specs.Memory.{TakesNoMemory, NoneTakesMemory};
 
 use crate::compare::equality;
 use crate::operators::{likeness, likeness_by, of_one, of_two};
@@ -21,7 +22,8 @@ fn affirmed_or_denied<'a>(affirmed: bool, truth: Truth) -> Value<'a>
 
 #[cycle(evaluate)]
 fn value_of<'a>(alloc: Global, message: &'a Message, expression: &'a Expression) -> Evaluated<'a>
-    ensures { Gives value_in result (meaning.value_of message.now (term_of expression.now)) }
+    ensures gives { Gives value_in result (meaning.value_of message.now (term_of expression.now)) }
+    ensures without_memory { TakesNoMemory (term_of expression.now) → Is value_in result (meaning.value_of message.now (term_of expression.now)) }
 {
     match expression {
         Expression::Constant(value) => Ok(Value::of(value)),
@@ -67,7 +69,8 @@ fn among<'a>(
     value: &Value<'a>,
     items: &'a Items,
 ) -> Result<Truth, EvalFault>
-    ensures { Gives (λ truth. truth) result (meaning.and_then (meaning.values_of message.now (terms_of items.now)) (λ xs. Ok (meaning.among (value_in value.now) xs))) }
+    ensures gives { Gives (λ truth. truth) result (meaning.and_then (meaning.values_of message.now (terms_of items.now)) (λ xs. Ok (meaning.among (value_in value.now) xs))) }
+    ensures without_memory { NoneTakesMemory (terms_of items.now) → Is (λ truth. truth) result (meaning.and_then (meaning.values_of message.now (terms_of items.now)) (λ xs. Ok (meaning.among (value_in value.now) xs))) }
 {
     match items {
         Items::First(item) => {
@@ -86,7 +89,8 @@ fn among<'a>(
 /// evaluated, left before right, and the first fault is answered: `Overflow`, `DivideByZero` or
 /// `NoSystemProperty`. `OutOfMemory` comes where a text that is joined or folded finds no memory.
 pub fn eval(alloc: Global, filter: &Filter, message: &Message) -> Result<Truth, EvalFault>
-    ensures { Gives (λ truth. truth) result (meaning.truth_on message.now (term_of filter.now)) }
+    ensures gives { Gives (λ truth. truth) result (meaning.truth_on message.now (term_of filter.now)) }
+    ensures without_memory { TakesNoMemory (term_of filter.now) → Is (λ truth. truth) result (meaning.truth_on message.now (term_of filter.now)) }
 {
     let value = value_of(alloc, message, filter)?;
     Ok(value.truth())

@@ -1,9 +1,10 @@
 // What operators make of the values of their operands.
-ghost use Rattle.std.specs.Prelude.{◌≡◌, ◌++◌, IfOk, string_bytes};
+ghost use Rattle.std.specs.Prelude.{◌≡◌, ◌++◌, IfOk, string_bytes, false};
 ghost use Rattle.std.specs.Cow.{cow_str_bytes};
 ghost use Rattle.sb_model.specs.declared.expression.BinaryOperator.TheVariants as operator;
 ghost use Rattle.sb_model.specs.Meaning as meaning;
 ghost use Rattle.sb_sqleval.specs.Values.{value_in, Is, Gives};
+ghost use Rattle.sb_sqleval.specs.Memory.{may_fold, may_join};
 
 use crate::compare::{at_least, at_most, equality, greater, less};
 use crate::like::{is_like, is_one_character};
@@ -55,7 +56,8 @@ pub(crate) fn of_one<'a>(
     operator: UnaryOperator,
     operand: &Value,
 ) -> Evaluated<'a>
-    ensures { Gives value_in result (meaning.of_one message.now operator (value_in operand.now)) }
+    ensures gives { Gives value_in result (meaning.of_one message.now operator (value_in operand.now)) }
+    ensures without_memory { may_fold operator ≡ false → Is value_in result (meaning.of_one message.now operator (value_in operand.now)) }
 {
     match operator {
         UnaryOperator::Plus => Ok(plus(operand)),
@@ -130,7 +132,8 @@ pub(crate) fn of_two<'a>(
     left: Value<'a>,
     right: &Value,
 ) -> Evaluated<'a>
-    ensures { Gives value_in result (meaning.of_two operator (value_in left.entry) (value_in right.now)) }
+    ensures gives { Gives value_in result (meaning.of_two operator (value_in left.entry) (value_in right.now)) }
+    ensures without_memory { may_join operator ≡ false → Is value_in result (meaning.of_two operator (value_in left.entry) (value_in right.now)) }
 {
     match operator {
         BinaryOperator::Or => Ok(Value::of_truth(left.truth().or(right.truth()))),
