@@ -12,3 +12,4 @@ pub mod Likes
 pub mod SystemNames
 pub mod Meaning
 pub mod WorkedFilters
+pub mod FilterFaults

@@ -1,5 +1,7 @@
-// Laws of the machine: each a function without effect whose contract is a statement of specs/Laws.
+// Laws of the machine and of filters: each a function without effect whose contract is a statement of
+// specs/Laws or specs/FilterFaults.
 ghost use Rattle.sb_model.specs.Laws.{GoesOn, AnswersNoFault, AnswersLegally, StartsConsistent, StaysConsistent, KeepsTime};
+ghost use Rattle.sb_model.specs.FilterFaults.{FiltersFailOnlySo};
 
 /// A legal history goes on by any entry that may stand behind it.
 pub fn goes_on()
@@ -29,4 +31,9 @@ pub fn stays_consistent()
 /// A call never takes time back, nor past the last moment that counts.
 pub fn keeps_time()
     ensures { KeepsTime }
+{}
+
+/// On no message does a filter fail by more than Overflow, DivideByZero or NoSystemProperty.
+pub fn filters_fail_only_so()
+    ensures { FiltersFailOnlySo }
 {}
