@@ -1,11 +1,11 @@
 -- Each part of an expression fails only as a filter may.
-use Rattle.std.specs.Prelude.{ℕ, List, [], ◌∷◌, ◌++◌, Bool, true, false, if◌then◌else◌, Option, Some, None, Result, Ok, Err, ℤ, pos, ◌+ℤ◌, ◌-ℤ◌, ◌*ℤ◌, neg_ℤ, int_div, int_rem, is_some, codes}
+use Rattle.std.specs.Prelude.{Bool, true, false, if◌then◌else◌, Option, Some, None, Result, Ok, Err, ℤ, pos, ◌+ℤ◌, ◌-ℤ◌, ◌*ℤ◌, neg_ℤ, int_div, codes}
 use Rattle.std.specs.Ordering.{int_eq}
 use Rattle.std.specs.Str.{str_eq_ignore_ascii_case}
 use Rattle.sb_model.specs.declared.message.Message.{Message}
 use Rattle.sb_model.specs.declared.message.SystemName.{SystemName}
 use Rattle.sb_model.specs.declared.message.PropertyValue.{PropertyValue}
-use Rattle.sb_model.specs.declared.message.PropertyValue.TheVariants.{Int, Text, Bool as Truth}
+use Rattle.sb_model.specs.declared.message.PropertyValue.TheVariants.{Int, Text}
 use Rattle.sb_model.specs.declared.expression.PropertyName.{PropertyName}
 use Rattle.sb_model.specs.declared.expression.PropertyName.TheVariants.{User, System}
 use Rattle.sb_model.specs.declared.expression.UnaryOperator.{UnaryOperator}
@@ -15,7 +15,7 @@ use Rattle.sb_model.specs.declared.expression.BinaryOperator.TheVariants.{Add, S
 use Rattle.sb_model.specs.declared.evaluation.EvalFault.{EvalFault}
 use Rattle.sb_model.specs.Expressions.{Term, Terms, constant, property, existing, unary, binary, within, like, like_escape, first, later}
 use Rattle.sb_model.specs.SystemNames.{system_named}
-use Rattle.sb_model.specs.Meaning.{and_then, is_64_bits, number_of, quotient, remainder, on_numbers, sum_of, negative, known_text, system_value, property_value, of_one, of_two, value_of, values_of, truth_on}
+use Rattle.sb_model.specs.Meaning.{and_then, is_64_bits, number_of, quotient, remainder, on_numbers, sum_of, negative, known_text, property_value, of_one, of_two, value_of, values_of}
 use Rattle.sb_model.specs.FilterFaults.{FailsOnlySo, FiltersFailOnlySo}
 
 behind : {A B : Type 0} (r : Result A EvalFault) (next : A → Result B EvalFault) → FailsOnlySo r → ((x : A) → FailsOnlySo (next x)) → FailsOnlySo (and_then r next)

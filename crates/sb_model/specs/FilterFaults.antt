@@ -1,5 +1,5 @@
 -- What a filter may fail by.
-use Rattle.std.specs.Prelude.{◌≡◌, Result, Ok, Err}
+use Rattle.std.specs.Prelude.{Result, Ok, Err}
 use Rattle.sb_model.specs.declared.message.Message.{Message}
 use Rattle.sb_model.specs.declared.evaluation.EvalFault.{EvalFault}
 use Rattle.sb_model.specs.declared.evaluation.EvalFault.TheVariants.{Overflow, DivideByZero, NoSystemProperty, BadSystemValue, TooLarge, OutOfMemory}
