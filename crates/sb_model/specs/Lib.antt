@@ -9,3 +9,6 @@ pub mod Worked
 pub mod Truth
 pub mod Expressions
 pub mod Likes
+pub mod SystemNames
+pub mod Meaning
+pub mod WorkedFilters

@@ -8,6 +8,7 @@
 #![tactic(auto)]
 
 mod call;
+mod evaluation;
 mod expression;
 mod laws;
 mod likes;
@@ -20,6 +21,7 @@ mod truth;
 mod worked;
 
 pub use call::{Act, By, Call, Description, Event, EventRef, Mode, Part, Path, TimedCall, Token};
+pub use evaluation::EvalFault;
 pub use expression::{
     Action, BinaryOperator, Expression, Filter, Items, PropertyName, Statement, UnaryOperator,
 };
@@ -27,10 +29,10 @@ pub use laws::{
     answers_legally, answers_no_fault, goes_on, keeps_time, starts_consistent, stays_consistent,
 };
 pub use likes::like_rows;
-pub use message::{Message, Name, Property, PropertyValue, SystemName, SystemText};
+pub use message::{Message, Name, Property, PropertyValue, SystemName, SystemText, is_same_word};
 pub use reply::{Answer, CopyShown, CopyState, Receipt, Refusal, Reply, Showing};
 pub use rows::Rows;
 pub use state::{Entity, Leaf, State, StoredCopy};
 pub use text::Text;
 pub use truth::Truth;
-pub use worked::worked_rows;
+pub use worked::{worked_filters, worked_rows};

@@ -1,4 +1,15 @@
-//! What SQL filters and actions mean (Microsoft Learn, Service Bus, "SQL filter syntax").
+//! What a filter comes to on a message (Microsoft Learn, Service Bus, "Subscription rule SQL
+//! filter syntax").
+//!
+//! A filter is a tree; its value is found by going down the tree, left before right, and all parts
+//! are evaluated. A comparison with what isn't there is unknown, and a filter matches only where
+//! it is true.
 #![tactic(auto)]
 
+mod compare;
 mod like;
+mod numbers;
+mod properties;
+mod value;
+
+use value::{Evaluated, Value};
