@@ -12,3 +12,5 @@ pub mod Likes
 pub mod SystemNames
 pub mod Meaning
 pub mod WorkedFilters
+pub mod Effects
+pub mod WorkedActions

@@ -1,17 +1,13 @@
 -- Filters worked through: what they come to on a message.
-use Rattle.std.specs.Prelude.{ℕ, List, [], ◌∷◌, codes, None, Result, Ok, Err, pos, true, false}
+use Rattle.std.specs.Prelude.{ℕ, List, [], ◌∷◌, codes, None, Result, pos, true}
 use Rattle.sb_model.specs.declared.message.Message.{Message}
 use Rattle.sb_model.specs.declared.message.Property.{Property}
-use Rattle.sb_model.specs.declared.message.PropertyValue.{PropertyValue}
-use Rattle.sb_model.specs.declared.message.PropertyValue.TheVariants.{Int, Text, Bool as Truth}
+use Rattle.sb_model.specs.declared.message.PropertyValue.TheVariants.{Int, Text}
 use Rattle.sb_model.specs.declared.truth.Truth.{Truth as ThreeValued}
-use Rattle.sb_model.specs.declared.truth.Truth.TheVariants.{True, False, Unknown}
-use Rattle.sb_model.specs.declared.expression.PropertyName.TheVariants.{User, System}
-use Rattle.sb_model.specs.declared.expression.UnaryOperator.TheVariants.{Not, IsNull}
-use Rattle.sb_model.specs.declared.expression.BinaryOperator.TheVariants.{And, Equal, NotEqual, Subtract, Divide, Remainder}
+use Rattle.sb_model.specs.declared.expression.PropertyName.TheVariants.{User}
+use Rattle.sb_model.specs.declared.expression.BinaryOperator.TheVariants.{Equal, NotEqual, Subtract, Divide}
 use Rattle.sb_model.specs.declared.evaluation.EvalFault.{EvalFault}
-use Rattle.sb_model.specs.declared.evaluation.EvalFault.TheVariants.{Overflow, DivideByZero, NoSystemProperty}
-use Rattle.sb_model.specs.Expressions.{Term, constant, property, existing, unary, binary, within, first, later}
+use Rattle.sb_model.specs.Expressions.{Term, constant, property, binary, within, first, later}
 use Rattle.sb_model.specs.Meaning.{truth_on}
 
 abbrev pub with_props : List Property → Message

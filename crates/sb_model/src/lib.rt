@@ -8,6 +8,7 @@
 #![tactic(auto)]
 
 mod call;
+mod effects;
 mod evaluation;
 mod expression;
 mod laws;
@@ -21,6 +22,7 @@ mod truth;
 mod worked;
 
 pub use call::{Act, By, Call, Description, Event, EventRef, Mode, Part, Path, TimedCall, Token};
+pub use effects::effect_rows;
 pub use evaluation::EvalFault;
 pub use expression::{
     Action, BinaryOperator, Expression, Filter, Items, PropertyName, Statement, UnaryOperator,
