@@ -7,9 +7,12 @@
 #![tactic(auto)]
 
 mod compare;
+mod evaluate;
 mod like;
 mod numbers;
+mod operators;
 mod properties;
 mod value;
 
+pub use evaluate::eval;
 use value::{Evaluated, Value};
