@@ -103,8 +103,14 @@ value_size (Int n) = 8
 value_size (Text text) = length text
 value_size (Truth b) = 8
 
+abbrev pub property_size : Property → ℕ
+property_size p = length p.name + value_size p.value
+
+abbrev pub text_size : SystemText → ℕ
+text_size s = length s.text
+
 abbrev pub property_bytes : Message → ℕ
-property_bytes m = sum_by (λ p. length p.name + value_size p.value) m.props + sum_by (λ s. length s.text) m.sys
+property_bytes m = sum_by property_size m.props + sum_by text_size m.sys
 
 abbrev pub max_property_bytes : ℕ
 max_property_bytes = 65536

@@ -6,12 +6,14 @@
 //! it is true.
 #![tactic(auto)]
 
+mod changes;
 mod compare;
 mod evaluate;
 mod like;
 mod numbers;
 mod operators;
 mod properties;
+mod sizes;
 mod value;
 
 pub use evaluate::eval;
