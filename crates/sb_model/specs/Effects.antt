@@ -78,10 +78,13 @@ on_known (Some name) next = next name
 abbrev pub on_system : {A : Type 0} → List ℕ → (SystemName → Result A EvalFault) → Result A EvalFault
 on_system text next = on_known (system_named text) next
 
+abbrev pub system_set : Message → SystemName → Term → Result Message EvalFault
+system_set m name t = and_then (value_of m t) (λ x. and_then (text_set name x) (λ text. Ok (record m { sys = with_system name text m.sys })))
+
 -- the property is looked for before the value is
 abbrev pub after_set : Message → PropertyName → Term → Result Message EvalFault
 after_set m (User name) t = and_then (value_of m t) (λ x. Ok (record m { props = with_user name x m.props }))
-after_set m (System text) t = on_system text (λ name. and_then (value_of m t) (λ x. and_then (text_set name x) (λ set. Ok (record m { sys = with_system name set m.sys }))))
+after_set m (System text) t = on_system text (λ name. system_set m name t)
 
 abbrev pub after_remove : Message → PropertyName → Result Message EvalFault
 after_remove m (User name) = Ok (record m { props = without_user name m.props })

@@ -56,7 +56,9 @@ fn system_place(sys: &[SystemText], name: SystemName) -> usize
     ensures value { result ≡ prefix_len (λ q. nat_lt (system_code q.name) (system_code name)) sys.now }
     ensures within { result ≤ length sys.now }
 {
-    sys.iter().take_while(|q| q.name.code() < name.code()).count()
+    sys.iter()
+        .take_while(|q| q.name.code() < name.code())
+        .count()
 }
 
 pub(crate) fn without_system(sys: Rows<SystemText>, name: SystemName) -> Rows<SystemText>

@@ -6,6 +6,7 @@
 //! it is true.
 #![tactic(auto)]
 
+mod action;
 mod changes;
 mod compare;
 mod evaluate;
@@ -16,5 +17,6 @@ mod properties;
 mod sizes;
 mod value;
 
+pub use action::run_action;
 pub use evaluate::eval;
 use value::{Evaluated, Value};
