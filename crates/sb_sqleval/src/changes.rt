@@ -43,10 +43,10 @@ pub(crate) fn with_user(
 ) -> Result<Rows<Property>, AllocError>
     ensures { IfOk result (λ r. r ≡ effects.with_user name.now value props) }
 {
-    let others = without_user(props, name);
     let Some(value) = value else {
-        return Ok(others);
+        return Ok(without_user(props, name));
     };
+    let others = without_user(props, name);
     let name = Text::of(alloc, name)?;
     with_one_more(Property { name, value }, others)
 }
@@ -89,9 +89,8 @@ pub(crate) fn with_system(
 ) -> Result<Rows<SystemText>, AllocError>
     ensures { IfOk result (λ r. r ≡ effects.with_system name text sys) }
 {
-    let others = without_system(sys, name);
     if text.as_bytes().is_empty() {
-        return Ok(others);
+        return Ok(without_system(sys, name));
     }
-    with_text_more(SystemText { name, text }, others)
+    with_text_more(SystemText { name, text }, without_system(sys, name))
 }
