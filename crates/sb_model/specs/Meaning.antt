@@ -166,9 +166,12 @@ abbrev pub likeness : Option PropertyValue → Option PropertyValue → ThreeVal
 likeness (Some (Text text)) (Some (Text pattern)) = known (is_like text pattern None)
 likeness _ _ = Unknown
 
--- unknown also where the escape isn't one character
+-- unknown where the escape isn't one character
+unfoldable pub like_by : List ℕ → List ℕ → List ℕ → ThreeValued
+like_by text pattern escape = if is_one_character escape then known (is_like text pattern (Some escape)) else Unknown
+
 abbrev pub likeness_by : Option PropertyValue → Option PropertyValue → Option PropertyValue → ThreeValued
-likeness_by (Some (Text text)) (Some (Text pattern)) (Some (Text escape)) = if is_one_character escape then known (is_like text pattern (Some escape)) else Unknown
+likeness_by (Some (Text text)) (Some (Text pattern)) (Some (Text escape)) = like_by text pattern escape
 likeness_by _ _ _ = Unknown
 
 -- ---- operators

@@ -160,14 +160,25 @@ pub(crate) fn likeness(text: &Value, pattern: &Value) -> Truth
     }
 }
 
-/// Unknown where the escape isn't a text of one character.
+/// Unknown where the escape isn't one character.
+#[tactic(auto, unfolding(sb_model::specs::Meaning::like_by))]
+fn like_by(text: &str, pattern: &str, escape: &str) -> Truth
+    ensures { result ≡ meaning.like_by text.now pattern.now escape.now }
+{
+    if is_one_character(escape) {
+        Truth::known(is_like(text, pattern, Some(escape)))
+    } else {
+        Truth::Unknown
+    }
+}
+
+/// Unknown also where the escape isn't a text.
 pub(crate) fn likeness_by(text: &Value, pattern: &Value, escape: &Value) -> Truth
     ensures { result ≡ meaning.likeness_by (value_in text.now) (value_in pattern.now) (value_in escape.now) }
 {
     match (text, pattern, escape) {
-        (Value::Text(text), Value::Text(pattern), Value::Text(escape))
-            if is_one_character(escape.as_str()) => {
-            Truth::known(is_like(text.as_str(), pattern.as_str(), Some(escape.as_str())))
+        (Value::Text(text), Value::Text(pattern), Value::Text(escape)) => {
+            like_by(text.as_str(), pattern.as_str(), escape.as_str())
         }
         _ => Truth::Unknown,
     }
