@@ -3,6 +3,8 @@
 #![tactic(auto)]
 
 #[cfg(test)]
-mod action_tests;
+mod actions;
+#[cfg(test)]
+mod examples;
 #[cfg(test)]
 mod tests;

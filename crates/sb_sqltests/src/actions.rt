@@ -4,7 +4,7 @@ use sb_sqltext::parse_action;
 use std::alloc::{AllocError, Global};
 use std::test::Fail;
 
-fn empty_message(alloc: Global) -> Message {
+pub(crate) fn empty_message(alloc: Global) -> Message {
     Message {
         body: Rows::new(alloc),
         sys: Rows::new(alloc),
@@ -15,7 +15,7 @@ fn empty_message(alloc: Global) -> Message {
 }
 
 /// The message as an action leaves it, or the name of the fault.
-fn acted(
+pub(crate) fn acted(
     alloc: Global,
     message: Message,
     action: &str,
