@@ -13,4 +13,5 @@ pub mod SystemNames
 pub mod Meaning
 pub mod WorkedFilters
 pub mod Effects
+pub mod Orders
 pub mod WorkedActions

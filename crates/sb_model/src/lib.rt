@@ -28,7 +28,8 @@ pub use expression::{
     Action, BinaryOperator, Expression, Filter, Items, PropertyName, Statement, UnaryOperator,
 };
 pub use laws::{
-    answers_legally, answers_no_fault, goes_on, keeps_time, starts_consistent, stays_consistent,
+    actions_keep_messages, answers_legally, answers_no_fault, goes_on, keeps_time,
+    starts_consistent, stays_consistent,
 };
 pub use likes::like_rows;
 pub use message::{Message, Name, Property, PropertyValue, SystemName, SystemText, is_same_word};
