@@ -13,3 +13,6 @@ pub mod SystemNames
 pub mod Meaning
 pub mod WorkedFilters
 pub mod FilterFaults
+pub mod Effects
+pub mod Orders
+pub mod WorkedActions

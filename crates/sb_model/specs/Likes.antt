@@ -54,9 +54,9 @@ abbrev pub escape_of : Option (List ℕ) → Option ℕ
 escape_of None = None
 escape_of (Some bytes) = first_of (chars bytes)
 
-abbrev pub is_one_character : List ℕ → Bool
+unfoldable pub is_one_character : List ℕ → Bool
 is_one_character bytes = length (chars bytes) == 1
 
 -- a text, a pattern and an escape, if there is one, as their bytes
-abbrev pub is_like : List ℕ → List ℕ → Option (List ℕ) → Bool
+unfoldable pub is_like : List ℕ → List ℕ → Option (List ℕ) → Bool
 is_like text pattern escape = has_some_form (parts_of (escape_of escape) (chars pattern)) (chars text)

@@ -21,7 +21,11 @@ fn affirmed_or_denied<'a>(affirmed: bool, truth: Truth) -> Value<'a>
 }
 
 #[cycle(evaluate)]
-fn value_of<'a>(alloc: Global, message: &'a Message, expression: &'a Expression) -> Evaluated<'a>
+pub(crate) fn value_of<'a>(
+    alloc: Global,
+    message: &'a Message,
+    expression: &'a Expression,
+) -> Evaluated<'a>
     ensures gives { Gives value_in result (meaning.value_of message.now (term_of expression.now)) }
     ensures without_memory { TakesNoMemory (term_of expression.now) → Is value_in result (meaning.value_of message.now (term_of expression.now)) }
 {

@@ -6,13 +6,17 @@
 //! it is true.
 #![tactic(auto)]
 
+mod action;
+mod changes;
 mod compare;
 mod evaluate;
 mod like;
 mod numbers;
 mod operators;
 mod properties;
+mod sizes;
 mod value;
 
+pub use action::run_action;
 pub use evaluate::eval;
 use value::{Evaluated, Value};

@@ -183,11 +183,18 @@ fn escape_of(escape: Option<&str>) -> Option<char>
     Some(first)
 }
 
+pub(crate) fn count_chars(text: &str) -> usize
+    ensures { result ≡ length (chars text.now) }
+{
+    text.chars().count()
+}
+
 /// Whether this is one character, as an escape must be.
+#[tactic(auto, unfolding(sb_model::specs::Likes::is_one_character))]
 pub(crate) fn is_one_character(text: &str) -> bool
     ensures { result ≡ likes.is_one_character text.now }
 {
-    text.chars().count() == 1
+    count_chars(text) == 1
 }
 
 /// `text LIKE pattern`, with the first character of `escape` as the escape, if there is one.

@@ -3,6 +3,10 @@
 #![tactic(auto)]
 
 #[cfg(test)]
+mod actions;
+#[cfg(test)]
 mod evaluation;
+#[cfg(test)]
+mod examples;
 #[cfg(test)]
 mod tests;
