@@ -8,3 +8,11 @@ pub mod Laws
 pub mod Worked
 pub mod Truth
 pub mod Expressions
+pub mod Likes
+pub mod SystemNames
+pub mod Meaning
+pub mod WorkedFilters
+pub mod FilterFaults
+pub mod Effects
+pub mod Orders
+pub mod WorkedActions

@@ -1,6 +1,11 @@
 -- The tables of AND, OR and NOT over true, false and unknown.
+use Rattle.std.specs.Prelude.{Bool, true, false}
 use Rattle.sb_model.specs.declared.truth.Truth.{Truth}
 use Rattle.sb_model.specs.declared.truth.Truth.TheVariants.{True, False, Unknown}
+
+abbrev pub known : Bool → Truth
+known true = True
+known false = False
 
 abbrev pub truth_not : Truth → Truth
 truth_not True = False

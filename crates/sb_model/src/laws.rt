@@ -1,5 +1,8 @@
-// Laws of the machine: each a function without effect whose contract is a statement of specs/Laws.
+// Laws of the machine, of filters and of actions: each a function without effect whose contract is a
+// statement of specs/Laws, specs/FilterFaults or specs/Orders.
 ghost use Rattle.sb_model.specs.Laws.{GoesOn, AnswersNoFault, AnswersLegally, StartsConsistent, StaysConsistent, KeepsTime};
+ghost use Rattle.sb_model.specs.FilterFaults.{FiltersFailOnlySo};
+ghost use Rattle.sb_model.specs.Orders.{ActionsKeepMessages};
 
 /// A legal history goes on by any entry that may stand behind it.
 pub fn goes_on()
@@ -29,4 +32,15 @@ pub fn stays_consistent()
 /// A call never takes time back, nor past the last moment that counts.
 pub fn keeps_time()
     ensures { KeepsTime }
+{}
+
+/// On no message does a filter fail by more than Overflow, DivideByZero or NoSystemProperty.
+pub fn filters_fail_only_so()
+    ensures { FiltersFailOnlySo }
+{}
+
+/// An action changes a message's properties alone, keeps their order, and leaves no more than a
+/// message may have.
+pub fn actions_keep_messages()
+    ensures { ActionsKeepMessages }
 {}

@@ -8,8 +8,11 @@
 #![tactic(auto)]
 
 mod call;
+mod effects;
+mod evaluation;
 mod expression;
 mod laws;
+mod likes;
 mod message;
 mod reply;
 mod rows;
@@ -19,16 +22,20 @@ mod truth;
 mod worked;
 
 pub use call::{Act, By, Call, Description, Event, EventRef, Mode, Part, Path, TimedCall, Token};
+pub use effects::effect_rows;
+pub use evaluation::EvalFault;
 pub use expression::{
     Action, BinaryOperator, Expression, Filter, Items, PropertyName, Statement, UnaryOperator,
 };
 pub use laws::{
-    answers_legally, answers_no_fault, goes_on, keeps_time, starts_consistent, stays_consistent,
+    actions_keep_messages, answers_legally, answers_no_fault, filters_fail_only_so, goes_on,
+    keeps_time, starts_consistent, stays_consistent,
 };
-pub use message::{Message, Name, Property, PropertyValue, SystemName, SystemText};
+pub use likes::like_rows;
+pub use message::{Message, Name, Property, PropertyValue, SystemName, SystemText, is_same_word};
 pub use reply::{Answer, CopyShown, CopyState, Receipt, Refusal, Reply, Showing};
 pub use rows::Rows;
 pub use state::{Entity, Leaf, State, StoredCopy};
 pub use text::Text;
 pub use truth::Truth;
-pub use worked::worked_rows;
+pub use worked::{worked_filters, worked_rows};

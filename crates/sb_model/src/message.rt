@@ -1,3 +1,8 @@
+// Messages as they are sent, and their properties.
+ghost use Rattle.std.specs.Prelude.{◌≡◌};
+ghost use Rattle.std.specs.Str.{str_eq_ignore_ascii_case};
+ghost use Rattle.sb_model.specs.SystemNames.{system_name, system_code, system_named};
+
 use crate::{Rows, Text};
 
 /// A name of an entity, a subscription, a rule or a property. It is folded to ASCII lower case
@@ -16,6 +21,72 @@ pub enum SystemName {
     ReplyTo,
     ReplyToSessionId,
     ContentType,
+}
+
+impl SystemName {
+    /// The name as the service writes it.
+    pub fn name(self) -> &'static str
+        ensures { result.now ≡ system_name self }
+    {
+        match self {
+            SystemName::MessageId => "MessageId",
+            SystemName::Label => "Label",
+            SystemName::CorrelationId => "CorrelationId",
+            SystemName::SessionId => "SessionId",
+            SystemName::To => "To",
+            SystemName::ReplyTo => "ReplyTo",
+            SystemName::ReplyToSessionId => "ReplyToSessionId",
+            SystemName::ContentType => "ContentType",
+        }
+    }
+
+    /// Its place among the eight, from 1.
+    pub fn code(self) -> u8
+        ensures { result ≡ system_code self }
+    {
+        match self {
+            SystemName::MessageId => 1,
+            SystemName::Label => 2,
+            SystemName::CorrelationId => 3,
+            SystemName::SessionId => 4,
+            SystemName::To => 5,
+            SystemName::ReplyTo => 6,
+            SystemName::ReplyToSessionId => 7,
+            SystemName::ContentType => 8,
+        }
+    }
+
+    /// The one that is named so, in any ASCII case.
+    pub fn named(text: &str) -> Option<Self>
+        ensures { result ≡ system_named text.now }
+    {
+        if is_same_word(text, "MessageId") {
+            Some(SystemName::MessageId)
+        } else if is_same_word(text, "Label") {
+            Some(SystemName::Label)
+        } else if is_same_word(text, "CorrelationId") {
+            Some(SystemName::CorrelationId)
+        } else if is_same_word(text, "SessionId") {
+            Some(SystemName::SessionId)
+        } else if is_same_word(text, "To") {
+            Some(SystemName::To)
+        } else if is_same_word(text, "ReplyTo") {
+            Some(SystemName::ReplyTo)
+        } else if is_same_word(text, "ReplyToSessionId") {
+            Some(SystemName::ReplyToSessionId)
+        } else if is_same_word(text, "ContentType") {
+            Some(SystemName::ContentType)
+        } else {
+            None
+        }
+    }
+}
+
+/// Whether these differ in ASCII case alone.
+pub fn is_same_word(text: &str, word: &str) -> bool
+    ensures { result ≡ str_eq_ignore_ascii_case text.now word.now }
+{
+    text.eq_ignore_ascii_case(word)
 }
 
 /// One system text; an empty one counts as absent and never stands here.

@@ -1,0 +1,15 @@
+use Rattle.std.proofs.Common.{◌≡◌, length}
+use Rattle.std.specs.Str.{chars}
+use Rattle.sb_sqleval.specs.Places.{fits, is_open, IsMarked, IsWithin, turns_left}
+use Rattle.sb_sqleval.proofs.like.has_form.Given as goal
+
+-- what is open now is what was asked
+abbrev pub invariant-turns : goal.invariant-turns
+invariant-turns l = record {
+  same : is_open l.escape l.places ≡ fits l.escape l.pattern (chars l.text);
+  marked : IsMarked l.escape l.places.ahead.now l.places.left.now l.places.mark;
+  within : IsWithin (length (chars l.text)) (length (chars l.pattern)) l.places;
+}
+
+abbrev pub decreases-turns : goal.decreases-turns
+decreases-turns l = turns_left (length (chars l.text)) (length (chars l.pattern)) l.places
