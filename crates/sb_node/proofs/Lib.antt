@@ -8,4 +8,5 @@ pub mod Events
 pub mod Plans
 pub mod Gates
 pub mod Keeping
+pub mod Crashes
 pub mod Recovered

@@ -1,10 +1,11 @@
 -- What contracts say of a node: the state that it holds, and what its journal says of it.
-use Rattle.std.specs.Prelude.{◌≡◌, ℕ, Bool, true, if◌then◌else◌, List, Option, Some}
+use Rattle.std.specs.Prelude.{◌≡◌, ◌⊎◌, ℕ, Bool, true, if◌then◌else◌, List, Option, Some}
 use Rattle.sb_outside.specs.declared.disk.Disk.{Ghosts}
 use Rattle.sb_outside.specs.Causes.{Rose}
 use Rattle.sb_codec.specs.Reading.{read_event}
 use Rattle.sb_journal.specs.declared.journal.Journal.{Journal}
 use Rattle.sb_journal.specs.Text.{File, with_payload}
+use Rattle.sb_journal.specs.Framing.{Whole, framing}
 use Rattle.sb_model.specs.declared.call.Event.{Event}
 use Rattle.sb_model.specs.declared.reply.Refusal.{Refusal}
 use Rattle.sb_model.specs.declared.reply.Refusal.TheVariants.{DiskFault, OutOfMemory}
@@ -14,7 +15,7 @@ use Rattle.sb_model.specs.History.{Entry, IsAllowed, after_entry, entry_stops}
 use Rattle.sb_model.specs.declared.state.State.{State}
 use Rattle.sb_node.specs.declared.node.Node.{Node}
 use Rattle.sb_node.specs.Engine.{engine_state}
-use Rattle.sb_node.specs.Recovery.{replay, reaches, first_gate}
+use Rattle.sb_node.specs.Recovery.{replay, reaches, first_gate, recovered, Recovers}
 
 abbrev pub node_state : {D : Type 0} {B : Ghosts D} → Node D B → State
 node_state n = engine_state n.engine
@@ -49,6 +50,18 @@ abbrev pub IsUnrecorded : {D : Type 0} {B : Ghosts D} → Journal D B → Option
 IsUnrecorded {D} {B} old stopped new stopped_after OutOfMemory = (new ≡ old) × (stopped_after ≡ stopped)
 IsUnrecorded {D} {B} old stopped new stopped_after DiskFault = (stopped_after ≡ Some (B.count (journal_disk_a new))) × Rose (B.count (journal_disk_a old)) (B.count (journal_disk_a new))
 IsUnrecorded {D} {B} old stopped new stopped_after _ = ⊥
+
+-- a crash that leaves this image of disk a leads to this state, whatever disk b holds
+abbrev pub LeadsTo : State → List ℕ → Type 0
+LeadsTo s image = (b : List ℕ) (salt : ℕ) → Recovers (recovered image b salt) s
+
+-- it leads to the one state or to the other, and never to damage
+abbrev pub LeadsToOneOf : State → State → List ℕ → Type 0
+LeadsToOneOf before after image = LeadsTo before image ⊎ LeadsTo after image
+
+-- these bytes stand for the file, or for it with this event more
+abbrev pub HasEventOrNot : File → Event → List ℕ → Type 0
+HasEventOrNot file event image = (framing image ≡ Whole file) ⊎ ((payload : List ℕ) × (framing image ≡ Whole (with_payload file payload)) × (read_event payload ≡ Some event))
 
 -- an entry led from the one state to the other
 pub record IsStep (stopped : Bool) (before : State) (entry : Entry) (stopped_after : Bool) (after : State) : Type 0 where

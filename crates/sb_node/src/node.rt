@@ -1,5 +1,5 @@
 // The node: a namespace whose every change is in its journal before it is answered.
-ghost use Rattle.std.specs.Prelude.{◌≡◌, ◌≢◌, ◌≤◌, ℕ, Some, None, Err, is_some, IsTrue, true, false, slice_index, IfOk, IfErr, OnOk};
+ghost use Rattle.std.specs.Prelude.{◌≡◌, ◌≢◌, ◌≤◌, List, ℕ, Some, None, Err, is_some, IsTrue, true, false, slice_index, IfOk, IfErr, OnOk};
 ghost use Rattle.std.specs.Result.{MatchResult};
 ghost use Rattle.sb_outside.specs.Causes.{Rose};
 ghost use Rattle.sb_journal.specs.Journals.{journal_disk_a, journal_disk_b};
@@ -29,17 +29,17 @@ pub struct Node<D: Disk> {
 const FIRST_GATE: u64 = 42;
 
 impl<D: Disk> Node<D> {
-    ghost use Rattle.sb_node.specs.Nodes.{node_state, node_stopped, node_journal, node_disk_a, node_disk_b, IsKept, IsStep, IsLogged, IsUnrecorded};
+    ghost use Rattle.sb_node.specs.Nodes.{node_state, node_stopped, node_journal, node_disk_a, node_disk_b, IsKept, IsStep, IsLogged, IsUnrecorded, LeadsTo, LeadsToOneOf, HasEventOrNot};
     ghost use Rattle.sb_node.specs.Recovery.{recovered, damaged, Recovers};
     ghost use Rattle.sb_node.specs.Engine.{planned, is_change, HasRoom, IsFitting};
-    ghost use Rattle.sb_model.specs.Answers.{row_of, moment_of, is_move, max_moment};
+    ghost use Rattle.sb_model.specs.Answers.{row_of, state_of, moment_of, is_move, max_moment};
     ghost use Rattle.sb_model.specs.declared.call.Event.TheVariants.{Called};
     ghost use Rattle.sb_journal.specs.Text.{File};
     ghost use Rattle.sb_journal.specs.Journals.{IsSettled};
     ghost use Rattle.sb_journal.specs.Framing.{Uncreated, framing};
     ghost use Rattle.sb_journal.specs.Settled.{MayLeave};
-    ghost use Rattle.sb_journal.specs.Moments.{FromSync, IsUnwritten};
-    ghost use Rattle.sb_outside.specs.Held.{at_rest};
+    ghost use Rattle.sb_journal.specs.Moments.{EachMoment, FromSync, IsUnwritten};
+    ghost use Rattle.sb_outside.specs.Held.{at_rest, IsImage};
 
     /// Opens the namespace that stands on these disks, from what they hold. Where disk a has no
     /// journal, one with this salt is made. `Damaged` where the journal can't be trusted, with the
@@ -124,6 +124,14 @@ impl<D: Disk> Node<D> {
         ensures unchanging { is_move (row_of (node_state self.old) (moment_of (node_state self.old) reading) call.now) ≡ false
             → (node_state self.new ≡ node_state self.old) × (node_journal self.new ≡ node_journal self.old) }
 
+        // A crash at any moment of the step leads to the state before it or to the one after it; once it is answered, but
+        // by `DiskFault`, to the state that it holds.
+        ensures any_moment { (node_state self.old).now ≤ max_moment → IsKept (node_journal self.old) (node_state self.old)
+            → EachMoment (D.past (node_disk_a self.old)) (D.past (node_disk_a self.new)) (D.held (node_disk_a self.new))
+            (LeadsToOneOf (node_state self.old) (state_of (node_state self.old) (moment_of (node_state self.old) reading) call.now)) }
+        ensures durable { (node_state self.old).now ≤ max_moment → IsKept (node_journal self.old) (node_state self.old) → node_stopped self.new ≡ None
+            → (image : List ℕ) → IsImage (D.held (node_disk_a self.new)) image → LeadsTo (node_state self.new) image }
+
         // Each answer that isn't the machine's has its cause.
         ensures disk_fault { result ≡ Err DiskFault → Rose (D.count (node_disk_a self.old)) (D.count (node_disk_a self.new)) }
         ensures stopped { (n : ℕ) → result ≡ Err (Stopped n) → node_stopped self.old ≡ Some n }
@@ -154,6 +162,8 @@ impl<D: Disk> Node<D> {
         ensures state { node_state self.new ≡ node_state self.old }
         ensures room { OnOk result (HasRoom self.new.engine plan.now) }
         ensures logged { (file : File) → IsSettled self.old.journal file → OnOk result (IsLogged self.new.journal file (Called t call.now)) }
+        ensures any_moment { (file : File) → IsSettled self.old.journal file
+            → EachMoment (D.past (node_disk_a self.old)) (D.past (node_disk_a self.new)) (D.held (node_disk_a self.new)) (HasEventOrNot file (Called t call.now)) }
         ensures running { OnOk result (node_stopped self.new ≡ None) }
         ensures refused { IfErr result (IsUnrecorded (node_journal self.old) (node_stopped self.old) (node_journal self.new) (node_stopped self.new)) }
         ensures later { D.count (node_disk_a self.old) ≤ D.count (node_disk_a self.new) }

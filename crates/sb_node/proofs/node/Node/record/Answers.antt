@@ -5,6 +5,7 @@ use Rattle.sb_codec.specs.EventBytes.{event_bytes}
 use Rattle.sb_codec.specs.Reading.{read_event}
 use Rattle.sb_node.specs.Engine.{engine_state, planned}
 use Rattle.sb_node.proofs.Plans.{planned_moves, moved_is_move}
+use Rattle.sb_node.proofs.Crashes.{recorded_moments, settled_moments}
 use Rattle.sb_node.proofs.Events.{call_spelled}
 use Rattle.sb_node.proofs.node.Node.record.Goals as goal
 
@@ -35,3 +36,15 @@ returns-clause-logged g c file settled =
       settled = c.in-Ok-append.ensures.ok file settled;
       reads = ap read_event bytes ∙ c.in-Ok-encode_event.ensures.reads_back;
     }
+
+pub returns-in_default-append-clause-any_moment : goal.returns-in_default-append-clause-any_moment
+returns-in_default-append-clause-any_moment g c file settled =
+    let text = event_bytes (Called c.args.t c.args.call.now) in
+    let bytes : c.deref.result.now ≡ text = c.deref.ensures.value ∙ c.in-Ok-encode_event.ensures.ok ∙ ap (λ (l : List ℕ). l ++ text) c.clear.ensures.items in
+    recorded_moments _ _ _ file c.deref.result.now (Called c.args.t c.args.call.now) (ap read_event bytes ∙ c.in-Ok-encode_event.ensures.reads_back) (c.append.ensures.any_moment file settled)
+
+pub returns-clause-any_moment : goal.returns-clause-any_moment
+returns-clause-any_moment g c file settled =
+    let text = event_bytes (Called c.args.t c.args.call.now) in
+    let bytes : c.deref.result.now ≡ text = c.deref.ensures.value ∙ c.in-Ok-encode_event.ensures.ok ∙ ap (λ (l : List ℕ). l ++ text) c.clear.ensures.items in
+    recorded_moments _ _ _ file c.deref.result.now (Called c.args.t c.args.call.now) (ap read_event bytes ∙ c.in-Ok-encode_event.ensures.reads_back) (c.append.ensures.any_moment file settled)
