@@ -5,6 +5,19 @@ use std::test::Fail;
 
 const RUN: [&str; 3] = ["run", "--data", "."];
 
+// That of the journal whose bytes docs/FORMATS.md has.
+const SALT: u64 = 0xa1b2_c3d4_e5f6_0718;
+
+const SETUP: &str = "{\"at\":0,\"do\":\"create-queue\",\"name\":\"q\"}\n";
+
+// The journal of the queue q that was made at moment 0.
+const ONE_EVENT: [u8; 87] = [
+    0x01, 0x53, 0x42, 0x4e, 0x53, 0x4a, 0x52, 0x4e, 0x4c, 0x01, 0xa1, 0xb2, 0xc3, 0xd4, 0xe5, 0xf6,
+    0x07, 0x18, 0, 0, 0, 0, 0, 0, 0, 1, 0, 0, 0, 0, 0, 0, 0, 1, 0, 0, 0, 0, 0, 0, 0, 0, 0x01, 0, 0,
+    0, 0x1f, 0, 0, 0, 0, 0, 0, 0, 1, 0x01, 0, 0, 0, 0, 0, 0, 0, 0, 0, 0x01, 0, 0, 0, 1, 0x71, 0, 0,
+    0, 0x3c, 0, 0, 0, 0, 0x0a, 0, 0, 0, 1, 0, 0, 0,
+];
+
 const CREATE: &str = "{\"at\":5,\"do\":\"create-queue\",\"name\":\"Q\"}\n";
 
 const SEND: &str =
@@ -99,7 +112,7 @@ fn leaves(rt: &HostRuntime, case: Case<'_>) -> Result<Vec<u8>, Fail> {
         case.words,
         disk_a,
         disk_b,
-        7,
+        SALT,
         &clock,
         &mut input,
         &mut output,
@@ -137,7 +150,12 @@ fn answers<'a>(disk: &'a [u8], script: &'a [&'a str], told: &'a [&'a str], statu
 #[test]
 fn later_runs_go_on(rt: HostRuntime) -> Result<(), Fail> {
     let made = leaves(&rt, answers(&[], &[], &[], 0))?;
-    assert_eq!(rt; made.len(), 43);
+    assert_eq!(rt;
+        made.as_slice(),
+        [&ONE_EVENT[..42], &[0]].concat(rt.alloc())?.as_slice()
+    );
+    let setup = leaves(&rt, answers(&[], &[SETUP], &[DONE], 0))?;
+    assert_eq!(rt; setup.as_slice(), &ONE_EVENT[..]);
     let first = [CREATE, SEND, PEEK, RECEIVE];
     let left = leaves(&rt, answers(&made, &first, &[DONE, SENT, COPIES, FIRST], 0))?;
     assert_eq!(rt; left.len(), 186);
@@ -291,7 +309,7 @@ fn lines_that_are_no_text(rt: HostRuntime) -> Result<(), Fail> {
             &RUN,
             disk_a,
             disk_b,
-            7,
+            SALT,
             &StepClock::new(0, 1),
             &mut input,
             &mut output,
