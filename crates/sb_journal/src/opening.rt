@@ -98,6 +98,7 @@ fn new_stand(alloc: Global, salt: u64) -> Stand
     }
 }
 
+// The file that counts, with what was seen of its end.
 fn seen_as(stand: Stand, made: bool, closed: bool) -> Looked
     ensures stand { result.stand ≡ stand }
     ensures made { result.ending.made ≡ made }

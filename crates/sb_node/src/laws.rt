@@ -1,4 +1,4 @@
-// Laws: each a function without effect whose contract is a statement of specs/Laws.
+// Laws: each a function without effect whose contract is true of the definitions.
 ghost use Rattle.std.specs.Prelude.{◌≡◌, [], length, take};
 ghost use Rattle.sb_journal.specs.declared.found.Side.TheVariants.{A};
 ghost use Rattle.sb_model.specs.Namespace.{empty_state};
