@@ -28,7 +28,8 @@ use Rattle.sb_model.specs.declared.message.PropertyValue.TheVariants.{Int, Text,
 use Rattle.sb_model.specs.declared.message.SystemName.{SystemName}
 use Rattle.sb_model.specs.declared.message.SystemName.TheVariants.{MessageId, Label, CorrelationId, SessionId, To, ReplyTo, ReplyToSessionId, ContentType}
 use Rattle.sb_model.specs.declared.message.SystemText.{SystemText}
-use Rattle.sb_codec.specs.EventBytes.{sized, number64, truth, part_byte, mode_byte, system_code, path_bytes, token_bytes, system_bytes, value_bytes, property_bytes, message_bytes, description_bytes, by_bytes}
+use Rattle.sb_model.specs.SystemNames.{system_code}
+use Rattle.sb_codec.specs.EventBytes.{sized, number64, truth, part_byte, mode_byte, path_bytes, token_bytes, system_bytes, value_bytes, property_bytes, message_bytes, description_bytes, by_bytes}
 use Rattle.sb_codec.specs.Readers.{Reader, mapped, number_at}
 use Rattle.sb_codec.specs.Reading.{text_at, truth_at, part_at, mode_at, path_at, token_at, by_at, system_name, system_name_at, is_next_system, system_after, value_at, is_next_property, property_after, message_at, description_at}
 use Rattle.sb_codec.specs.Spelled.{IsText, IsPath, IsToken, IsBy, IsValue, AreSystemTexts, ArePropertiesAfter, AreProperties, IsMessage, IsDescription}

@@ -2,6 +2,7 @@
 use Rattle.std.specs.Prelude.{ℕ, List, [], ◌∷◌, ◌++◌, length, Bool, true, false, Option, Some, None}
 use Rattle.std.specs.List.{flat_map}
 use Rattle.std.specs.Int.{w32, w64, to_be_bytes, cast_unsigned}
+use Rattle.sb_model.specs.SystemNames.{system_code}
 use Rattle.sb_model.specs.declared.call.Act.{Act}
 use Rattle.sb_model.specs.declared.call.Act.TheVariants.{CreateQueue, Send, Receive, Peek}
 use Rattle.sb_model.specs.declared.call.By.{By}
@@ -20,8 +21,6 @@ use Rattle.sb_model.specs.declared.message.Message.{Message}
 use Rattle.sb_model.specs.declared.message.Property.{Property}
 use Rattle.sb_model.specs.declared.message.PropertyValue.{PropertyValue}
 use Rattle.sb_model.specs.declared.message.PropertyValue.TheVariants.{Int, Text, Bool as Truth}
-use Rattle.sb_model.specs.declared.message.SystemName.{SystemName}
-use Rattle.sb_model.specs.declared.message.SystemName.TheVariants.{MessageId, Label, CorrelationId, SessionId, To, ReplyTo, ReplyToSessionId, ContentType}
 use Rattle.sb_model.specs.declared.message.SystemText.{SystemText}
 
 -- the event that a borrowed one is
@@ -60,16 +59,6 @@ part_byte Transfer = 2
 abbrev pub mode_byte : Mode → ℕ
 mode_byte Lock = 0
 mode_byte Delete = 1
-
-abbrev pub system_code : SystemName → ℕ
-system_code MessageId = 1
-system_code Label = 2
-system_code CorrelationId = 3
-system_code SessionId = 4
-system_code To = 5
-system_code ReplyTo = 6
-system_code ReplyToSessionId = 7
-system_code ContentType = 8
 
 abbrev pub path_bytes : Path → List ℕ
 path_bytes p = sized p.name ++ (optional sized p.subscription ++ part_byte p.part ∷ [])

@@ -23,7 +23,7 @@ use Rattle.sb_model.specs.declared.message.PropertyValue.TheVariants.{Int, Text,
 use Rattle.sb_model.specs.declared.message.SystemName.{SystemName}
 use Rattle.sb_model.specs.declared.message.SystemName.TheVariants.{MessageId, Label, CorrelationId, SessionId, To, ReplyTo, ReplyToSessionId, ContentType}
 use Rattle.sb_model.specs.declared.message.SystemText.{SystemText}
-use Rattle.sb_codec.specs.EventBytes.{system_code}
+use Rattle.sb_model.specs.SystemNames.{system_code}
 use Rattle.sb_codec.specs.Readers.{Reader, ◌>>=◌, both, mapped, tested, number_at, sized_at, optional_at, listed_at}
 
 unfoldable pub text_at : Reader (List ℕ)

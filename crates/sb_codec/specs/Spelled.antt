@@ -6,7 +6,7 @@ use Rattle.std.specs.Cmp.Lexicographic.{slice_cmp}
 use Rattle.std.specs.Ordering.{nat_cmp}
 use Rattle.std.specs.declared.cmp.Ordering.TheVariants.{Less}
 use Rattle.std.specs.List.{AllByRecursion}
-use Rattle.sb_codec.specs.EventBytes.{system_code}
+use Rattle.sb_model.specs.SystemNames.{system_code}
 use Rattle.sb_model.specs.declared.call.Act.{Act}
 use Rattle.sb_model.specs.declared.call.Act.TheVariants.{CreateQueue, Send, Receive, Peek}
 use Rattle.sb_model.specs.declared.call.By.{By}

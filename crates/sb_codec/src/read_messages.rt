@@ -7,7 +7,6 @@ ghost use Rattle.sb_codec.specs.Reading.{system_name, system_name_at, system_aft
 
 use crate::read_fields::{optional_u64_of, sized_of, text_of, truth_of, u32_of, u64_of};
 use crate::unread::Unread;
-use crate::write_messages::code_of;
 use sb_model::{Message, Property, PropertyValue, Rows, SystemName, SystemText};
 use std::alloc::Global;
 use std::cmp::Ordering;
@@ -50,7 +49,7 @@ fn is_next_system(last: Option<&SystemText>, next: &SystemText) -> bool
     }
     match last {
         None => true,
-        Some(last) => code_of(last.name) < code_of(next.name),
+        Some(last) => last.name.code() < next.name.code(),
     }
 }
 

@@ -1,28 +1,12 @@
 // Writing messages.
 ghost use Rattle.std.specs.Prelude.{◌≡◌, ◌<◌, ◌^◌, ◌++◌, length, OnOk, ◌+◌, ◌≤◌, vec_len, vec_capacity, OnErr};
 ghost use Rattle.std.specs.List.{AllByRecursion};
-ghost use Rattle.sb_codec.specs.EventBytes.{listed, system_code, system_bytes, value_bytes, property_bytes, message_bytes};
+ghost use Rattle.sb_codec.specs.EventBytes.{listed, system_bytes, value_bytes, property_bytes, message_bytes};
 ghost use Rattle.sb_codec.specs.Spelled.{IsText, IsValue, AreSystemTexts, AreProperties, IsMessage};
 
 use crate::write_fields::{put_optional_u64, put_sized, put_truth, put_u32, put_u64};
-use sb_model::{Message, Property, PropertyValue, SystemName, SystemText};
+use sb_model::{Message, Property, PropertyValue, SystemText};
 use std::alloc::AllocError;
-
-/// The number that stands for a system name.
-pub(crate) fn code_of(name: SystemName) -> u8
-    ensures { result ≡ system_code name }
-{
-    match name {
-        SystemName::MessageId => 1,
-        SystemName::Label => 2,
-        SystemName::CorrelationId => 3,
-        SystemName::SessionId => 4,
-        SystemName::To => 5,
-        SystemName::ReplyTo => 6,
-        SystemName::ReplyToSessionId => 7,
-        SystemName::ContentType => 8,
-    }
-}
 
 fn put_system(out: &mut Vec<u8>, system: &SystemText) -> Result<(), AllocError>
     requires { IsText system.now.text }
@@ -31,7 +15,7 @@ fn put_system(out: &mut Vec<u8>, system: &SystemText) -> Result<(), AllocError>
     ensures capacity { vec_capacity out.old ≤ vec_capacity out.new }
     ensures full { OnErr result (vec_capacity out.old < vec_len out.old + length (system_bytes system.now)) }
 {
-    out.push(code_of(system.name))?;
+    out.push(system.name.code())?;
     put_sized(out, system.text.as_bytes())
 }
 

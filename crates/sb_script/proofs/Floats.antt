@@ -20,7 +20,8 @@ use Rattle.sb_model.specs.declared.reply.Reply.{Reply}
 use Rattle.sb_model.specs.declared.reply.Reply.TheVariants.{Done, Sent, Message, Empty, Copies}
 use Rattle.sb_model.specs.declared.reply.Refusal.{Refusal}
 use Rattle.sb_model.specs.declared.reply.Refusal.TheVariants.{BadCall, EntityNotFound, EntityExists, BadName, TooLarge, Exhausted, DiskFault, Stopped, OutOfMemory}
-use Rattle.sb_script.specs.Shown.{system_name, state_name, property_data, with_properties, with_texts, with_ttl, with_state, with_body, common_members, shown_data}
+use Rattle.sb_model.specs.SystemNames.{system_name}
+use Rattle.sb_script.specs.Shown.{state_name, property_data, with_properties, with_texts, with_ttl, with_state, with_body, common_members, shown_data}
 use Rattle.sb_script.specs.Replies.{receipt_data, reply_data, refusal_data, answer_data}
 
 either_way : (o : Ordering) (a b c : Members) → members_have_float a ≡ false → members_have_float b ≡ false → members_have_float c ≡ false

@@ -4,11 +4,10 @@ use Rattle.std.specs.Str.{is_utf8}
 use Rattle.hex.specs.Hex.{encode_lower}
 use Rattle.serde_json.specs.Data.{Data, number, unsigned, boolean, string, object, Members, no_members, member, put}
 use Rattle.serde_json.specs.Find.{of_integer}
+use Rattle.sb_model.specs.SystemNames.{system_name}
 use Rattle.sb_model.specs.declared.message.Property.{Property}
 use Rattle.sb_model.specs.declared.message.PropertyValue.{PropertyValue}
 use Rattle.sb_model.specs.declared.message.PropertyValue.TheVariants.{Int, Text, Bool}
-use Rattle.sb_model.specs.declared.message.SystemName.{SystemName}
-use Rattle.sb_model.specs.declared.message.SystemName.TheVariants.{MessageId, Label, CorrelationId, SessionId, To, ReplyTo, ReplyToSessionId, ContentType}
 use Rattle.sb_model.specs.declared.message.SystemText.{SystemText}
 use Rattle.sb_model.specs.declared.reply.CopyShown.{CopyShown}
 use Rattle.sb_model.specs.declared.reply.CopyState.{CopyState}
@@ -17,16 +16,6 @@ use Rattle.sb_model.specs.declared.reply.Showing.{Showing}
 use Rattle.sb_model.specs.declared.reply.Showing.TheVariants.{Removed, Browsed}
 
 -- ---- names and values
-
-abbrev pub system_name : SystemName → List ℕ
-system_name MessageId = codes "MessageId"
-system_name Label = codes "Label"
-system_name CorrelationId = codes "CorrelationId"
-system_name SessionId = codes "SessionId"
-system_name To = codes "To"
-system_name ReplyTo = codes "ReplyTo"
-system_name ReplyToSessionId = codes "ReplyToSessionId"
-system_name ContentType = codes "ContentType"
 
 -- a property's value: a whole number, a text or a truth value
 abbrev pub property_data : PropertyValue → Data

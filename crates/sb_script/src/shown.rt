@@ -6,24 +6,9 @@ ghost use Rattle.serde_json.specs.View.{view, members_view};
 ghost use Rattle.sb_script.specs.Shown as shown;
 
 use crate::members::{Members, put_number, put_text};
-use sb_model::{CopyShown, CopyState, Property, PropertyValue, Showing, SystemName, SystemText};
+use sb_model::{CopyShown, CopyState, Property, PropertyValue, Showing, SystemText};
 use serde_json::{Map, Value, put};
 use std::alloc::{AllocError, Global};
-
-fn system_name(name: SystemName) -> &'static str
-    ensures { result.now ≡ shown.system_name name }
-{
-    match name {
-        SystemName::MessageId => "MessageId",
-        SystemName::Label => "Label",
-        SystemName::CorrelationId => "CorrelationId",
-        SystemName::SessionId => "SessionId",
-        SystemName::To => "To",
-        SystemName::ReplyTo => "ReplyTo",
-        SystemName::ReplyToSessionId => "ReplyToSessionId",
-        SystemName::ContentType => "ContentType",
-    }
-}
 
 fn state_name(state: CopyState) -> &'static str
     ensures { result.now ≡ shown.state_name state }
@@ -59,12 +44,7 @@ fn texts_value(alloc: Global, texts: &[SystemText]) -> Result<Value, AllocError>
 {
     let mut members = Map::new(alloc);
     for text in texts {
-        put_text(
-            &mut members,
-            alloc,
-            system_name(text.name),
-            text.text.as_str(),
-        )?;
+        put_text(&mut members, alloc, text.name.name(), text.text.as_str())?;
     }
     Ok(Value::Object(members))
 }
