@@ -19,7 +19,7 @@ use Rattle.sb_bus.specs.declared.serve.RunEnd.TheVariants.{ReadFault, WriteFault
 use Rattle.sb_bus.specs.Fronts.{Took, IsLong}
 use Rattle.sb_bus.specs.Runs.{state_after_all, calls_in, status_by}
 use Rattle.sb_bus.specs.Endings.{Last, EndsAt, IsCutRun, entries_of_last, history_to, status_of_end}
-use Rattle.sb_bus.specs.Tops.{Pair, IsEarlyRun, IsEarly, IsUnopened, IsRefused, IsDamageSaid, IsStatus, IsRunStatus, IsFree, IsShort, IsBroken, IsQuiet, IsComplete, Count, count_of}
+use Rattle.sb_bus.specs.Tops.{Pair, IsDurable, IsEarlyRun, IsEarly, IsUnopened, IsRefused, IsDamageSaid, IsStatus, IsRunStatus, IsFree, IsShort, IsBroken, IsQuiet, IsComplete, Count, count_of}
 use Rattle.sb_bus.proofs.Steps.{going_on}
 use Rattle.sb_bus.proofs.Whole.{led_to}
 
@@ -52,10 +52,10 @@ legal_to s lines (Some last) part before now end ends = at_line last.line ends.0
         in
         goes_on_from false s h e (answered_legally 0 s (calls_in lines)) here
 
-pub early_run : (honest : Bool) (disks after : Pair) (salt : ℕ) (left left_after told told_after : Option (List ℕ)) (before count : ℕ) (start last : State) (end : RunEnd)
+pub early_run : (honest : Bool) (disks after : Pair) (held : Held) (salt : ℕ) (left left_after told told_after : Option (List ℕ)) (before count : ℕ) (start last : State) (end : RunEnd)
     → (IsTrue honest → Recovers (recovered disks.a disks.b salt) start) → IsCutRun start left left_after told told_after before count last end
-    → (IsTrue honest → end ≢ DiskFault → Recovers (recovered after.a after.b salt) last) → IsEarlyRun honest disks after salt left left_after told told_after (count_of before count) end
-early_run honest disks after salt left left_after told told_after before count start last end found run kept = record {
+    → (IsTrue honest → end ≢ DiskFault → Recovers (recovered after.a after.b salt) last) → (IsTrue honest → end ≢ DiskFault → IsDurable held last) → IsEarlyRun honest disks after held salt left left_after told told_after (count_of before count) end
+early_run honest disks after held salt left left_after told told_after before count start last end found run kept durable = record {
   start = start;
   found = found;
   consistent = λ true_disk. recovers_consistent disks.a disks.b salt start (found true_disk);
@@ -66,13 +66,13 @@ early_run honest disks after salt left left_after told told_after before count s
   ends = run.ends;
   written = run.written;
   legal = legal_to start run.lines run.last run.part before count end run.ends;
-  kept = λ true_disk sound.
-      let leads : last ≡ state_after start (history_to start run.lines run.last) =
-      run.leads ∙ ap (λ (y : State). state_after y (entries_of_last run.last)) (led_to start run.lines) ∙ sym (state_after-append start (entries_of 0 start (calls_in run.lines)) (entries_of_last run.last))
-      in
-      subst (λ (y : State). Recovers (recovered after.a after.b salt) y) leads (kept true_disk sound);
+  kept = λ true_disk sound. subst (λ (y : State). Recovers (recovered after.a after.b salt) y) leads (kept true_disk sound);
+  durable = λ true_disk sound. subst (IsDurable held) leads (durable true_disk sound);
   long = run.long;
 }
+  where
+    leads : last ≡ state_after start (history_to start run.lines run.last)
+    leads = run.leads ∙ ap (λ (y : State). state_after y (entries_of_last run.last)) (led_to start run.lines) ∙ sym (state_after-append start (entries_of 0 start (calls_in run.lines)) (entries_of_last run.last))
 
 -- ---- the status
 

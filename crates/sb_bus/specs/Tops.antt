@@ -2,11 +2,12 @@
 use Rattle.std.specs.Prelude.{◌≡◌, ◌≢◌, ◌⊎◌, ◌<◌, ◌^◌, ℕ, List, [], ◌∷◌, ◌++◌, length, Bool, ◌&&◌, IsTrue, codes, bytes_eq, Option, Some, None, if◌then◌else◌}
 use Rattle.std.specs.Fmt.{decimal}
 use Rattle.sb_outside.specs.Causes.{Rose}
-use Rattle.sb_outside.specs.Held.{Held, at_rest}
+use Rattle.sb_outside.specs.Held.{Held, IsImage, at_rest}
 use Rattle.sb_outside.specs.Streams.{Gains}
 use Rattle.sb_model.specs.Consistent.{IsConsistent}
 use Rattle.sb_model.specs.History.{IsLegal, IsFaultless, entries_of, state_after}
 use Rattle.sb_model.specs.declared.state.State.{State}
+use Rattle.sb_node.specs.Nodes.{LeadsTo}
 use Rattle.sb_node.specs.Recovery.{Recovered, recovered, damaged, Recovers}
 use Rattle.sb_journal.specs.declared.found.Side.{Side}
 use Rattle.sb_journal.specs.declared.found.Side.TheVariants.{A, B}
@@ -44,9 +45,13 @@ pair_of a b = record { a = a; b = b }
 abbrev pub IsBroken : Recovered → Type 0
 IsBroken r = (side : Side) × (place : ℕ) × (r ≡ damaged side place)
 
+-- whatever a crash leaves of disk a leads to this state
+abbrev pub IsDurable : Held → State → Type 0
+IsDurable held s = (image : List ℕ) → IsImage held image → LeadsTo s image
+
 -- A run that took all its input: from the state that the disks stood for, a consistent one, each line was answered by the machine, in
--- order and no other; the history of its calls is legal, and its last state is what the disks stand for.
-pub record IsWholeRun (honest : Bool) (disks disks_after : Pair) (salt : ℕ) (left left_after told told_after : Option (List ℕ)) (status : ℕ) : Type 0 where
+-- order and no other; the history of its calls is legal, and its last state is what the disks stand for, also after a crash.
+pub record IsWholeRun (honest : Bool) (disks disks_after : Pair) (held_after : Held) (salt : ℕ) (left left_after told told_after : Option (List ℕ)) (status : ℕ) : Type 0 where
   pub start : State
   pub found : IsTrue honest → Recovers (recovered disks.a disks.b salt) start
   pub consistent : IsTrue honest → IsConsistent start
@@ -57,11 +62,13 @@ pub record IsWholeRun (honest : Bool) (disks disks_after : Pair) (salt : ℕ) (l
   pub legal : IsLegal start (entries_of 0 start (calls_in (said_in input)))
   pub faultless : IsFaultless (entries_of 0 start (calls_in (said_in input)))
   pub kept : IsTrue honest → Recovers (recovered disks_after.a disks_after.b salt) (state_after start (entries_of 0 start (calls_in (said_in input))))
+  pub durable : IsTrue honest → IsDurable held_after (state_after start (entries_of 0 start (calls_in (said_in input))))
   pub says : status ≡ status_by (any_refused start (said_in input))
 
 -- A run that ended before its input did: from the state that the disks stood for, a consistent one, the first lines of the input were
--- answered, in order; the history of its calls is legal, and unless a disk failed its last state is what the disks stand for.
-pub record IsEarlyRun (honest : Bool) (disks disks_after : Pair) (salt : ℕ) (left left_after told told_after : Option (List ℕ)) (output : Count) (end : RunEnd) : Type 0 where
+-- answered, in order; the history of its calls is legal, and unless a disk failed its last state is what the disks stand for, also
+-- after a crash.
+pub record IsEarlyRun (honest : Bool) (disks disks_after : Pair) (held_after : Held) (salt : ℕ) (left left_after told told_after : Option (List ℕ)) (output : Count) (end : RunEnd) : Type 0 where
   pub start : State
   pub found : IsTrue honest → Recovers (recovered disks.a disks.b salt) start
   pub consistent : IsTrue honest → IsConsistent start
@@ -73,6 +80,7 @@ pub record IsEarlyRun (honest : Bool) (disks disks_after : Pair) (salt : ℕ) (l
   pub written : Gains told told_after (replies_to start lines ++ part)
   pub legal : IsLegal start (history_to start lines last)
   pub kept : IsTrue honest → end ≢ DiskFault → Recovers (recovered disks_after.a disks_after.b salt) (state_after start (history_to start lines last))
+  pub durable : IsTrue honest → end ≢ DiskFault → IsDurable held_after (state_after start (history_to start lines last))
   pub long : end ≡ LongInput → IsLong left left_after
 
 -- the journal wasn't opened: nothing was read of the input and nothing written
@@ -82,8 +90,8 @@ pub record IsUnopened (left left_after told told_after : Option (List ℕ)) (end
   pub unwritten : told_after ≡ told
 
 -- a run that ended early, or none because the journal wasn't opened
-abbrev pub IsEarly : (honest : Bool) → (disks disks_after : Pair) → (salt : ℕ) → (left left_after told told_after : Option (List ℕ)) → Count → RunEnd → Type 0
-IsEarly honest disks disks_after salt left left_after told told_after output end = IsUnopened left left_after told told_after end ⊎ IsEarlyRun honest disks disks_after salt left left_after told told_after output end
+abbrev pub IsEarly : (honest : Bool) → (disks disks_after : Pair) → (held_after : Held) → (salt : ℕ) → (left left_after told told_after : Option (List ℕ)) → Count → RunEnd → Type 0
+IsEarly honest disks disks_after held_after salt left left_after told told_after output end = IsUnopened left left_after told told_after end ⊎ IsEarlyRun honest disks disks_after held_after salt left left_after told told_after output end
 
 -- ---- the last lines of the statuses 2 and 6
 

@@ -114,10 +114,10 @@ pub fn top_alone<D: Disk, C: Clock, S: Source, K: Sink, N: Link>(
     _link: &mut N,
 ) -> (u8, D, D)
     ensures whole { (refused : Bool) → result.0 ≡ status_by refused → IsWholeRun (D.honest disk_a)
-        (pair_of (D.held disk_a).seen (D.held disk_b).seen) (pair_of (D.held result.1).seen (D.held result.2).seen) salt
+        (pair_of (D.held disk_a).seen (D.held disk_b).seen) (pair_of (D.held result.1).seen (D.held result.2).seen) (D.held result.1) salt
         (S.left input.old) (S.left input.new) (K.given output.old) (K.given output.new) result.0 }
     ensures early { (end : RunEnd) → result.0 ≡ status_of_end end → IsEarly (D.honest disk_a)
-        (pair_of (D.held disk_a).seen (D.held disk_b).seen) (pair_of (D.held result.1).seen (D.held result.2).seen) salt
+        (pair_of (D.held disk_a).seen (D.held disk_b).seen) (pair_of (D.held result.1).seen (D.held result.2).seen) (D.held result.1) salt
         (S.left input.old) (S.left input.new) (K.given output.old) (K.given output.new) (count_of (K.count output.old) (K.count output.new)) end }
     ensures usage { result.0 ≡ 2 ↔ folder_in (map (λ w. w.now) words.now) ≡ None }
     ensures usage_said { result.0 ≡ 2 → IsSaid usage_line (K.given output.old) (K.given output.new) (K.count output.old) (K.count output.new) }
@@ -172,10 +172,10 @@ pub fn top<T, D: Disk + Send, C: Clock + Sync, S: Source, K: Sink, R: Door + Sen
     link: &mut N,
 ) -> (u8, Option<(D, D)>)
     ensures whole { (refused : Bool) → result.0 ≡ status_by refused → IfSome result.1 (λ disks. IsWholeRun (D.honest disk_a)
-        (pair_of (D.held disk_a).seen (D.held disk_b).seen) (pair_of (D.held disks.0).seen (D.held disks.1).seen) salt
+        (pair_of (D.held disk_a).seen (D.held disk_b).seen) (pair_of (D.held disks.0).seen (D.held disks.1).seen) (D.held disks.0) salt
         (S.left input.old) (S.left input.new) (K.given output.old) (K.given output.new) result.0) }
     ensures early { (end : RunEnd) → result.0 ≡ status_of_end end → IfSome result.1 (λ disks. IsEarly (D.honest disk_a)
-        (pair_of (D.held disk_a).seen (D.held disk_b).seen) (pair_of (D.held disks.0).seen (D.held disks.1).seen) salt
+        (pair_of (D.held disk_a).seen (D.held disk_b).seen) (pair_of (D.held disks.0).seen (D.held disks.1).seen) (D.held disks.0) salt
         (S.left input.old) (S.left input.new) (K.given output.old) (K.given output.new) (count_of (K.count output.old) (K.count output.new)) end) }
     ensures usage { result.0 ≡ 2 ↔ folder_in (map (λ w. w.now) words.now) ≡ None }
     ensures usage_said { result.0 ≡ 2 → IsSaid usage_line (K.given output.old) (K.given output.new) (K.count output.old) (K.count output.new) }

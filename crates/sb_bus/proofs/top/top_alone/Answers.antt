@@ -1,11 +1,11 @@
 use Rattle.std.proofs.Common.{◌≡◌, ◌≢◌, inr, refl, ℕ, List, sym, subst}
 use Rattle.std.specs.Prelude.{IsTrue}
 use Rattle.sb_outside.specs.Causes.{Rose}
-use Rattle.sb_node.specs.Nodes.{node_state, node_journal}
+use Rattle.sb_node.specs.Nodes.{node_state, node_journal, IsKept}
 use Rattle.sb_node.specs.Recovery.{recovered, Recovers}
 use Rattle.sb_bus.specs.Tops.{pair_of}
 use Rattle.sb_bus.proofs.Early.{no_five, no_disk_end, early_run, broken_by, complete_by, write_cut, rose_from}
-use Rattle.sb_bus.proofs.Whole.{kept_recovers, whole_run}
+use Rattle.sb_bus.proofs.Whole.{kept_recovers, kept_durable, whole_run}
 use Rattle.sb_bus.specs.declared.serve.RunEnd.TheVariants.{WriteFault, DiskFault, LongInput}
 use Rattle.sb_bus.proofs.top.top_alone.Goals as goal
 
@@ -17,11 +17,11 @@ returns-clause-whole g c refused is =
     let ran = c.run_status-status.ensures in
     let opened = c.in-Ok.ensures in
     let b = seen c.close-disk_a.result.1 in
+    let kept : IsTrue (g.D.Disk.honest c.args.disk_a) → IsKept (node_journal node) (node_state node) = λ honest. ran.kept opened.early (opened.kept honest) (no_five refused c.run_status-status.result is) in
     let held_after : IsTrue (g.D.Disk.honest c.args.disk_a) → Recovers (recovered (seen c.close-disk_a.result.0) b salt) (node_state node) = λ honest.
-    subst (λ d. Recovers (recovered (seen d) b salt) (node_state node)) (sym c.close-disk_a.ensures.disk_a)
-    (kept_recovers (node_journal node) (node_state node) b salt (ran.kept opened.early (opened.kept honest) (no_five refused c.run_status-status.result is))) in
-    whole_run _ (pair_of (seen c.args.disk_a) (seen c.args.disk_b)) (pair_of (seen c.close-disk_a.result.0) b) salt _ _ _ _ c.run_status-status.result (node_state c.in-Ok.node) (node_state node) refused
-    opened.found (ran.done refused is) held_after is
+    subst (λ d. Recovers (recovered (seen d) b salt) (node_state node)) (sym c.close-disk_a.ensures.disk_a) (kept_recovers (node_journal node) (node_state node) b salt (kept honest)) in
+    whole_run _ (pair_of (seen c.args.disk_a) (seen c.args.disk_b)) (pair_of (seen c.close-disk_a.result.0) b) (g.D.Disk.held c.close-disk_a.result.0) salt _ _ _ _ c.run_status-status.result (node_state c.in-Ok.node) (node_state node) refused
+    opened.found (ran.done refused is) held_after (λ honest. kept_durable (node_journal node) (node_state node) c.close-disk_a.result.0 c.close-disk_a.ensures.disk_a (kept honest)) is
 
 pub returns-in-Err-clause-broken : goal.returns-in-Err-clause-broken
 returns-in-Err-clause-broken g c six =
@@ -35,10 +35,11 @@ returns-clause-early g c end is =
     let ran = c.run_status-status.ensures in
     let opened = c.in-Ok.ensures in
     let b = seen c.close-disk_a.result.1 in
+    let kept : IsTrue (g.D.Disk.honest c.args.disk_a) → end ≢ DiskFault → IsKept (node_journal node) (node_state node) = λ honest sound. ran.kept opened.early (opened.kept honest) (no_disk_end end c.run_status-status.result is sound) in
     let held_after : IsTrue (g.D.Disk.honest c.args.disk_a) → end ≢ DiskFault → Recovers (recovered (seen c.close-disk_a.result.0) b salt) (node_state node) = λ honest sound.
-    subst (λ d. Recovers (recovered (seen d) b salt) (node_state node)) (sym c.close-disk_a.ensures.disk_a)
-    (kept_recovers (node_journal node) (node_state node) b salt (ran.kept opened.early (opened.kept honest) (no_disk_end end c.run_status-status.result is sound))) in
-    inr (early_run _ (pair_of (seen c.args.disk_a) (seen c.args.disk_b)) (pair_of (seen c.close-disk_a.result.0) b) salt _ _ _ _ _ _ (node_state c.in-Ok.node) (node_state node) end opened.found (ran.cut end is) held_after)
+    subst (λ d. Recovers (recovered (seen d) b salt) (node_state node)) (sym c.close-disk_a.ensures.disk_a) (kept_recovers (node_journal node) (node_state node) b salt (kept honest sound)) in
+    inr (early_run _ (pair_of (seen c.args.disk_a) (seen c.args.disk_b)) (pair_of (seen c.close-disk_a.result.0) b) (g.D.Disk.held c.close-disk_a.result.0) salt _ _ _ _ _ _ (node_state c.in-Ok.node) (node_state node) end opened.found (ran.cut end is) held_after
+    (λ honest sound. kept_durable (node_journal node) (node_state node) c.close-disk_a.result.0 c.close-disk_a.ensures.disk_a (kept honest sound)))
 
 pub returns-clause-complete : goal.returns-clause-complete
 returns-clause-complete g c there honest free =
