@@ -3,6 +3,7 @@ use Rattle.std.proofs.Common.{◌≡◌, ◌≢◌, ◌≤◌, ◌⊎◌, inl, i
 use Rattle.std.specs.Prelude.{if◌then◌else◌, is_some, OnOk, OnErr, IfErr, IsErr, IsErrAnd}
 use Rattle.std.proofs.lemmas.List.{append-nil, map-append, take-append-drop}
 use Rattle.sb_outside.specs.Causes.{Rose}
+use Rattle.sb_outside.specs.Held.{Held, IsImage}
 use Rattle.sb_outside.specs.Streams.{Gains, GainsPart}
 use Rattle.sb_outside.proofs.Gains.{gains-gains, gains-none}
 use Rattle.sb_model.specs.History.{answered, is_fault, state_after}
@@ -11,7 +12,7 @@ use Rattle.sb_model.specs.declared.reply.Reply.{Reply}
 use Rattle.sb_model.specs.declared.reply.Refusal.{Refusal}
 use Rattle.sb_model.specs.declared.reply.Refusal.TheVariants.{BadCall, EntityNotFound, EntityExists, BadName, TooLarge, Exhausted, DiskFault as FailedDisk, Stopped, OutOfMemory as WantsMemory}
 use Rattle.sb_model.specs.declared.state.State.{State}
-use Rattle.sb_node.specs.Nodes.{IsStep}
+use Rattle.sb_node.specs.Nodes.{IsStep, LeadsToOneOf}
 use Rattle.sb_script.specs.Replies.{answer_line}
 use Rattle.sb_bus.specs.declared.front.Front.{Front}
 use Rattle.sb_bus.specs.declared.reader.Reader.{Reader}
@@ -25,8 +26,8 @@ use Rattle.sb_bus.specs.declared.serve.RunEnd.TheVariants.{ReadFault, WriteFault
 use Rattle.sb_bus.specs.Fronts.{Took, HasEnded, IsLong}
 use Rattle.sb_bus.specs.Lines.{lines_of, said}
 use Rattle.sb_bus.specs.Readers.{pending_of, IsAt, ReadsLine}
-use Rattle.sb_bus.specs.Runs.{kind_of, said_in, replies_to, state_after_all, AreWhole, RunsSoFar}
-use Rattle.sb_bus.specs.Endings.{IsFront, IsWritten, IsSaid, IsUnsaid, Last, IsAnswer, IsCause, IsBetween, IsCutAt, EndsAt, AreFirst, IsCutRun, entries_at, end_of_reading}
+use Rattle.sb_bus.specs.Runs.{kind_of, state_by, said_in, replies_to, state_after_all, AreWhole, RunsSoFar}
+use Rattle.sb_bus.specs.Endings.{IsFront, IsWritten, IsSaid, IsUnsaid, IsUndecided, Last, IsAnswer, IsCause, IsBetween, IsCutAt, EndsAt, AreFirst, IsCutRun, entries_at, end_of_reading}
 use Rattle.sb_bus.proofs.Advances.{Advances, advances}
 
 -- ---- what is written of a line
@@ -160,9 +161,9 @@ first_lines (Some all) left input next r at split (inr last) =
 -- ---- the run
 
 -- between two lines
-pub cut_between : (s now : State) (start left left_after told told_after : Option (List ℕ)) (r : Reader) (refused : Bool) (before count : ℕ) (end : RunEnd) → RunsSoFar s start left told told_after r now refused → IsBetween end → (end ≡ LongInput → IsLong start left_after)
-    → IsCutRun s start left_after told told_after before count now end
-cut_between s now start left left_after told told_after r refused before count end so_far between long = record {
+pub cut_between : (Safe : Type 0) (s now : State) (start left left_after told told_after : Option (List ℕ)) (r : Reader) (refused : Bool) (before count : ℕ) (held : Held) (end : RunEnd) → RunsSoFar s start left told told_after r now refused → IsBetween end → (end ≡ LongInput → IsLong start left_after)
+    → IsCutRun Safe s start left_after told told_after before count now held end
+cut_between Safe s now start left left_after told told_after r refused before count held end so_far between long = record {
   lines = said_in so_far.done;
   last = None;
   first = subst (AreFirst start) (sym (append-nil (said_in so_far.done))) (first_lines start left so_far.input so_far.done r so_far.at so_far.split (inl so_far.whole));
@@ -171,11 +172,12 @@ cut_between s now start left left_after told told_after r refused before count e
   written = subst (Gains told told_after) (sym (append-nil (replies_to s (said_in so_far.done)))) so_far.written;
   leads = so_far.leads;
   long = long;
+  undecided = λ safe failed. tt;
 }
 
 -- before any line
-pub cut_at_once : (s : State) (left told : Option (List ℕ)) (before count : ℕ) → IsCutRun s left left told told before count s OutOfMemory
-cut_at_once s left told before count = record {
+pub cut_at_once : (Safe : Type 0) (s : State) (left told : Option (List ℕ)) (before count : ℕ) (held : Held) → IsCutRun Safe s left left told told before count s held OutOfMemory
+cut_at_once Safe s left told before count held = record {
   lines = [];
   last = None;
   first = no_lines left;
@@ -184,6 +186,7 @@ cut_at_once s left told before count = record {
   written = gains-none told;
   leads = refl;
   long = λ e. absurd cc;
+  undecided = λ safe failed. tt;
 }
   where
     no_lines : (left : Option (List ℕ)) → AreFirst left []
@@ -213,9 +216,10 @@ not_long DiskFault answer part before now P cause e = absurd cc
 not_long OutOfMemory answer part before now P cause e = absurd cc
 
 -- at one line more
-pub cut_at_line : (s now after : State) (start left left_after told told_on told_after : Option (List ℕ)) (r next : Reader) (refused : Bool) (before on count : ℕ) (end : RunEnd) (front : Front) (x : Said) (so_far : RunsSoFar s start left told told_on r now refused)
-    → (reads : ReadsLine start so_far.input (pending_of r) left_after next front) → x ≡ said reads.line → IsCutAt now x told_on told_after on count after end → before ≤ on → IsCutRun s start left_after told told_after before count after end
-cut_at_line s now after start left left_after told told_on told_after r next refused before on count end front x so_far reads says cut later =
+pub cut_at_line : (Safe : Type 0) (s now after : State) (start left left_after told told_on told_after : Option (List ℕ)) (r next : Reader) (refused : Bool) (before on count : ℕ) (held : Held) (end : RunEnd) (front : Front) (x : Said) (so_far : RunsSoFar s start left told told_on r now refused)
+    → (reads : ReadsLine start so_far.input (pending_of r) left_after next front) → x ≡ said reads.line → IsCutAt now x told_on told_after on count after end → before ≤ on
+    → (Safe → end ≡ DiskFault → (image : List ℕ) → IsImage held image → LeadsToOneOf now (state_by now x) image) → IsCutRun Safe s start left_after told told_after before count after held end
+cut_at_line Safe s now after start left left_after told told_on told_after r next refused before on count held end front x so_far reads says cut later undecided =
     let adv = advances so_far.input so_far.done (pending_of r) reads.more reads.line next so_far.split so_far.whole reads.no_feed reads.next in
     let all : said_in adv.next ≡ said_in so_far.done ++ x ∷ [] = adv.says ∙ ap (λ y. said_in so_far.done ++ y ∷ []) (sym says) in
     record {
@@ -227,6 +231,7 @@ cut_at_line s now after start left left_after told told_on told_after r next ref
       written = gains-gains told told_on told_after (replies_to s (said_in so_far.done)) cut.part so_far.written cut.written;
       leads = cut.leads ∙ ap (λ (y : State). state_after y (entries_at x cut.answer)) so_far.leads;
       long = not_long end cut.answer cut.part on count (IsLong start left_after) cut.cause;
+      undecided = λ safe failed. subst (λ (y : State). IsUndecided held y (Some (record { line = x; answer = cut.answer }))) so_far.leads (undecided safe failed);
     }
 
 pub reading_between : (e : ReadEnd) → IsBetween (end_of_reading e)

@@ -18,7 +18,7 @@ use Rattle.sb_bus.specs.declared.serve.RunEnd.{RunEnd}
 use Rattle.sb_bus.specs.declared.serve.RunEnd.TheVariants.{ReadFault, WriteFault, DiskFault, OutOfMemory, LongInput}
 use Rattle.sb_bus.specs.Fronts.{Took, IsLong}
 use Rattle.sb_bus.specs.Runs.{state_after_all, calls_in, status_by}
-use Rattle.sb_bus.specs.Endings.{Last, EndsAt, IsCutRun, entries_of_last, history_to, status_of_end}
+use Rattle.sb_bus.specs.Endings.{Last, IsUndecided, EndsAt, IsCutRun, entries_of_last, history_to, status_of_end}
 use Rattle.sb_bus.specs.Tops.{Pair, IsDurable, IsEarlyRun, IsEarly, IsUnopened, IsRefused, IsDamageSaid, IsStatus, IsRunStatus, IsFree, IsShort, IsBroken, IsQuiet, IsComplete, Count, count_of}
 use Rattle.sb_bus.proofs.Steps.{going_on}
 use Rattle.sb_bus.proofs.Whole.{led_to}
@@ -52,10 +52,10 @@ legal_to s lines (Some last) part before now end ends = at_line last.line ends.0
         in
         goes_on_from false s h e (answered_legally 0 s (calls_in lines)) here
 
-pub early_run : (honest : Bool) (disks after : Pair) (held : Held) (salt : ℕ) (left left_after told told_after : Option (List ℕ)) (before count : ℕ) (start last : State) (end : RunEnd)
-    → (IsTrue honest → Recovers (recovered disks.a disks.b salt) start) → IsCutRun start left left_after told told_after before count last end
-    → (IsTrue honest → end ≢ DiskFault → Recovers (recovered after.a after.b salt) last) → (IsTrue honest → end ≢ DiskFault → IsDurable held last) → IsEarlyRun honest disks after held salt left left_after told told_after (count_of before count) end
-early_run honest disks after held salt left left_after told told_after before count start last end found run kept durable = record {
+pub early_run : (Safe : Type 0) (honest : Bool) (disks after : Pair) (held was : Held) (salt : ℕ) (left left_after told told_after : Option (List ℕ)) (before count : ℕ) (start last : State) (end : RunEnd)
+    → (IsTrue honest → Recovers (recovered disks.a disks.b salt) start) → held ≡ was → IsCutRun Safe start left left_after told told_after before count last was end
+    → (IsTrue honest → end ≢ DiskFault → Recovers (recovered after.a after.b salt) last) → (IsTrue honest → end ≢ DiskFault → IsDurable held last) → (IsTrue honest → Safe) → IsEarlyRun honest disks after held salt left left_after told told_after (count_of before count) end
+early_run Safe honest disks after held was salt left left_after told told_after before count start last end found same run kept durable safe = record {
   start = start;
   found = found;
   consistent = λ true_disk. recovers_consistent disks.a disks.b salt start (found true_disk);
@@ -68,6 +68,7 @@ early_run honest disks after held salt left left_after told told_after before co
   legal = legal_to start run.lines run.last run.part before count end run.ends;
   kept = λ true_disk sound. subst (λ (y : State). Recovers (recovered after.a after.b salt) y) leads (kept true_disk sound);
   durable = λ true_disk sound. subst (IsDurable held) leads (durable true_disk sound);
+  undecided = λ true_disk failed. subst (λ (h : Held). IsUndecided h (state_after start (entries_of 0 start (calls_in run.lines))) run.last) (sym same) (subst (λ (y : State). IsUndecided was y run.last) (led_to start run.lines) (run.undecided (safe true_disk) failed));
   long = run.long;
 }
   where
@@ -83,6 +84,11 @@ same_end DiskFault DiskFault e = refl
 same_end OutOfMemory OutOfMemory e = refl
 same_end LongInput LongInput e = refl
 same_end _ _ e = absurd cc
+
+-- the end that a status names
+pub named_end : (Safe : Type 0) (s after : State) (left left_after told told_after : Option (List ℕ)) (before now : ℕ) (held : Held) (e end : RunEnd) (status : ℕ) → status ≡ status_of_end e → IsCutRun Safe s left left_after told told_after before now after held e → status ≡ status_of_end end
+    → IsCutRun Safe s left left_after told told_after before now after held end
+named_end Safe s after left left_after told told_after before now held e end status from run is = subst (IsCutRun Safe s left left_after told told_after before now after held) (same_end e end (sym from ∙ is)) run
 
 pub no_end : (refused : Bool) (end : RunEnd) → status_by refused ≡ status_of_end end → ⊥
 no_end false ReadFault e = absurd cc
@@ -120,8 +126,8 @@ complete_by status found left left_after input output disk known read write fail
     by_status (inr end) = by_end end.0 end.1
 
 -- a run that ended for its output's fault
-pub write_cut : (s after : State) (left left_after told told_after : Option (List ℕ)) (before now : ℕ) → IsCutRun s left left_after told told_after before now after WriteFault → Rose before now
-write_cut s after left left_after told told_after before now run = by_last run.last run.ends
+pub write_cut : (Safe : Type 0) (s after : State) (left left_after told told_after : Option (List ℕ)) (before now : ℕ) (held : Held) → IsCutRun Safe s left left_after told told_after before now after held WriteFault → Rose before now
+write_cut Safe s after left left_after told told_after before now held run = by_last run.last run.ends
   where
     by_last : (last : Option Last) → EndsAt (state_after_all s run.lines) last run.part before now WriteFault → Rose before now
     by_last None ends = absurd ends.0

@@ -1,12 +1,14 @@
 -- How a run ends before its input does: what was answered, and what was written of the last line.
 use Rattle.std.specs.Prelude.{◌≡◌, ◌≢◌, ◌⊎◌, ℕ, List, [], ◌∷◌, ◌++◌, false, Option, Some, None, Result, Ok, Err}
 use Rattle.sb_outside.specs.Causes.{Rose}
+use Rattle.sb_outside.specs.Held.{Held, IsImage}
 use Rattle.sb_outside.specs.Streams.{Gains}
 use Rattle.sb_model.specs.History.{Entry, answered, IsAllowed, is_fault, state_after, entries_of}
 use Rattle.sb_model.specs.declared.reply.Reply.{Reply}
 use Rattle.sb_model.specs.declared.reply.Refusal.{Refusal}
 use Rattle.sb_model.specs.declared.reply.Refusal.TheVariants.{BadCall, DiskFault as FailedDisk, OutOfMemory as WantsMemory}
 use Rattle.sb_model.specs.declared.state.State.{State}
+use Rattle.sb_node.specs.Nodes.{LeadsToOneOf}
 use Rattle.sb_script.specs.Replies.{answer_line}
 use Rattle.sb_bus.specs.declared.said.Said.{Said}
 use Rattle.sb_bus.specs.declared.said.Said.TheVariants.{Blank, Faulty, Asked}
@@ -15,7 +17,7 @@ use Rattle.sb_bus.specs.declared.reader.ReadEnd.TheVariants.{Fault, OutOfMemory 
 use Rattle.sb_bus.specs.declared.serve.RunEnd.{RunEnd}
 use Rattle.sb_bus.specs.declared.serve.RunEnd.TheVariants.{ReadFault, WriteFault, DiskFault, OutOfMemory, LongInput}
 use Rattle.sb_bus.specs.Fronts.{IsLong}
-use Rattle.sb_bus.specs.Runs.{said_in, calls_in, replies_to, state_after_all}
+use Rattle.sb_bus.specs.Runs.{said_in, calls_in, replies_to, state_after_all, state_by}
 
 -- ---- what is written of a line
 
@@ -111,8 +113,14 @@ abbrev pub AreFirst : Option (List ℕ) → List Said → Type 0
 AreFirst None lines = Unit {0}
 AreFirst (Some left) lines = (more : List Said) × (said_in left ≡ lines ++ more)
 
--- Of the first lines each was answered by the machine and its reply written; then the run ended, at one more line or at none.
-pub record IsCutRun (s : State) (left left_after told told_after : Option (List ℕ)) (before now : ℕ) (after : State) (end : RunEnd) : Type 0 where
+-- whatever a crash leaves leads to this state, or to the one after what this line asks
+abbrev pub IsUndecided : Held → State → Option Last → Type 0
+IsUndecided held s None = Unit {0}
+IsUndecided held s (Some last) = (image : List ℕ) → IsImage held image → LeadsToOneOf s (state_by s last.line) image
+
+-- Of the first lines each was answered by the machine and its reply written; then the run ended, at one more line or at none. The disk is
+-- spoken of where it was safe at the start.
+pub record IsCutRun (Safe : Type 0) (s : State) (left left_after told told_after : Option (List ℕ)) (before now : ℕ) (after : State) (held : Held) (end : RunEnd) : Type 0 where
   pub lines : List Said
   pub last : Option Last
   pub first : AreFirst left (lines ++ line_of_last last)
@@ -121,6 +129,7 @@ pub record IsCutRun (s : State) (left left_after told told_after : Option (List 
   pub written : Gains told told_after (replies_to s lines ++ part)
   pub leads : after ≡ state_after (state_after_all s lines) (entries_of_last last)
   pub long : end ≡ LongInput → IsLong left left_after
+  pub undecided : Safe → end ≡ DiskFault → IsUndecided held (state_after_all s lines) last
 
 -- the history of such a run
 abbrev pub history_to : State → List Said → Option Last → List Entry

@@ -18,7 +18,7 @@ use Rattle.sb_bus.specs.declared.serve.RunEnd.{RunEnd}
 use Rattle.sb_bus.specs.declared.serve.RunEnd.TheVariants.{DiskFault, OutOfMemory, LongInput}
 use Rattle.sb_bus.specs.Fronts.{Took, HasEnded, IsLong}
 use Rattle.sb_bus.specs.Runs.{replies_to, calls_in, any_refused, said_in, status_by, state_after_all}
-use Rattle.sb_bus.specs.Endings.{IsSaid, Last, line_of_last, entries_of_last, EndsAt, AreFirst, history_to, status_of_end}
+use Rattle.sb_bus.specs.Endings.{IsSaid, IsUndecided, Last, line_of_last, entries_of_last, EndsAt, AreFirst, history_to, status_of_end}
 
 -- the folder that the words of a run name
 abbrev pub folder_in : List (List ℕ) → Option (List ℕ)
@@ -81,6 +81,8 @@ pub record IsEarlyRun (honest : Bool) (disks disks_after : Pair) (held_after : H
   pub legal : IsLegal start (history_to start lines last)
   pub kept : IsTrue honest → end ≢ DiskFault → Recovers (recovered disks_after.a disks_after.b salt) (state_after start (history_to start lines last))
   pub durable : IsTrue honest → end ≢ DiskFault → IsDurable held_after (state_after start (history_to start lines last))
+  -- the call that was answered by a failed disk is there or not
+  pub undecided : IsTrue honest → end ≡ DiskFault → IsUndecided held_after (state_after start (entries_of 0 start (calls_in lines))) last
   pub long : end ≡ LongInput → IsLong left left_after
 
 -- the journal wasn't opened: nothing was read of the input and nothing written

@@ -40,7 +40,7 @@ pub fn run_script<D: Disk, S: Source, K: Sink>(
 ) -> Result<bool, RunEnd>
     requires { node_stopped node.old ≡ None }
     ensures done { IfOk result (IsScriptRun (node_state node.old) (S.left input.old) (S.left input.new) (K.given output.old) (K.given output.new) (node_state node.new)) }
-    ensures cut { IfErr result (IsCutRun (node_state node.old) (S.left input.old) (S.left input.new) (K.given output.old) (K.given output.new) (K.count output.old) (K.count output.new) (node_state node.new)) }
+    ensures cut { IfErr result (IsCutRun (((node_state node.old).now ≤ max_moment) × IsKept (node_journal node.old) (node_state node.old)) (node_state node.old) (S.left input.old) (S.left input.new) (K.given output.old) (K.given output.new) (K.count output.old) (K.count output.new) (node_state node.new) (D.held (node_disk_a node.new))) }
     ensures kept { (node_state node.old).now ≤ max_moment → IsKept (node_journal node.old) (node_state node.old) → result ≢ Err DiskFault → IsKept (node_journal node.new) (node_state node.new) }
     ensures read_fault { IfErr result (λ e. e ≡ ReadFault → Rose (S.count input.old) (S.count input.new)) }
     ensures disk_fault { IfErr result (λ e. e ≡ DiskFault → Rose (D.count (node_disk_a node.old)) (D.count (node_disk_a node.new))) }

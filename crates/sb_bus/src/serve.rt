@@ -1,11 +1,12 @@
 // Answering what a line says.
 ghost use Rattle.std.specs.Prelude.{◌≡◌, ◌≢◌, ◌≤◌, ℕ, List, None, Ok, Err, OnOk, IfOk, IfErr};
 ghost use Rattle.sb_outside.specs.Causes.{Rose};
+ghost use Rattle.sb_outside.specs.Held.{IsImage};
 ghost use Rattle.sb_outside.specs.Streams.{Gains};
 ghost use Rattle.sb_model.specs.Answers.{max_moment};
 ghost use Rattle.sb_script.specs.Replies.{answer_line};
-ghost use Rattle.sb_node.specs.Nodes.{node_state, node_stopped, node_journal, node_disk_a, node_disk_b, IsKept};
-ghost use Rattle.sb_bus.specs.Runs.{kind_of, IsServed};
+ghost use Rattle.sb_node.specs.Nodes.{node_state, node_stopped, node_journal, node_disk_a, node_disk_b, IsKept, LeadsToOneOf};
+ghost use Rattle.sb_bus.specs.Runs.{kind_of, state_by, IsServed};
 ghost use Rattle.sb_bus.specs.Endings.{IsUnsaid, IsCutAt};
 ghost use Rattle.sb_bus.specs.declared.serve.RunEnd.TheVariants.{DiskFault};
 ghost use Rattle.sb_bus.specs.declared.said.Said.TheVariants.{Asked};
@@ -76,6 +77,8 @@ fn serve_call<D: Disk, K: Sink>(
     ensures cut { IfErr result (IsCutAt (node_state node.old) (Asked asked.now) (K.given output.old) (K.given output.new) (K.count output.old) (K.count output.new) (node_state node.new)) }
     ensures running { OnOk result (node_stopped node.new ≡ None) }
     ensures kept { (node_state node.old).now ≤ max_moment → IsKept (node_journal node.old) (node_state node.old) → result ≢ Err DiskFault → IsKept (node_journal node.new) (node_state node.new) }
+    ensures undecided { (node_state node.old).now ≤ max_moment → IsKept (node_journal node.old) (node_state node.old) → result ≡ Err DiskFault
+        → (image : List ℕ) → IsImage (D.held (node_disk_a node.new)) image → LeadsToOneOf (node_state node.old) (state_by (node_state node.old) (Asked asked.now)) image }
     ensures disk_fault { result ≡ Err DiskFault → Rose (D.count (node_disk_a node.old)) (D.count (node_disk_a node.new)) }
     ensures later { (D.count (node_disk_a node.old) ≤ D.count (node_disk_a node.new)) × (K.count output.old ≤ K.count output.new) }
     ensures honesty { D.honest (node_disk_a node.new) ≡ D.honest (node_disk_a node.old) }
@@ -114,6 +117,8 @@ pub fn serve_line<D: Disk, K: Sink>(
     ensures cut { IfErr result (IsCutAt (node_state node.old) line (K.given output.old) (K.given output.new) (K.count output.old) (K.count output.new) (node_state node.new)) }
     ensures running { OnOk result (node_stopped node.new ≡ None) }
     ensures kept { (node_state node.old).now ≤ max_moment → IsKept (node_journal node.old) (node_state node.old) → result ≢ Err DiskFault → IsKept (node_journal node.new) (node_state node.new) }
+    ensures undecided { (node_state node.old).now ≤ max_moment → IsKept (node_journal node.old) (node_state node.old) → result ≡ Err DiskFault
+        → (image : List ℕ) → IsImage (D.held (node_disk_a node.new)) image → LeadsToOneOf (node_state node.old) (state_by (node_state node.old) line) image }
     ensures disk_fault { result ≡ Err DiskFault → Rose (D.count (node_disk_a node.old)) (D.count (node_disk_a node.new)) }
     ensures later { (D.count (node_disk_a node.old) ≤ D.count (node_disk_a node.new)) × (K.count output.old ≤ K.count output.new) }
     ensures honesty { D.honest (node_disk_a node.new) ≡ D.honest (node_disk_a node.old) }

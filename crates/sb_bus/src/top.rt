@@ -61,7 +61,7 @@ fn run_status<D: Disk, S: Source, K: Sink>(
     ensures done { (refused : Bool) → result ≡ status_by refused
         → IsScriptRun (node_state node.old) (S.left input.old) (S.left input.new) (K.given output.old) (K.given output.new) (node_state node.new) refused }
     ensures cut { (end : RunEnd) → result ≡ status_of_end end
-        → IsCutRun (node_state node.old) (S.left input.old) (S.left input.new) (K.given output.old) (K.given output.new) (K.count output.old) (K.count output.new) (node_state node.new) end }
+        → IsCutRun (((node_state node.old).now ≤ max_moment) × IsKept (node_journal node.old) (node_state node.old)) (node_state node.old) (S.left input.old) (S.left input.new) (K.given output.old) (K.given output.new) (K.count output.old) (K.count output.new) (node_state node.new) (D.held (node_disk_a node.new)) end }
     ensures kept { (node_state node.old).now ≤ max_moment → IsKept (node_journal node.old) (node_state node.old) → result ≢ 5 → IsKept (node_journal node.new) (node_state node.new) }
     ensures read_fault { result ≡ 3 → Rose (S.count input.old) (S.count input.new) }
     ensures disk_fault { result ≡ 5 → Rose (D.count (node_disk_a node.old)) (D.count (node_disk_a node.new)) }

@@ -46,20 +46,20 @@ lines-preserved g c =
     }
 
 pub returns-in_default-clause-cut : goal.returns-in_default-clause-cut
-returns-in_default-clause-cut g c = cut_at_once _ _ _ _ _
+returns-in_default-clause-cut g c = cut_at_once _ _ _ _ _ _ _
 
 pub returns-in-Err-clause-cut : goal.returns-in-Err-clause-cut
 returns-in-Err-clause-cut g c =
     let so_far = c.lines.invariant.so_far in
     let start = g.S.Source.left c.args.input.now in
     let end : c.end_of.result ≡ end_of_reading c.in-Err.end = c.end_of.ensures in
-    cut_between (node_state c.args.node.now) (node_state c.lines.node) start (g.S.Source.left c.lines.input) (g.S.Source.left c.next_line.new.source) _ _ c.lines.reader c.lines.refused _ _ c.end_of.result so_far
+    cut_between _ (node_state c.args.node.now) (node_state c.lines.node) start (g.S.Source.left c.lines.input) (g.S.Source.left c.next_line.new.source) _ _ c.lines.reader c.lines.refused _ _ _ c.end_of.result so_far
     (subst IsBetween (sym end) (reading_between c.in-Err.end)) (λ is. c.in-Err.ensures.long start so_far.input so_far.at (ap Err (reading_long c.in-Err.end (sym end ∙ is))))
 
 pub returns-in_default-said_by-clause-cut : goal.returns-in_default-said_by-clause-cut
 returns-in_default-said_by-clause-cut g c =
     let so_far = c.lines.invariant.so_far in
-    cut_between _ _ _ _ _ _ _ c.lines.reader c.lines.refused _ _ OutOfMemory so_far tt (λ e. absurd cc)
+    cut_between _ _ _ _ _ _ _ _ c.lines.reader c.lines.refused _ _ _ OutOfMemory so_far tt (λ e. absurd cc)
 
 pub returns-in_err-was_refused-clause-cut : goal.returns-in_err-was_refused-clause-cut
 returns-in_err-was_refused-clause-cut g c =
@@ -68,8 +68,9 @@ returns-in_err-was_refused-clause-cut g c =
     let left = g.S.Source.left c.next_line.new.source in
     let reads = subst (λ (o : Option Front). Reads o start so_far.input (pending_of c.lines.reader) left c.next_line.new.self) c.in-Ok-Some.field-0-is (c.in-Ok-Some.ensures.reads start so_far.input so_far.at) in
     passed_on _ c.in_err-was_refused.field-0.0 c.from_residual.result c.from_residual.ensures
-    (cut_at_line (node_state c.args.node.now) (node_state c.lines.node) (node_state c.serve_line.new.node) start (g.S.Source.left c.lines.input) left _ (g.K.Sink.given c.lines.output) _ c.lines.reader c.next_line.new.self c.lines.refused _ (g.K.Sink.count c.lines.output) _ c.in_err-was_refused.field-0.0
-    c.in-Ok-Some.front c.in-Ok-said_by.line so_far reads (c.in-Ok-said_by.ensures reads.line reads.stands) c.in_err-was_refused.ensures.cut c.lines.invariant.write_later)
+    (cut_at_line _ (node_state c.args.node.now) (node_state c.lines.node) (node_state c.serve_line.new.node) start (g.S.Source.left c.lines.input) left _ (g.K.Sink.given c.lines.output) _ c.lines.reader c.next_line.new.self c.lines.refused _ (g.K.Sink.count c.lines.output) _ _ c.in_err-was_refused.field-0.0
+    c.in-Ok-Some.front c.in-Ok-said_by.line so_far reads (c.in-Ok-said_by.ensures reads.line reads.stands) c.in_err-was_refused.ensures.cut c.lines.invariant.write_later
+    (λ safe failed. c.in_err-was_refused.ensures.undecided (c.lines.invariant.early safe.0) (c.lines.invariant.kept safe.0 safe.1) (ap Err failed)))
 
 pub returns-in_err-was_refused-clause-kept : goal.returns-in_err-was_refused-clause-kept
 returns-in_err-was_refused-clause-kept g c early kept sound =

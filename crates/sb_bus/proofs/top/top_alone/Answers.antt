@@ -1,6 +1,7 @@
-use Rattle.std.proofs.Common.{◌≡◌, ◌≢◌, inr, refl, ℕ, List, sym, subst}
+use Rattle.std.proofs.Common.{◌≡◌, ◌≢◌, ◌≤◌, inr, refl, ℕ, List, sym, ap, subst}
 use Rattle.std.specs.Prelude.{IsTrue}
 use Rattle.sb_outside.specs.Causes.{Rose}
+use Rattle.sb_model.specs.Answers.{max_moment}
 use Rattle.sb_node.specs.Nodes.{node_state, node_journal, IsKept}
 use Rattle.sb_node.specs.Recovery.{recovered, Recovers}
 use Rattle.sb_bus.specs.Tops.{pair_of}
@@ -38,8 +39,9 @@ returns-clause-early g c end is =
     let kept : IsTrue (g.D.Disk.honest c.args.disk_a) → end ≢ DiskFault → IsKept (node_journal node) (node_state node) = λ honest sound. ran.kept opened.early (opened.kept honest) (no_disk_end end c.run_status-status.result is sound) in
     let held_after : IsTrue (g.D.Disk.honest c.args.disk_a) → end ≢ DiskFault → Recovers (recovered (seen c.close-disk_a.result.0) b salt) (node_state node) = λ honest sound.
     subst (λ d. Recovers (recovered (seen d) b salt) (node_state node)) (sym c.close-disk_a.ensures.disk_a) (kept_recovers (node_journal node) (node_state node) b salt (kept honest sound)) in
-    inr (early_run _ (pair_of (seen c.args.disk_a) (seen c.args.disk_b)) (pair_of (seen c.close-disk_a.result.0) b) (g.D.Disk.held c.close-disk_a.result.0) salt _ _ _ _ _ _ (node_state c.in-Ok.node) (node_state node) end opened.found (ran.cut end is) held_after
-    (λ honest sound. kept_durable (node_journal node) (node_state node) c.close-disk_a.result.0 c.close-disk_a.ensures.disk_a (kept honest sound)))
+    let safe : IsTrue (g.D.Disk.honest c.args.disk_a) → ((node_state c.in-Ok.node).now ≤ max_moment) × IsKept (node_journal c.in-Ok.node) (node_state c.in-Ok.node) = λ honest. (opened.early, opened.kept honest) in
+    inr (early_run _ _ (pair_of (seen c.args.disk_a) (seen c.args.disk_b)) (pair_of (seen c.close-disk_a.result.0) b) (g.D.Disk.held c.close-disk_a.result.0) _ salt _ _ _ _ _ _ (node_state c.in-Ok.node) (node_state node) end opened.found (ap g.D.Disk.held c.close-disk_a.ensures.disk_a) (ran.cut end is) held_after
+    (λ honest sound. kept_durable (node_journal node) (node_state node) c.close-disk_a.result.0 c.close-disk_a.ensures.disk_a (kept honest sound)) safe)
 
 pub returns-clause-complete : goal.returns-clause-complete
 returns-clause-complete g c there honest free =
@@ -47,4 +49,4 @@ returns-clause-complete g c there honest free =
     let failed : c.run_status-status.result ≡ 5 → Rose (g.D.Disk.count c.args.disk_a) (g.D.Disk.count c.close-disk_a.result.0) =
     λ five. subst (λ d. Rose (g.D.Disk.count c.args.disk_a) (g.D.Disk.count d)) (sym c.close-disk_a.ensures.disk_a) (rose_from _ _ _ c.in-Ok.ensures.later (ran.disk_fault five))
     in
-    complete_by c.run_status-status.result _ _ _ _ _ _ ran.known ran.read_fault (λ four. write_cut _ _ _ _ _ _ _ _ (ran.cut WriteFault four)) failed (λ ten. (ran.cut LongInput ten).long refl) free
+    complete_by c.run_status-status.result _ _ _ _ _ _ ran.known ran.read_fault (λ four. write_cut _ _ _ _ _ _ _ _ _ _ (ran.cut WriteFault four)) failed (λ ten. (ran.cut LongInput ten).long refl) free
