@@ -272,8 +272,10 @@ fn damage_has_its_place(rt: HostRuntime) -> Result<(), Fail> {
         is_damaged(&rt, &file, *row)?;
     }
     let told = damaged_at(&rt, 152)?;
-    left_by_line(&rt, &file[..170], RECEIVE, told.as_str(), 6)?;
-    left_by_line(&rt, &file[..185], RECEIVE, SECOND, 0)?;
+    let cut = file.get(..170).ok_or("a front of the file")?;
+    left_by_line(&rt, cut, RECEIVE, told.as_str(), 6)?;
+    let without_gate = file.get(..185).ok_or("a front of the file")?;
+    left_by_line(&rt, without_gate, RECEIVE, SECOND, 0)?;
     Ok(())
 }
 
@@ -321,40 +323,50 @@ fn lines_that_are_no_text(rt: HostRuntime) -> Result<(), Fail> {
     Ok(())
 }
 
+// The bytes that a run over one line leaves whose disk fails at a call.
+fn left_by_failing(
+    rt: &HostRuntime,
+    disk: &[u8],
+    call: u64,
+    told: &str,
+    status: u8,
+) -> Result<Vec<u8>, Fail> {
+    let failing = Failing {
+        disk: Some(call),
+        ..NOTHING
+    };
+    leaves(
+        rt,
+        Case {
+            words: &RUN,
+            disk,
+            failing,
+            script: &[CREATE],
+            told: &[told],
+            status,
+        },
+    )
+}
+
 // Each call of the disk fails in turn: opening reads in three calls and an append makes four. What
 // was synced with its gate is there for the next run, and no more.
 #[test]
 fn each_disk_call_fails(rt: HostRuntime) -> Result<(), Fail> {
     let made = leaves(&rt, answers(&[], &[], &[], 0))?;
     let rows = [
-        (0, "", DONE),
-        (1, "", DONE),
-        (2, "", DONE),
-        (3, FAILED, DONE),
-        (4, FAILED, DONE),
-        (5, FAILED, DONE),
-        (6, FAILED, TAKEN),
-        (7, DONE, TAKEN),
+        (0, "", 5, DONE, 0),
+        (1, "", 5, DONE, 0),
+        (2, "", 5, DONE, 0),
+        (3, FAILED, 5, DONE, 0),
+        (4, FAILED, 5, DONE, 0),
+        (5, FAILED, 5, DONE, 0),
+        (6, FAILED, 5, TAKEN, 1),
+        (7, DONE, 0, TAKEN, 1),
     ];
     for row in &rows {
-        let (call, told, next) = *row;
-        let case = Case {
-            failing: Failing {
-                disk: Some(call),
-                ..NOTHING
-            },
-            status: if call < 7 { 5 } else { 0 },
-            ..answers(&made, &[CREATE, ""], &[], 0)
-        };
-        let left = leaves(
-            &rt,
-            Case {
-                told: &[told],
-                ..case
-            },
-        )?;
-        let status = if next == TAKEN { 1 } else { 0 };
-        left_by_line(&rt, &left, CREATE, next, status)?;
+        let (call, told, status, next, next_status) = *row;
+        let left = left_by_failing(&rt, &made, call, told, status)?;
+        left_by_line(&rt, &left, CREATE, next, next_status)?;
     }
     Ok(())
 }
