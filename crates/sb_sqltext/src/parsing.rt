@@ -1,5 +1,5 @@
 // From text to tree.
-ghost use Rattle.std.specs.Prelude.{◌≡◌, IfSome, IfNone, ◌∷◌, []};
+ghost use Rattle.std.specs.Prelude.{◌≡◌, Err, IfSome, IfNone, ◌∷◌, []};
 ghost use Rattle.sb_model.specs.Expressions.{term_of, changes_of};
 ghost use Rattle.sb_sqlgrammar.specs.Language.{SpellsFilter, SpellsAction};
 ghost use Rattle.sb_sqltext.specs.Texts.{AnswersText};
@@ -64,13 +64,14 @@ fn end_before(ends: &[usize], left: usize) -> usize
 
 /// The filter that a text spells, nested at most 64 deep and at most 1,024 characters long.
 ///
-/// `At` has the place of the fault. Want of memory is `OutOfMemory`.
+/// `At` has the place of the fault. Want of memory is `OutOfMemory`, but for a text that is too long.
 #[tactic(auto, using(crate::proofs::Joined::joined))]
 pub fn parse_filter(alloc: Global, text: &str) -> Result<Filter, ParseFault>
-    ensures { AnswersText (SpellsFilter 64) term_of text.now result }
+    ensures answers { AnswersText (SpellsFilter 64) term_of text.now result }
+    ensures too_long { IfSome (texts.past_limit text.now) (λ place. result ≡ Err (ParseFault.At place)) }
 {
-    if let Some(place) = past_limit(text.as_bytes()) {
-        return Err(ParseFault::At(place as u64));
+    if let Some(limit) = past_limit(text.as_bytes()) {
+        return Err(ParseFault::At(limit as u64));
     }
     let tokens = tokens_of(alloc, text)?;
     match filter_of(alloc, MAX_DEPTH, tokens.kinds.as_slice()) {
@@ -85,10 +86,11 @@ pub fn parse_filter(alloc: Global, text: &str) -> Result<Filter, ParseFault>
 /// The action that a text spells: 1 to 32 statements, nested at most 64 deep and at most 1,024
 /// characters long.
 ///
-/// `At` has the place of the fault. Want of memory is `OutOfMemory`.
+/// `At` has the place of the fault. Want of memory is `OutOfMemory`, but for a text that is too long.
 #[tactic(auto, using(crate::proofs::Joined::joined))]
 pub fn parse_action(alloc: Global, text: &str) -> Result<Action, ParseFault>
-    ensures { AnswersText (SpellsAction 64 31) changes_of text.now result }
+    ensures answers { AnswersText (SpellsAction 64 31) changes_of text.now result }
+    ensures too_long { IfSome (texts.past_limit text.now) (λ place. result ≡ Err (ParseFault.At place)) }
 {
     if let Some(place) = past_limit(text.as_bytes()) {
         return Err(ParseFault::At(place as u64));
