@@ -1,10 +1,10 @@
--- Expressions that are evaluated without taking memory.
-use Rattle.std.specs.Prelude.{◌≡◌, Bool, true, false}
+-- Expressions that are evaluated, and actions that are carried out, without taking memory.
+use Rattle.std.specs.Prelude.{◌≡◌, Bool, true, false, List, [], ◌∷◌}
 use Rattle.sb_model.specs.declared.expression.UnaryOperator.{UnaryOperator}
 use Rattle.sb_model.specs.declared.expression.UnaryOperator.TheVariants.{PropertyNamed}
 use Rattle.sb_model.specs.declared.expression.BinaryOperator.{BinaryOperator}
 use Rattle.sb_model.specs.declared.expression.BinaryOperator.TheVariants.{Add}
-use Rattle.sb_model.specs.Expressions.{Term, Terms, constant, property, existing, unary, binary, within, like, like_escape, first, later}
+use Rattle.sb_model.specs.Expressions.{Term, Terms, constant, property, existing, unary, binary, within, like, like_escape, first, later, Change, setting, removing}
 
 -- `property(x)` folds a name
 abbrev pub may_fold : UnaryOperator → Bool
@@ -30,3 +30,12 @@ abbrev mutual
   pub NoneTakesMemory : Terms → Type 0
   NoneTakesMemory (first t) = TakesNoMemory t
   NoneTakesMemory (later ts t) = NoneTakesMemory ts × TakesNoMemory t
+
+abbrev pub IsRemoval : Change → Type 0
+IsRemoval (setting name t) = ⊥
+IsRemoval (removing name) = Unit {0}
+
+-- an action of REMOVE statements alone
+abbrev pub RemoveAlone : List Change → Type 0
+RemoveAlone [] = Unit {0}
+RemoveAlone (c ∷ cs) = IsRemoval c × RemoveAlone cs

@@ -4,6 +4,7 @@ ghost use Rattle.sb_model.specs.Expressions.{term_of, change_of, changes_of};
 ghost use Rattle.sb_model.specs.Meaning as meaning;
 ghost use Rattle.sb_model.specs.Effects as effects;
 ghost use Rattle.sb_sqleval.specs.Values.{value_in, Is, Gives};
+ghost use Rattle.sb_sqleval.specs.Memory.{IsRemoval, RemoveAlone};
 
 use crate::Value;
 use crate::changes::{with_system, with_user, without_system, without_user};
@@ -181,7 +182,8 @@ fn remove_system(message: Message, name: SystemName) -> Message
 
 /// The message behind one statement.
 fn changed(alloc: Global, message: Message, statement: &Statement) -> Result<Message, EvalFault>
-    ensures { Gives (λ m. m) result (effects.after_change message (change_of statement.now)) }
+    ensures gives { Gives (λ m. m) result (effects.after_change message (change_of statement.now)) }
+    ensures without_memory { IsRemoval (change_of statement.now) → Is (λ m. m) result (effects.after_change message (change_of statement.now)) }
 {
     match statement {
         Statement::Set(PropertyName::User(name), expression) => {
@@ -208,9 +210,11 @@ fn changed(alloc: Global, message: Message, statement: &Statement) -> Result<Mes
 /// can't be set (before its value is found), `BadSystemValue` where the value is no text within
 /// the property's limit, and the faults of a filter where the value has none. Behind the last
 /// statement `TooLarge` comes where the message has more than 65,536 bytes of properties or more
-/// than 256 user properties, whether or not anything changed. `OutOfMemory` may come anywhere.
+/// than 256 user properties, whether or not anything changed. `OutOfMemory` may come at any `SET`,
+/// and always comes where `+` would join a text of more than 1,048,576 bytes.
 pub fn run_action(alloc: Global, action: &Action, message: Message) -> Result<Message, EvalFault>
-    ensures { Gives (λ m. m) result (effects.after_action message (changes_of action.now)) }
+    ensures gives { Gives (λ m. m) result (effects.after_action message (changes_of action.now)) }
+    ensures without_memory { RemoveAlone (changes_of action.now) → Is (λ m. m) result (effects.after_action message (changes_of action.now)) }
 {
     let mut left = message;
     'statements: for statement in action.as_slice() {
