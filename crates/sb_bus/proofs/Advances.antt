@@ -1,18 +1,20 @@
 -- One more line of a run.
-use Rattle.std.proofs.Common.{◌≡◌, ◌≤◌, ◌⊎◌, inl, inr, ℕ, List, [], ◌∷◌, ◌++◌, map, Bool, true, false, ◌||◌, Option, refl, sym, ◌∙◌, ap, subst, append_assoc, arith}
+use Rattle.std.proofs.Common.{◌≡◌, ◌≤◌, ◌⊎◌, inl, inr, ℕ, List, [], ◌∷◌, ◌++◌, map, Bool, true, false, ◌||◌, ◌-◌, take, drop, Option, Some, None, refl, sym, ◌∙◌, ap, subst, append_assoc, arith}
 use Rattle.std.proofs.lemmas.List.{append-nil, map-append}
+use Rattle.sb_outside.specs.Held.{Held}
 use Rattle.sb_outside.specs.Streams.{Gains}
-use Rattle.sb_outside.proofs.Gains.{gains-gains}
+use Rattle.sb_outside.proofs.Gains.{gains-gains, gains-none}
 use Rattle.sb_model.specs.Answers.{Row, refuses, stays, moves, state_in, row_of, moment_of}
 use Rattle.sb_model.specs.declared.state.State.{State}
 use Rattle.sb_bus.specs.declared.front.Front.{Front}
 use Rattle.sb_bus.specs.declared.reader.Reader.{Reader}
 use Rattle.sb_bus.specs.declared.said.Said.{Said}
 use Rattle.sb_bus.specs.declared.said.Said.TheVariants.{Blank, Faulty, Asked}
-use Rattle.sb_bus.specs.Fronts.{NoFeed}
+use Rattle.sb_bus.specs.Fronts.{NoFeed, Took}
 use Rattle.sb_bus.specs.Lines.{lines_of, said}
 use Rattle.sb_bus.specs.Readers.{pending_of, IsAt, IsNext, ReadsLine}
-use Rattle.sb_bus.specs.Runs.{reply_to, state_by, refuses_it, replies_to, state_after_all, any_refused, said_in, IsServed, IsScriptRun, AreWhole, RunsSoFar}
+use Rattle.sb_bus.specs.Runs.{reply_to, state_by, refuses_it, replies_to, state_after_all, any_refused, said_in, IsServed, IsScriptRun, AreWhole, RunsSoFar, IsFollowed}
+use Rattle.sb_bus.proofs.Follows.{followed_says}
 use Rattle.sb_bus.proofs.Splits.{lines_of-feed, lines_of-last}
 
 state_after_all-push : (s : State) (xs : List Said) (x : Said) → state_after_all s (xs ++ x ∷ []) ≡ state_by (state_after_all s xs) x
@@ -78,7 +80,7 @@ advances input done pending more line r split whole none (inr last) = record {
 }
 
 -- what is known of a run after one more line
-pub record RunsOn (s : State) (start left told told_after : Option (List ℕ)) (r : Reader) (now : State) (refused : Bool) : Type 0 where
+pub record RunsOn (lines : List Said) (s : State) (start left told told_after : Option (List ℕ)) (r : Reader) (now : State) (refused : Bool) : Type 0 where
   pub input : List ℕ
   pub done : List ℕ
   pub at : IsAt start input left r
@@ -87,9 +89,10 @@ pub record RunsOn (s : State) (start left told told_after : Option (List ℕ)) (
   pub written : Gains told told_after (replies_to s (said_in done))
   pub leads : now ≡ state_after_all s (said_in done)
   pub says : refused ≡ any_refused s (said_in done)
+  pub lines_are : said_in done ≡ lines
 
 pub runs_on : (s now after : State) (start left left_after told told_on told_after : Option (List ℕ)) (r next : Reader) (refused was both : Bool) (front : Front) (x : Said) (so_far : RunsSoFar s start left told told_on r now refused)
-    → (reads : ReadsLine start so_far.input (pending_of r) left_after next front) → x ≡ said reads.line → IsServed now x told_on told_after after was → both ≡ (refused || was) → RunsOn s start left_after told told_after next after both
+    → (reads : ReadsLine start so_far.input (pending_of r) left_after next front) → x ≡ said reads.line → IsServed now x told_on told_after after was → both ≡ (refused || was) → RunsOn (said_in so_far.done ++ x ∷ []) s start left_after told told_after next after both
 runs_on s now after start left left_after told told_on told_after r next refused was both front x so_far reads says served both_is =
     let on = advances so_far.input so_far.done (pending_of r) reads.more reads.line next so_far.split so_far.whole reads.no_feed reads.next in
     let all : said_in on.next ≡ said_in so_far.done ++ x ∷ [] = on.says ∙ ap (λ y. said_in so_far.done ++ y ∷ []) (sym says) in
@@ -109,28 +112,60 @@ runs_on s now after start left left_after told told_on told_after r next refused
           ∙ ap (λ b. b || was) so_far.says
           ∙ ap (λ b. any_refused s (said_in so_far.done) || b) (served.says ∙ ap (λ (y : State). refuses_it y x) so_far.leads)
           ∙ sym (ap (any_refused s) all ∙ any_refused-push s (said_in so_far.done) x);
+      lines_are = all;
     }
 
+-- nothing is read yet
+pub nothing_yet : (s : State) (start told : Option (List ℕ)) (r : Reader) → (r.at ≡ 0) × (r.end ≡ 0) × (r.ended ≡ false) × (r.taken ≡ 0) → (so_far : RunsSoFar s start start told told r s false) × (said_in so_far.done ≡ [])
+nothing_yet s start told r fresh = (
+  record {
+    input = [];
+    done = [];
+    at = record {
+      took = none_taken start;
+      ended = λ ended. let other : true ≡ false = sym ended ∙ fresh.2 in absurd cc;
+      taken = fresh.3;
+    };
+    split = sym (ap (λ (n : ℕ). take (n - r.at) (drop r.at r.piece.items)) fresh.1 ∙ ap (λ (n : ℕ). take n (drop r.at r.piece.items)) (none_less r.at));
+    whole = λ rest. refl;
+    written = gains-none told;
+    leads = refl;
+    says = refl;
+  },
+  refl,
+)
+  where
+    none_taken : (left : Option (List ℕ)) → Took left left []
+    none_taken None = tt
+    none_taken (Some all) = (all, refl, refl)
+
+    none_less : (n : ℕ) → 0 - n ≡ 0
+    none_less n = omega arith
+
 -- it goes on
-pub still_runs : (s now : State) (start left told told_after : Option (List ℕ)) (r : Reader) (refused over : Bool) → RunsOn s start left told told_after r now refused → over ≡ false → (r.ended ≡ true → pending_of r ≡ [] → over ≡ true) → RunsSoFar s start left told told_after r now refused
-still_runs s now start left told told_after r refused over run not_over would = record {
-  input = run.input;
-  done = run.done;
-  at = run.at;
-  split = run.split;
-  whole = whole_by run.goes;
-  written = run.written;
-  leads = run.leads;
-  says = run.says;
-}
+pub still_runs : (lines : List Said) (s now : State) (start left told told_after : Option (List ℕ)) (r : Reader) (refused over : Bool) → RunsOn lines s start left told told_after r now refused → over ≡ false → (r.ended ≡ true → pending_of r ≡ [] → over ≡ true) → (so_far : RunsSoFar s start left told told_after r now refused) × (said_in so_far.done ≡ lines)
+still_runs lines s now start left told told_after r refused over run not_over would = (
+  record {
+    input = run.input;
+    done = run.done;
+    at = run.at;
+    split = run.split;
+    whole = whole_by run.goes;
+    written = run.written;
+    leads = run.leads;
+    says = run.says;
+  },
+  run.lines_are,
+)
   where
     whole_by : AreWhole run.done ⊎ ((r.ended ≡ true) × (pending_of r ≡ [])) → AreWhole run.done
     whole_by (inl whole) = whole
     whole_by (inr last) = let other : true ≡ false = sym (would last.0 last.1) ∙ not_over in absurd cc
 
 -- it is over
-pub is_over : (s now : State) (start left told told_after : Option (List ℕ)) (r : Reader) (refused : Bool) → RunsOn s start left told told_after r now refused → r.ended ≡ true → pending_of r ≡ [] → IsScriptRun s start left told told_after now refused
-is_over s now start left told told_after r refused run ended none =
+pub is_over : (Safe : Type 0) (lines : List Said) (s now : State) (start left told told_after : Option (List ℕ)) (r : Reader) (refused : Bool) (past later : List Held) → RunsOn lines s start left told told_after r now refused → r.ended ≡ true → pending_of r ≡ [] → (Safe → IsFollowed s lines past later)
+    → IsScriptRun Safe s start left told told_after past later now refused
+is_over Safe lines s now start left told told_after r refused past later run ended none moments =
     let all : run.input ≡ run.done = run.split ∙ ap (λ (l : List ℕ). run.done ++ l) none ∙ append-nil run.done in
     record {
       input = run.input;
@@ -139,6 +174,7 @@ is_over s now start left told told_after r refused run ended none =
       written = subst (λ (l : List ℕ). Gains told told_after (replies_to s (said_in l))) (sym all) run.written;
       leads = run.leads ∙ ap (λ (l : List ℕ). state_after_all s (said_in l)) (sym all);
       says = run.says ∙ ap (λ (l : List ℕ). any_refused s (said_in l)) (sym all);
+      moments = λ safe. followed_says s lines _ past later (sym run.lines_are ∙ ap said_in (sym all)) (moments safe);
     }
 
 state_in_early : (s : State) (t : ℕ) (row : Row) → s.now ≤ 253402214400000 → t ≤ 253402214400000 → (state_in s t row).now ≤ 253402214400000
