@@ -72,7 +72,7 @@ pub(crate) fn of_one<'a>(
 /// The most bytes of a text that `+` joins: sixteen times what all properties of a message may have
 /// behind an action. A text can be doubled by one statement, and its size is judged behind the last
 /// of 32; with this limit an action, whose 1,024 characters have room for some 250 joined texts,
-/// holds some 300 MiB at most.
+/// holds a few hundred MiB at the very most.
 const MAX_JOINED_BYTES: usize = 1_048_576;
 
 /// Two texts as one. Above the limit it is want of memory.

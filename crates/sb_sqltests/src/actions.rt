@@ -193,6 +193,34 @@ fn property_bytes(rt: HostRuntime) -> Result<(), Fail> {
     Ok(())
 }
 
+/// An action that makes a text of 1,048,576 bytes, by doubling it seventeen times, and goes on so.
+fn doubling(alloc: Global, rest: &str) -> Result<String, AllocError> {
+    let mut action = String::from_str(alloc, "SET a = 'xxxxxxxx'")?;
+    for _ in 0..17 {
+        action.push_str(" SET a = a + a")?;
+    }
+    action.push_str(rest)?;
+    Ok(action)
+}
+
+#[test]
+fn joined_texts(rt: HostRuntime) -> Result<(), Fail> {
+    let rows = [
+        (" SET a = a + '' REMOVE a", ""),
+        (" SET a = a + 'x' REMOVE a", "OutOfMemory"),
+        (" SET a = 1 + ('x' + a) REMOVE a", "OutOfMemory"),
+    ];
+    for (rest, expected) in rows {
+        let action = doubling(rt.alloc(), rest)?;
+        assert_eq!(rt;
+            outcome(rt.alloc(), "", action.as_str())?.as_str(),
+            expected,
+            "{rest}"
+        );
+    }
+    Ok(())
+}
+
 /// Whether an action that removes nothing is TooLarge on so many user properties.
 fn is_too_large(alloc: Global, count: u16) -> Result<bool, &'static str> {
     let mut message = empty_message(alloc);
