@@ -6,10 +6,12 @@ use sb_outside::{
     MemDisk, NoDoor, NoLink, Reading, SystemClock, Writing, hold_streams, open_disk, sync_folder,
 };
 use std::alloc::Global;
+use std::fs::{File, TryLockError};
+use std::io::{Error, ErrorKind};
 use std::time::Duration;
 use std::{env, io};
 
-// The status where something of the outside can't be made.
+// The status where something of the outside can't be had.
 const NOT_MADE: u8 = 11;
 
 // The status for want of memory.
@@ -34,10 +36,25 @@ fn salt_of(since_1970: Duration) -> u64 {
         .wrapping_add(u64::from(since_1970.subsec_nanos()))
 }
 
+// Locks a folder for this run, so that no other run can write its journal. The lock ends where the
+// file is dropped, at the latest with the process, however that ends.
+fn lock_folder(rt: &HostRuntime, folder: &str) -> io::Result<File> {
+    let held = File::open(rt, folder)?;
+    match held.try_lock() {
+        Ok(()) => Ok(held),
+        Err(TryLockError::WouldBlock) => Err(Error::new(
+            ErrorKind::WouldBlock,
+            "another run holds the folder",
+        )),
+        Err(TryLockError::Error(error)) => Err(error),
+    }
+}
+
 // Calls the top over the files of a folder.
 fn over_folder(rt: &HostRuntime, words: &[&str], folder: &str) -> io::Result<u8> {
     let alloc = rt.alloc();
     let _streams = hold_streams(rt, folder)?;
+    let _lock = lock_folder(rt, folder)?;
     let path_a = format!(in alloc; "{folder}/a.journal")?;
     let path_b = format!(in alloc; "{folder}/b.journal")?;
     let disk_a = open_disk(rt, path_a.as_str())?;
@@ -101,10 +118,14 @@ fn run(rt: &HostRuntime) -> io::Result<u8> {
     status_by(rt, &words)
 }
 
-/// The status that the program ends with; 11 where a file, the clock or the words can't be had.
+/// The status that the program ends with; 11, with one line on standard error, where another run holds
+/// the folder, or where a file, the clock or the words can't be had.
 pub fn status(rt: &HostRuntime) -> u8 {
     match run(rt) {
         Ok(status) => status,
-        Err(_) => NOT_MADE,
+        Err(error) => {
+            let _ = eprintln!(rt; "bus: {error}");
+            NOT_MADE
+        }
     }
 }
