@@ -2,6 +2,8 @@
 # Runs the built program (its path is the one argument) where the outside fails it, and compares its
 # statuses: no folder, files and folders that may not be written, standard streams that are closed, an
 # output that is full or has no reader, a disk that is full. After each of them the journal must open.
+# Where strace is there it also looks at the order of system calls: a record is written and synced, then
+# its gate, and only then the reply is written.
 # As root it also tries what only an unprivileged user is refused, and the full disk (a tmpfs of 16 KiB).
 set -u
 program=$(realpath "${1:?the path of the program}") || exit 2
@@ -64,6 +66,34 @@ opens folder_as_input
 
 ./bus serve >/dev/full
 expect "a full output for the usage line" $? 2
+
+# The calls that a run over this script makes, one letter each: r a reply, w a write to a file, s a sync.
+calls_of() {
+    strace -e trace=write,pwrite64,fsync,fdatasync -o trace ./bus run --data synced <"$1" >/dev/null || return 1
+    sed -n -e 's/^write(1,.*/r/p' -e 's/^write(2,.*//p' -e 's/^p\{0,1\}write.*/w/p' -e 's/^f.*sync(.*/s/p' trace | tr -d '\n'
+}
+
+if command -v strace >/dev/null; then
+    mkdir synced && ./bus run --data synced </dev/null
+    echo '{"do":"create-queue","name":"q"}' >create.script
+    send='{"do":"send","to":"q","messages":[{"body":"a"}]}'
+    printf '%s\n' "$send" "$send" "$send" >sends.script
+    echo '{"do":"peek","from":"q","start":1,"count":1}' >peek.script
+    opening=$(calls_of /dev/null)
+    for row in create:wswsr sends:wswsrwswsrwswsr peek:r; do
+        found=$(calls_of "${row%%:*}.script")
+        if [ "$found" = "$opening${row#*:}" ]; then
+            echo "ok: calls of ${row%%:*}: $found"
+        else
+            echo "WRONG: calls of ${row%%:*}: $found, and not $opening${row#*:}"
+            failed=1
+        fi
+    done
+    case "$opening" in
+        *w* | *r* | '') echo "WRONG: calls of an opening: $opening" && failed=1 ;;
+        *) echo "ok: calls of an opening: $opening" ;;
+    esac
+fi
 
 if [ "$(id -u)" -eq 0 ]; then
     mkdir read_only && chmod 555 read_only

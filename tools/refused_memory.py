@@ -8,8 +8,8 @@ malloc and realloc. A small library put before it (made here by `cc`) refuses th
 For each N two scripts are run, one on an empty folder and one on the journal that the first leaves,
 until no call is refused any more. Each run has to end with 0 and all replies, with 7 and the first
 replies (and the line of OutOfMemory behind them, or nothing), or with 11 and nothing; and the
-journal must open again, with each acknowledged change and at most the one more that wasn't
-acknowledged. The exit status is 1 where one doesn't.
+journal must open again, with all that stood there before the run, each acknowledged change, and at
+most the one more that wasn't acknowledged. The exit status is 1 where one doesn't.
 """
 import collections
 import os
@@ -108,9 +108,13 @@ class Trial:
             sound = whole == replies[: len(whole)] and status in (0, 7, 11)
             sound = sound and (status == 7 or not said) and (status != 0 or told == replies)
             count = len(whole)
-            may = journals[count : count + (1 if said else 2)]
-            sound = sound and (status != 7 or behind_head(path) in may or (count == 0 and not behind_head(path)))
-            sound = sound and self.run(path, [])[0] == 0
+            ends = {0: journals[-1:], 7: journals[count : count + (1 if said else 2)], 11: journals[:1]}
+            may = ends.get(status, [])
+            if start is None and count == 0:
+                may = may + [b""]  # no journal was made yet
+            sound = sound and behind_head(path) in may
+            left = behind_head(path) or journals[0]
+            sound = sound and self.run(path, [])[0] == 0 and behind_head(path) == left
             classes[(status, count, said)] += 1
             if not sound:
                 wrong += 1
