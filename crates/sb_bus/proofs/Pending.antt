@@ -1,7 +1,7 @@
 -- What is pending, as it is taken.
 use Rattle.std.proofs.Common.{◌≡◌, ℕ, suc, ◌+◌, ◌-◌, ◌≤◌, List, [], ◌∷◌, ◌++◌, take, drop, Some, position, ◌==◌, sym, ◌∙◌, ap, arith, add-one, length-take}
 use Rattle.std.proofs.lemmas.List.{drop-take, drop-drop}
-use Rattle.sb_bus.specs.Fronts.{NoFeed}
+use Rattle.sb_bus.specs.Lines.{NoFeed}
 use Rattle.sb_bus.proofs.Splits.{position-split, position-within}
 
 -- behind these many, the rest is pending

@@ -1,11 +1,16 @@
 -- A line that is read part by part.
-use Rattle.std.proofs.Common.{◌≡◌, inl, inr, ℕ, ◌+◌, ◌-◌, ◌≤◌, ◌^◌, List, [], ◌∷◌, ◌++◌, length, take, drop, Bool, true, false, Option, Some, None, refl, sym, ◌∙◌, ap, subst, arith, append_assoc, length-append, length-take, rules}
-use Rattle.std.specs.Prelude.{IsTrue, Result, Ok, Err, IsErr, IsErrAnd}
+use Rattle.std.proofs.Common.{◌≡◌, ◌≢◌, inl, inr, ℕ, ◌+◌, ◌-◌, ◌≤◌, List, [], ◌∷◌, ◌++◌, length, take, drop, Bool, true, false, Option, Some, None, refl, sym, ◌∙◌, ap, subst, arith, append_assoc, length-append, length-take, length-drop}
+use Rattle.std.specs.Prelude.{IsTrue}
 use Rattle.std.proofs.lemmas.List.{append-nil}
-use Rattle.sb_bus.specs.declared.front.Front.{Front}
+use Rattle.sb_bus.specs.declared.partial_line.PartialLine.{PartialLine}
 use Rattle.sb_bus.specs.declared.reader.Reader.{Reader}
-use Rattle.sb_bus.specs.Fronts.{StandsFor, NoFeed, Took, HasEnded, IsLastOf, IsLong, IsLongPiece}
-use Rattle.sb_bus.specs.Readers.{pending_of, IsAt, TakesPart, ReadsLine, Reads}
+use Rattle.sb_bus.specs.declared.reader.ReadEnd.{ReadEnd}
+use Rattle.sb_bus.specs.declared.reader.ReadEnd.TheVariants.{Fault, OutOfMemory as NoMemory, TooMuch}
+use Rattle.sb_bus.specs.Limits.{max_input, max_piece}
+use Rattle.sb_bus.specs.Lines.{NoFeed}
+use Rattle.sb_bus.specs.PartialLines.{StandsFor, IsLastOf}
+use Rattle.sb_bus.specs.Taking.{Took, HasEnded, IsLong, IsLongPiece, IsLineAhead}
+use Rattle.sb_bus.specs.Readers.{pending_of, IsAt, TakesPart, IsNext, ReadsLine, ReadsNoLine, Reads}
 use Rattle.sb_bus.proofs.Splits.{NoFeed-append, took-took, took-ended}
 
 pub same_at : (start : Option (List ℕ)) (input : List ℕ) (left : Option (List ℕ)) (r after : Reader) → after.ended ≡ r.ended → after.taken ≡ r.taken → IsAt start input left r → IsAt start input left after
@@ -20,7 +25,7 @@ no_more [] ys e = (refl, e)
 no_more (x ∷ xs) ys e = absurd cc
 
 -- a line feed came
-pub line_found : (start : Option (List ℕ)) (input more line pending all : List ℕ) (left : Option (List ℕ)) (r : Reader) (front : Front) (found : Bool) → found ≡ true → TakesPart found line pending (pending_of r) front → NoFeed line
+pub line_found : (start : Option (List ℕ)) (input more line pending all : List ℕ) (left : Option (List ℕ)) (r : Reader) (front : PartialLine) (found : Bool) → found ≡ true → TakesPart found line pending (pending_of r) front → NoFeed line
     → all ++ more ≡ line ++ pending → IsAt start (input ++ more) left r → ReadsLine start input all left r front
 line_found start input more line pending all left r front false is part none whole at = absurd cc
 line_found start input more line pending all left r front true is part none whole at = record {
@@ -33,7 +38,7 @@ line_found start input more line pending all left r front true is part none whol
 }
 
 -- the source has ended
-pub line_ended : (start : Option (List ℕ)) (input more line pending all : List ℕ) (left : Option (List ℕ)) (r : Reader) (o : Option Front) → IsLastOf (line ++ pending) o → NoFeed (line ++ pending) → pending_of r ≡ []
+pub line_ended : (start : Option (List ℕ)) (input more line pending all : List ℕ) (left : Option (List ℕ)) (r : Reader) (o : Option PartialLine) → IsLastOf (line ++ pending) o → NoFeed (line ++ pending) → pending_of r ≡ []
     → all ++ more ≡ line ++ pending → IsAt start (input ++ more) left r → HasEnded start left → r.ended ≡ true → Reads o start input all left r
 line_ended start input more line pending all left r (Some front) last none rest whole at ended over = record {
   more = more;
@@ -64,7 +69,7 @@ piece_at start input piece left after r next n at took within taken ended = reco
 pub piece_on : (line pending rest all more piece : List ℕ) → all ++ more ≡ line ++ pending → rest ≡ piece → all ++ (more ++ piece) ≡ (line ++ pending) ++ rest
 piece_on line pending rest all more piece whole is = sym (append_assoc all more piece) ∙ ap (λ (l : List ℕ). l ++ piece) whole ∙ ap (λ (l : List ℕ). (line ++ pending) ++ l) (sym is)
 
-pub without_feed : (line pending after : List ℕ) (front : Front) (found : Bool) → found ≡ false → TakesPart found line pending after front → NoFeed line → NoFeed (line ++ pending) × (after ≡ []) × StandsFor front (line ++ pending)
+pub without_feed : (line pending after : List ℕ) (front : PartialLine) (found : Bool) → found ≡ false → TakesPart found line pending after front → NoFeed line → NoFeed (line ++ pending) × (after ≡ []) × StandsFor front (line ++ pending)
 without_feed line pending after front true is part none = absurd cc
 without_feed line pending after front false is part none = (NoFeed-append line pending none part.0, part.1, part.2)
 
@@ -82,13 +87,64 @@ end_at start input piece left after r next n at took none ended taken = record {
 }
 
 -- too much was read
-pub long_piece : (piece : List ℕ) (left after : Option (List ℕ)) (r : Reader) (n : ℕ) → Took left after (take n piece) → n ≤ length piece → 2 ^ 40 ≤ r.taken + n → IsLongPiece left after r.taken
+pub long_piece : (piece : List ℕ) (left after : Option (List ℕ)) (r : Reader) (n : ℕ) → Took left after (take n piece) → n ≤ length piece → max_input ≤ r.taken + n → IsLongPiece left after r.taken
 long_piece piece left after r n took within long = (take n piece, took, omega (arith, long, length-take n piece, within))
 
 pub long_at : (start : Option (List ℕ)) (input : List ℕ) (left after : Option (List ℕ)) (r : Reader) → IsAt start input left r → IsLongPiece left after r.taken → IsLong start after
 long_at start input left after r at long = (input ++ long.0, took-took start left after input long.0 at.took long.1, omega (arith, long.2, at.taken, length-append input long.0))
 
--- an error that was passed on is the one that came
-pub error_passed : {T E : Type 0} (r : Result T E) (e x : E) → IsErr r × IsErrAnd r (λ y. y ≡ e) → r ≡ Err x → e ≡ x
-error_passed (Ok v) e x given is = absurd cc
-error_passed (Err y) e x given is = search (rules, given.1, is)
+-- ---- no line was read
+
+-- what is pending is a piece at most
+pub pending_fits : (r : Reader) → length (pending_of r) ≤ max_piece
+pending_fits r = omega (arith, length-take (r.end - r.at) (drop r.at r.piece.items), length-drop r.at r.piece.items, r.room)
+
+-- a part found no memory
+pub part_failed : (start : Option (List ℕ)) (input more line all : List ℕ) (left : Option (List ℕ)) (r : Reader) (e : ReadEnd) → (e ≢ Fault) × (e ≢ TooMuch) → Took start left (input ++ more) → all ++ more ≡ line ++ pending_of r → NoFeed line → ReadsNoLine e start input all left
+part_failed start input more line all left r Fault known took whole none = absurd (known.0 refl)
+part_failed start input more line all left r TooMuch known took whole none = absurd (known.1 refl)
+part_failed start input more line all left r NoMemory known took whole none = record {
+  more = more;
+  took = took;
+  is_ahead = record {
+    line = line;
+    rest = pending_of r;
+    split = whole;
+    no_feed = none;
+    fits = omega (arith, pending_fits r);
+  };
+}
+
+-- no piece was read behind a part without a line feed, or one too many
+pub fill_failed : (start : Option (List ℕ)) (input more line pending all : List ℕ) (left after : Option (List ℕ)) (taken : ℕ) (e : ReadEnd) → Took start left (input ++ more) → all ++ more ≡ line ++ pending → NoFeed (line ++ pending)
+    → (e ≡ Fault → Took left after []) → e ≢ NoMemory → (e ≡ TooMuch → IsLongPiece left after taken) → ReadsNoLine e start input all after
+fill_failed start input more line pending all left after taken Fault took whole none stays known long = record {
+  more = more;
+  took = subst (λ (l : List ℕ). Took start after l) (append-nil (input ++ more)) (took-took start left after (input ++ more) [] took (stays refl));
+  is_ahead = subst NoFeed (sym whole) none;
+}
+fill_failed start input more line pending all left after taken NoMemory took whole none stays known long = absurd (known refl)
+fill_failed start input more line pending all left after taken TooMuch took whole none stays known long =
+    let piece = long refl in
+    record {
+      more = more ++ piece.0;
+      took = subst (λ (l : List ℕ). Took start after l) (append_assoc input more piece.0) (took-took start left after (input ++ more) piece.0 took piece.1);
+      is_ahead = tt;
+    }
+
+-- the last line that was read is ahead of the lines before it
+pub line_ahead : (all line : List ℕ) (r : Reader) → NoFeed line → IsNext all line (pending_of r) r.ended → IsLineAhead all
+line_ahead all line r none (inl fed) = record {
+  line = line;
+  rest = 10 ∷ pending_of r;
+  split = fed;
+  no_feed = none;
+  fits = omega (arith, pending_fits r);
+}
+line_ahead all line r none (inr last) = record {
+  line = line;
+  rest = [];
+  split = last.0 ∙ sym (append-nil line);
+  no_feed = none;
+  fits = omega arith;
+}

@@ -5,23 +5,24 @@ use Rattle.std.specs.Result.{IfOk}
 use Rattle.std.specs.Str.{IsUtf8, is_utf8}
 use Rattle.std.proofs.lemmas.Str.{is_utf8-from_IsUtf8, IsUtf8-from_is_utf8}
 use Rattle.std.proofs.lemmas.Bool.Decides.{nat_tests}
-use Rattle.sb_bus.specs.declared.said.Said.{Said}
-use Rattle.sb_bus.specs.declared.said.Said.TheVariants.{Blank, Faulty}
-use Rattle.sb_bus.specs.Lines.{is_blank, said, said_of, max_line}
+use Rattle.sb_bus.specs.declared.script_line.ScriptLine.{ScriptLine}
+use Rattle.sb_bus.specs.declared.script_line.ScriptLine.TheVariants.{Blank, Malformed}
+use Rattle.sb_bus.specs.Limits.{max_line}
+use Rattle.sb_bus.specs.Lines.{is_blank, script_line, script_line_of}
 use Rattle.sb_script.specs.Lines.{line_of}
 
 short : (n : ℕ) → n ≤ 2097152 → nat_lt 2097152 n ≡ false
 short n le = grind (arith, nat_tests)
 
-tested : (line : List ℕ) → is_blank line ≡ false → length line ≤ 2097152 → said line ≡ (if is_utf8 line then said_of (line_of line) else Faulty [])
+tested : (line : List ℕ) → is_blank line ≡ false → length line ≤ 2097152 → script_line line ≡ (if is_utf8 line then script_line_of (line_of line) else Malformed [])
 tested line some le =
-    ap (λ (b : Bool). if b then Blank else (if nat_lt max_line (length line) then Faulty (codes "line") else (if is_utf8 line then said_of (line_of line) else Faulty []))) some
-    ∙ ap (λ (b : Bool). if b then Faulty (codes "line") else (if is_utf8 line then said_of (line_of line) else Faulty [])) (short (length line) le)
+    ap (λ (b : Bool). if b then Blank else (if nat_lt max_line (length line) then Malformed (codes "line") else (if is_utf8 line then script_line_of (line_of line) else Malformed []))) some
+    ∙ ap (λ (b : Bool). if b then Malformed (codes "line") else (if is_utf8 line then script_line_of (line_of line) else Malformed [])) (short (length line) le)
 
-pub text_said : {E : Type 0} (line text : List ℕ) (r : Result Said E) → is_blank line ≡ false → length line ≤ 2097152 → text ≡ line → IsUtf8 line → IfOk r (λ x. x ≡ said_of (line_of text)) → IfOk r (λ x. x ≡ said line)
+pub text_said : {E : Type 0} (line text : List ℕ) (r : Result ScriptLine E) → is_blank line ≡ false → length line ≤ 2097152 → text ≡ line → IsUtf8 line → IfOk r (λ x. x ≡ script_line_of (line_of text)) → IfOk r (λ x. x ≡ script_line line)
 text_said line text r some le same utf8 says =
-    let is : said_of (line_of text) ≡ said line = ap (λ t. said_of (line_of t)) same ∙ sym (tested line some le ∙ ap (λ (b : Bool). if b then said_of (line_of line) else Faulty []) (is_utf8-from_IsUtf8 line utf8)) in
-    subst (λ (x : Said). IfOk r (λ y. y ≡ x)) is says
+    let is : script_line_of (line_of text) ≡ script_line line = ap (λ t. script_line_of (line_of t)) same ∙ sym (tested line some le ∙ ap (λ (b : Bool). if b then script_line_of (line_of line) else Malformed []) (is_utf8-from_IsUtf8 line utf8)) in
+    subst (λ (x : ScriptLine). IfOk r (λ y. y ≡ x)) is says
 
 not_text : (line : List ℕ) → (IsUtf8 line → ⊥) → is_utf8 line ≡ false
 not_text line bad = by_test (is_utf8 line) refl
@@ -30,5 +31,5 @@ not_text line bad = by_test (is_utf8 line) refl
     by_test true is = absurd (bad (IsUtf8-from_is_utf8 line is))
     by_test false is = is
 
-pub bytes_said : (line : List ℕ) → is_blank line ≡ false → length line ≤ 2097152 → (IsUtf8 line → ⊥) → Faulty [] ≡ said line
-bytes_said line some le bad = sym (tested line some le ∙ ap (λ (b : Bool). if b then said_of (line_of line) else Faulty []) (not_text line bad))
+pub bytes_said : (line : List ℕ) → is_blank line ≡ false → length line ≤ 2097152 → (IsUtf8 line → ⊥) → Malformed [] ≡ script_line line
+bytes_said line some le bad = sym (tested line some le ∙ ap (λ (b : Bool). if b then script_line_of (line_of line) else Malformed []) (not_text line bad))

@@ -4,9 +4,9 @@ use Rattle.std.proofs.lemmas.List.{take_all}
 use Rattle.std.proofs.lemmas.Bool.{eqb-true}
 use Rattle.std.proofs.lemmas.Bool.Decides.{nat_tests}
 use Rattle.std.specs.List.{position_or_len}
-use Rattle.sb_outside.specs.Streams.{Consumes, Ends}
-use Rattle.sb_bus.specs.Lines.{onto_first, lines_of}
-use Rattle.sb_bus.specs.Fronts.{NoFeed, Took, HasEnded}
+use Rattle.sb_outside.specs.Streams.{Consumes, Ends, Stays}
+use Rattle.sb_bus.specs.Lines.{onto_first, lines_of, NoFeed}
+use Rattle.sb_bus.specs.Taking.{Took, HasEnded}
 
 pub lines_of-feed : (front rest : List ℕ) → NoFeed front → lines_of (front ++ 10 ∷ rest) ≡ front ∷ lines_of rest
 lines_of-feed [] rest none = refl
@@ -71,6 +71,10 @@ ended_of (Some before) after n room into consumes ends some none = consumes.0 �
 pub took-none : (a : Option (List ℕ)) → Took a a []
 took-none None = tt
 took-none (Some before) = (before, refl, refl)
+
+pub stays_took : (a b : Option (List ℕ)) → Stays a b → Took a b []
+stays_took None b stays = tt
+stays_took (Some before) b stays = (before, refl, stays)
 
 pub took-took : (a b c : Option (List ℕ)) (x y : List ℕ) → Took a b x → Took b c y → Took a c (x ++ y)
 took-took None b c x y first second = tt

@@ -12,9 +12,10 @@ use Rattle.sb_model.specs.declared.reply.Refusal.TheVariants.{DiskFault, Stopped
 use Rattle.sb_model.specs.declared.state.State.{State}
 use Rattle.sb_node.specs.Nodes.{IsStep}
 use Rattle.sb_script.specs.Replies.{answer_line}
-use Rattle.sb_bus.specs.declared.said.Said.TheVariants.{Asked}
-use Rattle.sb_bus.specs.declared.serve.AnswerKind.TheVariants.{Accepted, Refused}
-use Rattle.sb_bus.specs.Runs.{kind_of, IsServed}
+use Rattle.sb_bus.specs.declared.script_line.ScriptLine.TheVariants.{Request}
+use Rattle.sb_bus.specs.declared.dispatch.AnswerKind.TheVariants.{Accepted, Refused}
+use Rattle.sb_bus.specs.Outside.{Output}
+use Rattle.sb_bus.specs.Runs.{kind_of, IsAnswered}
 
 refused_kind : (r : Refusal) → kind_of (Err r) ≡ Refused → is_fault (Err r) ≡ false
 refused_kind DiskFault is = absurd cc
@@ -63,10 +64,10 @@ stepped s after before stopped reading call a running step sound =
       runs = none_of stopped (step'.stop ∙ going_on a sound);
     }
 
-pub served : (s after : State) (asked : TimedCall) (a : Result Reply Refusal) (stopped : Option ℕ) (told told_after : Option (List ℕ)) (refused : Bool) → Stepped s asked.reading asked.call a stopped after → Gains told told_after (answer_line a) → is_err a ≡ refused
-    → IsServed s (Asked asked) told told_after after refused
-served s after asked a stopped told told_after refused step gains is = record {
-  written = subst (λ (x : Result Reply Refusal). Gains told told_after (answer_line x)) step.says gains;
+pub answered_call : (s after : State) (asked : TimedCall) (a : Result Reply Refusal) (stopped : Option ℕ) (was now : Output) (refused : Bool) → Stepped s asked.reading asked.call a stopped after → Gains was.given now.given (answer_line a) → is_err a ≡ refused
+    → IsAnswered s (Request asked) was now after refused
+answered_call s after asked a stopped was now refused step gains is = record {
+  written = subst (λ (x : Result Reply Refusal). Gains was.given now.given (answer_line x)) step.says gains;
   leads = step.leads;
   says = sym is ∙ ap is_err step.says;
 }

@@ -1,6 +1,11 @@
+pub mod Limits
+pub mod Outside
 pub mod Lines
-pub mod Fronts
+pub mod PartialLines
+pub mod Taking
 pub mod Readers
+pub mod Disks
+pub mod Nodes
 pub mod Runs
 pub mod Endings
 pub mod Tops

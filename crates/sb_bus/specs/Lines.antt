@@ -1,11 +1,12 @@
 -- The lines of a text, and what each says.
-use Rattle.std.specs.Prelude.{ℕ, List, [], ◌∷◌, length, Bool, ◌==◌, ◌||◌, nat_lt, if◌then◌else◌, codes, Result, Ok, Err}
+use Rattle.std.specs.Prelude.{◌≡◌, ℕ, List, [], ◌∷◌, ◌++◌, length, map, Bool, false, ◌==◌, ◌||◌, nat_lt, if◌then◌else◌, codes, Result, Ok, Err}
 use Rattle.std.specs.List.{list_all}
 use Rattle.std.specs.Str.{is_utf8}
 use Rattle.sb_model.specs.declared.call.TimedCall.{TimedCall}
-use Rattle.sb_bus.specs.declared.said.Said.{Said}
-use Rattle.sb_bus.specs.declared.said.Said.TheVariants.{Blank, Faulty, Asked}
+use Rattle.sb_bus.specs.declared.script_line.ScriptLine.{ScriptLine}
+use Rattle.sb_bus.specs.declared.script_line.ScriptLine.TheVariants.{Blank, Malformed, Request}
 use Rattle.sb_script.specs.Lines.{line_of}
+use Rattle.sb_bus.specs.Limits.{max_line}
 
 abbrev pub onto_first : ℕ → List (List ℕ) → List (List ℕ)
 onto_first b [] = (b ∷ []) ∷ []
@@ -23,14 +24,23 @@ is_space b = (b == 32) || (b == 9) || (b == 13)
 abbrev pub is_blank : List ℕ → Bool
 is_blank line = list_all is_space line
 
--- the most bytes of a line, without its line feed
-abbrev pub max_line : ℕ
-max_line = 2097152
+abbrev pub script_line_of : Result TimedCall (List ℕ) → ScriptLine
+script_line_of (Ok call) = Request call
+script_line_of (Err key) = Malformed key
 
-abbrev pub said_of : Result TimedCall (List ℕ) → Said
-said_of (Ok call) = Asked call
-said_of (Err key) = Faulty key
+-- What a line asks for: blank first, then the length, then whether it is text, then what the text says.
+abbrev pub script_line : List ℕ → ScriptLine
+script_line line = if is_blank line then Blank else (if nat_lt max_line (length line) then Malformed (codes "line") else (if is_utf8 line then script_line_of (line_of line) else Malformed []))
 
--- blank first, then the length, then whether it is text, then what the text says
-abbrev pub said : List ℕ → Said
-said line = if is_blank line then Blank else (if nat_lt max_line (length line) then Faulty (codes "line") else (if is_utf8 line then said_of (line_of line) else Faulty []))
+-- what the lines of an input ask for
+abbrev pub script_lines : List ℕ → List ScriptLine
+script_lines input = map script_line (lines_of input)
+
+-- these are whole lines: whatever follows begins a new one
+abbrev pub AreWhole : List ℕ → Type 0
+AreWhole done = (rest : List ℕ) → lines_of (done ++ rest) ≡ lines_of done ++ lines_of rest
+
+-- no line feed here
+abbrev pub NoFeed : List ℕ → Type 0
+NoFeed [] = Unit {0}
+NoFeed (b ∷ bs) = ((b == 10) ≡ false) × NoFeed bs

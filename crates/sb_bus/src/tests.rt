@@ -1,4 +1,5 @@
-// Whole runs over memory.
+// Whole runs over memory. A run's cases are rows of two lines: one that is read, and the one that
+// answers it.
 use crate::top::{top, top_alone};
 use sb_outside::{MemDisk, MemSink, MemSource, NoDoor, NoLink, StepClock};
 use std::test::Fail;
@@ -8,8 +9,6 @@ const RUN: [&str; 3] = ["run", "--data", "."];
 // That of the journal whose bytes docs/FORMATS.md has.
 const SALT: u64 = 0xa1b2_c3d4_e5f6_0718;
 
-const SETUP: &str = "{\"at\":0,\"do\":\"create-queue\",\"name\":\"q\"}\n";
-
 // The journal of the queue q that was made at moment 0.
 const ONE_EVENT: [u8; 87] = [
     0x01, 0x53, 0x42, 0x4e, 0x53, 0x4a, 0x52, 0x4e, 0x4c, 0x01, 0xa1, 0xb2, 0xc3, 0xd4, 0xe5, 0xf6,
@@ -18,37 +17,67 @@ const ONE_EVENT: [u8; 87] = [
     0, 0x3c, 0, 0, 0, 0, 0x0a, 0, 0, 0, 1, 0, 0, 0,
 ];
 
-const CREATE: &str = "{\"at\":5,\"do\":\"create-queue\",\"name\":\"Q\"}\n";
+const SETUP: &str = r#"
+{"at":0,"do":"create-queue","name":"q"}
+{"ok":"done"}
+"#;
 
-const SEND: &str =
-    "{\"at\":0,\"do\":\"send\",\"to\":\"q\",\"messages\":[{\"body\":\"a\"},{\"body_hex\":\"ff\"}]}\n";
+const CREATE: &str = r#"
+{"at":5,"do":"create-queue","name":"Q"}
+{"ok":"done"}
+"#;
 
-const PEEK: &str = "{\"do\":\"peek\",\"from\":\"q\",\"start\":2,\"count\":2}\n";
+const SEND: &str = r#"
+{"at":0,"do":"send","to":"q","messages":[{"body":"a"},{"body_hex":"ff"}]}
+{"numbers":[1,2],"ok":"sent"}
+"#;
 
-const RECEIVE: &str = "{\"at\":9,\"do\":\"receive\",\"from\":\"q\",\"mode\":\"delete\"}\n";
+const SEND_AGAIN: &str = r#"
+{"at":0,"do":"send","to":"q","messages":[{"body":"a"},{"body_hex":"ff"}]}
+{"numbers":[3,4],"ok":"sent"}
+"#;
 
-const LOST: &str = "{\"at\":9,\"do\":\"receive\",\"from\":\"x\",\"mode\":\"delete\"}";
+const SEND_FAILS: &str = r#"
+{"at":0,"do":"send","to":"q","messages":[{"body":"a"},{"body_hex":"ff"}]}
+{"refused":"DiskFault"}
+"#;
 
-const DONE: &str = "{\"ok\":\"done\"}\n";
+const PEEK: &str = r#"
+{"do":"peek","from":"q","start":2,"count":2}
+{"copies":[{"body_hex":"ff","delivery":0,"enqueued":5,"enqueued_seq":2,"props":{},"seq":2,"state":"ready","sys":{}}],"ok":"copies"}
+"#;
 
-const SENT: &str = "{\"numbers\":[1,2],\"ok\":\"sent\"}\n";
+const RECEIVE: &str = r#"
+{"at":9,"do":"receive","from":"q","mode":"delete"}
+{"message":{"body":"a","delivery":1,"enqueued":5,"enqueued_seq":1,"props":{},"seq":1,"sys":{}},"ok":"message"}
+"#;
 
-const COPIES: &str =
-    "{\"copies\":[{\"body_hex\":\"ff\",\"delivery\":0,\"enqueued\":5,\"enqueued_seq\":2,\"props\":{},\"seq\":2,\"state\":\"ready\",\"sys\":{}}],\"ok\":\"copies\"}\n";
+const RECEIVE_AGAIN: &str = r#"
+{"at":9,"do":"receive","from":"q","mode":"delete"}
+{"message":{"body_hex":"ff","delivery":1,"enqueued":5,"enqueued_seq":2,"props":{},"seq":2,"sys":{}},"ok":"message"}
+"#;
 
-const FIRST: &str =
-    "{\"message\":{\"body\":\"a\",\"delivery\":1,\"enqueued\":5,\"enqueued_seq\":1,\"props\":{},\"seq\":1,\"sys\":{}},\"ok\":\"message\"}\n";
+const RECEIVE_NONE: &str = r#"
+{"at":9,"do":"receive","from":"q","mode":"delete"}
+{"ok":"empty"}
+"#;
 
-const SECOND: &str =
-    "{\"message\":{\"body_hex\":\"ff\",\"delivery\":1,\"enqueued\":5,\"enqueued_seq\":2,\"props\":{},\"seq\":2,\"sys\":{}},\"ok\":\"message\"}\n";
+const RECEIVE_LOST: &str = r#"
+{"at":9,"do":"receive","from":"x","mode":"delete"}
+{"refused":"EntityNotFound"}
+"#;
 
-const EMPTY: &str = "{\"ok\":\"empty\"}\n";
-
-const NOT_FOUND: &str = "{\"refused\":\"EntityNotFound\"}\n";
-
-const FAILED: &str = "{\"refused\":\"DiskFault\"}\n";
-
-const TAKEN: &str = "{\"refused\":\"EntityExists\"}\n";
+// Lines that are refused.
+const BAD_LINES: &str = r#"
+[
+{"key":"","refused":"BadCall"}
+{"do":"peek","from":"q","start":1,"count":0}
+{"key":"count","refused":"BadCall"}
+{"do":"create-queue","name":"q"}
+{"refused":"EntityExists"}
+{"do":"create-queue","name":"q b"}
+{"refused":"BadName"}
+"#;
 
 const USAGE: &str = "usage: bus COMMAND (run, serve, client, check, drill)\n";
 
@@ -72,17 +101,40 @@ struct Case<'a> {
     words: &'a [&'a str],
     disk: &'a [u8],
     failing: Failing,
-    script: &'a [&'a str],
-    told: &'a [&'a str],
+    script: &'a [u8],
+    told: &'a [u8],
     status: u8,
 }
 
-fn joined(rt: &HostRuntime, parts: &[&str]) -> Result<Vec<u8>, Fail> {
-    let mut all = Vec::new(rt.alloc());
+// The lines that are read, and the lines that answer them.
+#[derive(Drop)]
+struct Rows {
+    script: Vec<u8>,
+    told: Vec<u8>,
+}
+
+fn with_line(mut lines: Vec<u8>, line: &str) -> Result<Vec<u8>, Fail> {
+    lines.extend_from_slice(line.as_bytes())?;
+    lines.push(b'\n')?;
+    Ok(lines)
+}
+
+// Those of rows of two lines.
+fn rows_of(rt: &HostRuntime, parts: &[&str]) -> Result<Rows, Fail> {
+    let mut script = Vec::new(rt.alloc());
+    let mut told = Vec::new(rt.alloc());
     for part in parts {
-        all.extend_from_slice(part.as_bytes())?;
+        let mut is_answer = false;
+        for line in part.trim_start().lines() {
+            if is_answer {
+                told = with_line(told, line)?;
+            } else {
+                script = with_line(script, line)?;
+            }
+            is_answer = !is_answer;
+        }
     }
-    Ok(all)
+    Ok(Rows { script, told })
 }
 
 fn listed(rt: &HostRuntime, call: Option<u64>) -> Result<Vec<u64>, Fail> {
@@ -102,7 +154,11 @@ fn leaves(rt: &HostRuntime, case: Case<'_>) -> Result<Vec<u8>, Fail> {
         listed(rt, case.failing.disk)?,
     )?;
     let disk_b = MemDisk::new(alloc, Vec::new(alloc), Vec::new(alloc))?;
-    let mut input = MemSource::new(joined(rt, case.script)?, 7, listed(rt, case.failing.input)?);
+    let mut input = MemSource::new(
+        case.script.to_vec(alloc)?,
+        7,
+        listed(rt, case.failing.input)?,
+    );
     let mut output = MemSink::new(alloc, 4096, listed(rt, case.failing.output)?)?;
     let mut doors: Vec<NoDoor> = Vec::new(alloc);
     let clock = StepClock::new(0, 1);
@@ -119,8 +175,7 @@ fn leaves(rt: &HostRuntime, case: Case<'_>) -> Result<Vec<u8>, Fail> {
         &mut doors,
         &mut NoLink::new(),
     );
-    let told = joined(rt, case.told)?;
-    if output.bytes() != told.as_slice() {
+    if output.bytes() != case.told {
         return Err(Fail::from("other lines were written"));
     }
     if status != case.status {
@@ -135,81 +190,66 @@ fn leaves(rt: &HostRuntime, case: Case<'_>) -> Result<Vec<u8>, Fail> {
     Ok(disk_a.bytes().to_vec(alloc)?)
 }
 
-// A run over lines that are all read and answered.
-fn answers<'a>(disk: &'a [u8], script: &'a [&'a str], told: &'a [&'a str], status: u8) -> Case<'a> {
-    Case {
+// The bytes that a run over these rows leaves, each line of which is answered.
+fn left_by(rt: &HostRuntime, disk: &[u8], parts: &[&str], status: u8) -> Result<Vec<u8>, Fail> {
+    let rows = rows_of(rt, parts)?;
+    let case = Case {
         words: &RUN,
         disk,
         failing: NOTHING,
-        script,
-        told,
+        script: &rows.script,
+        told: &rows.told,
         status,
-    }
+    };
+    leaves(rt, case)
 }
 
 #[test]
 fn later_runs_go_on(rt: HostRuntime) -> Result<(), Fail> {
-    let made = leaves(&rt, answers(&[], &[], &[], 0))?;
+    let made = left_by(&rt, &[], &[], 0)?;
     assert_eq!(rt;
         made.as_slice(),
         [&ONE_EVENT[..42], &[0]].concat(rt.alloc())?.as_slice()
     );
-    let setup = leaves(&rt, answers(&[], &[SETUP], &[DONE], 0))?;
+    let setup = left_by(&rt, &[], &[SETUP], 0)?;
     assert_eq!(rt; setup.as_slice(), &ONE_EVENT[..]);
     let first = [CREATE, SEND, PEEK, RECEIVE];
-    let left = leaves(&rt, answers(&made, &first, &[DONE, SENT, COPIES, FIRST], 0))?;
+    let left = left_by(&rt, &made, &first, 0)?;
     assert_eq!(rt; left.len(), 186);
-    let again = leaves(&rt, answers(&[], &first, &[DONE, SENT, COPIES, FIRST], 0))?;
+    let again = left_by(&rt, &[], &first, 0)?;
     assert_eq!(rt; left.as_slice(), again.as_slice());
-    let taken = leaves(
-        &rt,
-        answers(&left, &[RECEIVE, RECEIVE], &[SECOND, EMPTY], 0),
-    )?;
-    let after = leaves(&rt, answers(&taken, &[LOST], &[NOT_FOUND], 1))?;
+    let taken = left_by(&rt, &left, &[RECEIVE_AGAIN, RECEIVE_NONE], 0)?;
+    let after = left_by(&rt, &taken, &[RECEIVE_LOST], 1)?;
     assert_eq!(rt; after.as_slice(), taken.as_slice());
     Ok(())
 }
 
-// The bytes that a run over one line leaves.
-fn left_by_line(
+#[test]
+fn refused_lines_change_nothing(rt: HostRuntime) -> Result<(), Fail> {
+    let made = left_by(&rt, &[], &[CREATE], 0)?;
+    assert_eq!(rt; made.len(), 87);
+    let after = left_by(&rt, &made, &[BAD_LINES], 1)?;
+    assert_eq!(rt; after.as_slice(), made.as_slice());
+    Ok(())
+}
+
+// The bytes that a run over this text, answered so, leaves.
+fn left_by_text(
     rt: &HostRuntime,
     disk: &[u8],
-    line: &str,
+    script: &str,
     told: &str,
     status: u8,
 ) -> Result<Vec<u8>, Fail> {
-    leaves(rt, answers(disk, &[line], &[told], status))
-}
-
-#[test]
-fn bad_lines_change_nothing(rt: HostRuntime) -> Result<(), Fail> {
-    let made = leaves(&rt, answers(&[], &[CREATE], &[DONE], 0))?;
-    assert_eq!(rt; made.len(), 87);
-    let rows = [
-        ("[", "{\"key\":\"\",\"refused\":\"BadCall\"}\n", 1),
-        (
-            "{\"do\":\"peek\",\"from\":\"q\",\"start\":1,\"count\":0}",
-            "{\"key\":\"count\",\"refused\":\"BadCall\"}\n",
-            1,
-        ),
-        (
-            "{\"do\":\"create-queue\",\"name\":\"q\"}\r\n",
-            "{\"refused\":\"EntityExists\"}\n",
-            1,
-        ),
-        (
-            "{\"do\":\"create-queue\",\"name\":\"q b\"}",
-            "{\"refused\":\"BadName\"}\n",
-            1,
-        ),
-        (" \t\r\n\n  ", "", 0),
-    ];
-    for row in &rows {
-        let (line, told, status) = *row;
-        let after = left_by_line(&rt, &made, line, told, status)?;
-        assert_eq!(rt; after.as_slice(), made.as_slice());
-    }
-    Ok(())
+    let case = Case {
+        words: &RUN,
+        disk,
+        failing: NOTHING,
+        script: script.as_bytes(),
+        told: told.as_bytes(),
+        status,
+    };
+    leaves(rt, case)
 }
 
 // The first bytes with one of them changed.
@@ -232,7 +272,7 @@ fn is_damaged(rt: &HostRuntime, file: &[u8], change: (usize, u8, u64)) -> Result
     let (place, byte, damage) = change;
     let bytes = changed(rt, file, place, byte)?;
     let told = damaged_at(rt, damage)?;
-    let after = left_by_line(rt, &bytes, RECEIVE, told.as_str(), 6)?;
+    let after = left_by_text(rt, &bytes, RECEIVE, told.as_str(), 6)?;
     if after.as_slice() != bytes.as_slice() {
         return Err(Fail::from("a damaged file was written"));
     }
@@ -242,8 +282,7 @@ fn is_damaged(rt: &HostRuntime, file: &[u8], change: (usize, u8, u64)) -> Result
 // Three records: gates at 42, 86 and 152, the end gate at 185.
 #[test]
 fn damage_has_its_place(rt: HostRuntime) -> Result<(), Fail> {
-    let script = [CREATE, SEND, RECEIVE];
-    let file = leaves(&rt, answers(&[], &script, &[DONE, SENT, FIRST], 0))?;
+    let file = left_by(&rt, &[], &[CREATE, SEND, RECEIVE], 0)?;
     assert_eq!(rt; file.len(), 186);
     let rows = [
         // The head: magic, version, generation 0 and above 2^62, first number the same, base.
@@ -273,9 +312,29 @@ fn damage_has_its_place(rt: HostRuntime) -> Result<(), Fail> {
     }
     let told = damaged_at(&rt, 152)?;
     let cut = file.get(..170).ok_or("a front of the file")?;
-    left_by_line(&rt, cut, RECEIVE, told.as_str(), 6)?;
+    left_by_text(&rt, cut, RECEIVE, told.as_str(), 6)?;
     let without_gate = file.get(..185).ok_or("a front of the file")?;
-    left_by_line(&rt, without_gate, RECEIVE, SECOND, 0)?;
+    left_by(&rt, without_gate, &[RECEIVE_AGAIN], 0)?;
+    Ok(())
+}
+
+// Lines of blanks and line feeds alone, a last line without a line feed, and one behind a carriage
+// return.
+#[test]
+fn line_ends(rt: HostRuntime) -> Result<(), Fail> {
+    let rows = [
+        (" \t\r\n\n  ", "", 0),
+        ("[", "{\"key\":\"\",\"refused\":\"BadCall\"}\n", 1),
+        (
+            "{\"do\":\"create-queue\",\"name\":\"q\"}\r\n",
+            "{\"ok\":\"done\"}\n",
+            0,
+        ),
+    ];
+    for row in &rows {
+        let (script, told, status) = *row;
+        left_by_text(&rt, &[], script, told, status)?;
+    }
     Ok(())
 }
 
@@ -323,56 +382,57 @@ fn lines_that_are_no_text(rt: HostRuntime) -> Result<(), Fail> {
     Ok(())
 }
 
-// The bytes that a run over one line leaves whose disk fails at a call.
+// The bytes that a run over one row leaves whose disk fails at a call.
 fn left_by_failing(
     rt: &HostRuntime,
     disk: &[u8],
     call: u64,
-    told: &str,
+    row: &str,
     status: u8,
 ) -> Result<Vec<u8>, Fail> {
-    let failing = Failing {
-        disk: Some(call),
-        ..NOTHING
-    };
-    leaves(
-        rt,
-        Case {
-            words: &RUN,
-            disk,
-            failing,
-            script: &[CREATE],
-            told: &[told],
-            status,
+    let rows = rows_of(rt, &[row])?;
+    let unopened = call < 3;
+    let case = Case {
+        words: &RUN,
+        disk,
+        failing: Failing {
+            disk: Some(call),
+            ..NOTHING
         },
-    )
+        script: &rows.script,
+        told: if unopened { &[] } else { &rows.told },
+        status,
+    };
+    leaves(rt, case)
 }
 
-// Each call of the disk fails in turn: opening reads in three calls and an append makes four. What
-// was synced with its gate is there for the next run, and no more.
+// Each call of the disk fails in turn, over a journal that has an event: opening reads in three calls
+// and an append makes four. What was there is there for the next run, with what was synced with its
+// gate, and no more.
 #[test]
 fn each_disk_call_fails(rt: HostRuntime) -> Result<(), Fail> {
-    let made = leaves(&rt, answers(&[], &[], &[], 0))?;
     let rows = [
-        (0, "", 5, DONE, 0),
-        (1, "", 5, DONE, 0),
-        (2, "", 5, DONE, 0),
-        (3, FAILED, 5, DONE, 0),
-        (4, FAILED, 5, DONE, 0),
-        (5, FAILED, 5, DONE, 0),
-        (6, FAILED, 5, TAKEN, 1),
-        (7, DONE, 0, TAKEN, 1),
+        (0, SEND, 5, SEND),
+        (1, SEND, 5, SEND),
+        (2, SEND, 5, SEND),
+        (3, SEND_FAILS, 5, SEND),
+        (4, SEND_FAILS, 5, SEND),
+        (5, SEND_FAILS, 5, SEND),
+        (6, SEND_FAILS, 5, SEND_AGAIN),
+        (7, SEND, 0, SEND_AGAIN),
     ];
     for row in &rows {
-        let (call, told, status, next, next_status) = *row;
-        let left = left_by_failing(&rt, &made, call, told, status)?;
-        left_by_line(&rt, &left, CREATE, next, next_status)?;
+        let (call, first, status, next) = *row;
+        let left = left_by_failing(&rt, &ONE_EVENT, call, first, status)?;
+        left_by(&rt, &left, &[next], 0)?;
     }
     Ok(())
 }
 
 #[test]
 fn each_status_has_its_cause(rt: HostRuntime) -> Result<(), Fail> {
+    let one = rows_of(&rt, &[CREATE])?;
+    let two = rows_of(&rt, &[CREATE, PEEK])?;
     let no_disk = Failing {
         disk: Some(0),
         ..NOTHING
@@ -385,7 +445,6 @@ fn each_status_has_its_cause(rt: HostRuntime) -> Result<(), Fail> {
         output: Some(0),
         ..NOTHING
     };
-    let run = answers(&[], &[CREATE], &[], 0);
     // The first line is 40 bytes, in six reads of 7 bytes at most.
     let late_input = Failing {
         input: Some(6),
@@ -395,48 +454,36 @@ fn each_status_has_its_cause(rt: HostRuntime) -> Result<(), Fail> {
         output: Some(1),
         ..NOTHING
     };
-    let two_lines = answers(&[], &[CREATE, PEEK], &[DONE], 0);
-    let cases = [
-        Case {
-            failing: late_input,
-            status: 3,
-            ..two_lines
-        },
-        Case {
-            failing: late_output,
-            status: 4,
-            ..two_lines
-        },
-        Case {
-            words: &["serve"],
-            told: &[USAGE],
-            status: 2,
-            ..run
-        },
-        Case {
-            words: &["run", "--data"],
-            told: &[USAGE],
-            status: 2,
-            ..run
-        },
-        Case {
-            failing: no_input,
-            status: 3,
-            ..run
-        },
-        Case {
-            failing: no_output,
-            status: 4,
-            ..run
-        },
-        Case {
-            failing: no_disk,
-            status: 5,
-            ..run
-        },
+    let rows: [(Failing, &[u8], u8); 5] = [
+        (late_input, &one.told, 3),
+        (late_output, &one.told, 4),
+        (no_input, &[], 3),
+        (no_output, &[], 4),
+        (no_disk, &[], 5),
     ];
-    for case in &cases {
-        leaves(&rt, *case)?;
+    for row in &rows {
+        let (failing, told, status) = *row;
+        let case = Case {
+            words: &RUN,
+            disk: &[],
+            failing,
+            script: &two.script,
+            told,
+            status,
+        };
+        leaves(&rt, case)?;
+    }
+    let no_forms: [&[&str]; 2] = [&["serve"], &["run", "--data"]];
+    for words in &no_forms {
+        let case = Case {
+            words: *words,
+            disk: &[],
+            failing: NOTHING,
+            script: &one.script,
+            told: USAGE.as_bytes(),
+            status: 2,
+        };
+        leaves(&rt, case)?;
     }
     Ok(())
 }

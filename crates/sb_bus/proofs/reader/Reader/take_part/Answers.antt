@@ -1,5 +1,5 @@
 use Rattle.std.proofs.Common.{◌≡◌, ◌+◌, ◌++◌, ◌==◌, ℕ, List, Some, None, position, sym, ◌∙◌, ap, subst, take}
-use Rattle.sb_bus.specs.Fronts.{StandsFor}
+use Rattle.sb_bus.specs.PartialLines.{StandsFor}
 use Rattle.sb_bus.specs.Readers.{pending_of}
 use Rattle.sb_bus.proofs.Splits.{position-none}
 use Rattle.sb_bus.proofs.Pending.{pending_on, pending_none, found_within, split_pending}

@@ -1,17 +1,15 @@
 // The part of a line that was read so far.
 ghost use Rattle.std.specs.Prelude.{◌≡◌, ◌++◌, [], ◌∷◌, ℕ, List, length, IfOk, OnOk};
 ghost use Rattle.std.specs.List.{list_all};
-ghost use Rattle.sb_bus.specs.Lines.{is_blank, is_space, said};
-ghost use Rattle.sb_bus.specs.Fronts.{StandsFor, IsLastOf};
+ghost use Rattle.sb_bus.specs.Lines.{is_blank, is_space, script_line};
+ghost use Rattle.sb_bus.specs.PartialLines.{StandsFor, IsLastOf};
 
+use crate::limits::MAX_LINE;
 use std::alloc::{AllocError, Global};
-
-/// The most bytes of a line, without its line feed.
-pub const MAX_LINE: usize = 2_097_152;
 
 /// What is kept of a line: its bytes, or of a line that is too long whether it is blank so far.
 #[derive(Drop)]
-pub enum Front {
+pub enum PartialLine {
     Short(Vec<u8>),
     Long(bool),
 }
@@ -30,33 +28,33 @@ pub fn is_blank_line(bytes: &[u8]) -> bool
 }
 
 /// These bytes follow.
-pub fn extended(front: Front, bytes: &[u8]) -> Result<Front, AllocError>
-    ensures { (line : List ℕ) → StandsFor front line → IfOk result (λ f. StandsFor f (line ++ bytes.now)) }
+pub fn extended(partial: PartialLine, bytes: &[u8]) -> Result<PartialLine, AllocError>
+    ensures { (line : List ℕ) → StandsFor partial line → IfOk result (λ p. StandsFor p (line ++ bytes.now)) }
 {
-    match front {
-        Front::Short(mut kept) => {
+    match partial {
+        PartialLine::Short(mut kept) => {
             if bytes.len() > MAX_LINE.saturating_sub(kept.len()) {
-                return Ok(Front::Long(is_blank_line(&kept) && is_blank_line(bytes)));
+                return Ok(PartialLine::Long(is_blank_line(&kept) && is_blank_line(bytes)));
             }
             kept.extend_from_slice(bytes)?;
-            Ok(Front::Short(kept))
+            Ok(PartialLine::Short(kept))
         }
-        Front::Long(blank) => Ok(Front::Long(blank && is_blank_line(bytes))),
+        PartialLine::Long(blank) => Ok(PartialLine::Long(blank && is_blank_line(bytes))),
     }
 }
 
 /// What was read of a line as the source ended: a last line, if there is any of it.
-pub fn last_line(front: Front) -> Option<Front>
-    ensures { (line : List ℕ) → StandsFor front line → IsLastOf line result }
+pub fn last_line(partial: PartialLine) -> Option<PartialLine>
+    ensures { (line : List ℕ) → StandsFor partial line → IsLastOf line result }
 {
-    match front {
-        Front::Short(kept) => {
+    match partial {
+        PartialLine::Short(kept) => {
             if kept.is_empty() {
                 None
             } else {
-                Some(Front::Short(kept))
+                Some(PartialLine::Short(kept))
             }
         }
-        Front::Long(blank) => Some(Front::Long(blank)),
+        PartialLine::Long(blank) => Some(PartialLine::Long(blank)),
     }
 }

@@ -1,0 +1,52 @@
+// What a line of the script asks for.
+ghost use Rattle.std.specs.Prelude.{◌≡◌, ◌≤◌, ℕ, List, length, IfOk};
+ghost use Rattle.sb_bus.specs.Limits.{max_line};
+ghost use Rattle.sb_bus.specs.Lines.{script_line, script_line_of};
+ghost use Rattle.sb_bus.specs.PartialLines.{StandsFor};
+ghost use Rattle.sb_script.specs.Lines.{line_of};
+
+use crate::partial_line::{PartialLine, is_blank_line};
+use sb_model::{Text, TimedCall};
+use sb_script::{LineFault, read_line};
+use std::alloc::{AllocError, Global};
+
+/// What a line asks for: nothing, no call by the fault of a key, or a call.
+#[derive(Drop)]
+pub enum ScriptLine {
+    Blank,
+    Malformed(Text),
+    Request(TimedCall),
+}
+
+fn parse_text(alloc: Global, text: &str) -> Result<ScriptLine, AllocError>
+    ensures { IfOk result (λ x. x ≡ script_line_of (line_of text.now)) }
+{
+    match read_line(alloc, text) {
+        Ok(call) => Ok(ScriptLine::Request(call)),
+        Err(LineFault::BadKey { key }) => Ok(ScriptLine::Malformed(key)),
+        Err(LineFault::OutOfMemory) => Err(AllocError),
+    }
+}
+
+fn parse_bytes(alloc: Global, line: &[u8]) -> Result<ScriptLine, AllocError>
+    ensures { length line.now ≤ max_line → IfOk result (λ x. x ≡ script_line line.now) }
+{
+    if is_blank_line(line) {
+        return Ok(ScriptLine::Blank);
+    }
+    match std::str::from_utf8(line) {
+        Ok(text) => parse_text(alloc, text),
+        Err(_) => Ok(ScriptLine::Malformed(Text::of(alloc, "")?)),
+    }
+}
+
+/// What a line that was read asks for.
+pub fn parse_line(alloc: Global, partial: PartialLine) -> Result<ScriptLine, AllocError>
+    ensures { (line : List ℕ) → StandsFor partial line → IfOk result (λ x. x ≡ script_line line) }
+{
+    match partial {
+        PartialLine::Short(kept) => parse_bytes(alloc, &kept),
+        PartialLine::Long(true) => Ok(ScriptLine::Blank),
+        PartialLine::Long(false) => Ok(ScriptLine::Malformed(Text::of(alloc, "line")?)),
+    }
+}
