@@ -3,7 +3,6 @@ use Rattle.std.proofs.Common.{◌≡◌, ◌≤◌, ◌⊎◌, inl, inr, ℕ, Li
 use Rattle.std.proofs.lemmas.List.{append-nil, map-append}
 use Rattle.sb_outside.specs.Streams.{Gains}
 use Rattle.sb_outside.proofs.Gains.{gains-gains, gains-none}
-use Rattle.sb_model.specs.Answers.{Row, refuses, stays, moves, state_in, row_of, moment_of}
 use Rattle.sb_model.specs.declared.state.State.{State}
 use Rattle.sb_bus.specs.declared.partial_line.PartialLine.{PartialLine}
 use Rattle.sb_bus.specs.declared.reader.Reader.{Reader}
@@ -191,14 +190,3 @@ ended_run Safe s state was now left r next refused so_far reads moments =
       says = so_far.says ∙ ap (λ (l : List ℕ). any_refused s (script_lines l)) (sym all);
       moments = λ safe. followed_says s _ _ was.disks now.disks (ap script_lines (sym all)) (moments safe);
     }
-
-state_in_early : (s : State) (t : ℕ) (row : Row) → s.now ≤ 253402214400000 → t ≤ 253402214400000 → (state_in s t row).now ≤ 253402214400000
-state_in_early s t (refuses r) before early = before
-state_in_early s t (stays reply) before early = before
-state_in_early s t (moves next reply) before early = early
-
--- a line never leads past the last moment
-pub state_by_early : (s : State) (x : ScriptLine) → s.now ≤ 253402214400000 → (state_by s x).now ≤ 253402214400000
-state_by_early s Blank early = early
-state_by_early s (Malformed key) early = early
-state_by_early s (Request a) early = state_in_early s (moment_of s a.reading) (row_of s (moment_of s a.reading) a.call) early (omega arith)

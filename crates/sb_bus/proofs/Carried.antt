@@ -6,15 +6,17 @@ use Rattle.sb_journal.specs.declared.found.Side.{Side}
 use Rattle.sb_journal.specs.declared.found.OpenWhy.{OpenWhy}
 use Rattle.sb_journal.specs.declared.found.OpenWhy.TheVariants.{Damaged, DiskFault as FailedDisk, OutOfMemory as NoMemory}
 use Rattle.sb_model.specs.declared.state.State.{State}
-use Rattle.sb_node.specs.Recovery.{damaged, Recovers}
+use Rattle.sb_journal.specs.Disks.{Disks, AreHonest, AreUnwritten, IsAtRest, KeepFound, HaveFailed, AreQuiet, SameHonesty}
+use Rattle.sb_node.specs.Recovery.{damaged, Recovers, recovered_on}
+use Rattle.sb_node.specs.Nodes.{IsDurable}
+use Rattle.sb_bus.specs.Outside.{Input, Output, Outside}
 use Rattle.sb_bus.specs.declared.ending.RunEnd.{RunEnd}
 use Rattle.sb_bus.specs.declared.ending.RunEnd.TheVariants.{ReadFault, WriteFault, DiskFault, OutOfMemory, LongInput}
-use Rattle.sb_bus.specs.Outside.{Input, Output, Disks, Outside}
-use Rattle.sb_bus.specs.Disks.{AreHonest, recovered_on, IsDurable, AreUnwritten, AreAtRest, KeepFound, HaveFailed, AreQuiet}
 use Rattle.sb_bus.specs.Taking.{IsLong}
 use Rattle.sb_bus.specs.Runs.{IsScriptRun, state_after_all, status_by}
 use Rattle.sb_bus.specs.Endings.{LastLine, IsLineWritten, EndsAt, IsCutRun, status_of_end}
 use Rattle.sb_bus.specs.Tops.{folder_in, IsEarly, IsUnopened, IsRefused, IsDamageReported, usage_line, IsRunStatus, IsStatus, IsShort, IsFree, IsComplete, IsCarriedOut}
+use Rattle.sb_bus.proofs.Faults.{quiet_on, failed_on, honest_on}
 use Rattle.sb_bus.proofs.Statuses.{no_five, no_disk_end, no_two_whole, no_two_end}
 use Rattle.sb_bus.proofs.Whole.{IsOpened, opened, whole_run}
 use Rattle.sb_bus.proofs.Early.{early_run}
@@ -38,9 +40,9 @@ usage_alone words salt was output none written = record {
   write_fault = λ four. absurd cc;
   write_quiet = λ refused is. no_two_whole refused _ is;
   disk_fault = λ five. absurd cc;
-  disk_quiet = λ other. refl;
+  disk_quiet = λ other. (refl, refl);
   complete = λ some honest free. no_some words _ none some;
-  honesty = refl;
+  honesty = (refl, refl);
 }
 
 -- ---- an opening that failed
@@ -63,11 +65,11 @@ pub record IsFailed (salt : ℕ) (was : Disks) (now : Disks) (out out_after : Ou
   pub other : status ≢ 5 → why ≢ FailedDisk
   pub broken : AreHonest was → (side : Side) (place : ℕ) → why ≡ Damaged side place → recovered_on was salt ≡ damaged side place
   pub untouched : AreHonest was → why ≢ FailedDisk → AreUnwritten was now
-  pub rests : AreHonest was → (side : Side) (place : ℕ) → why ≡ Damaged side place → AreAtRest was now
+  pub rests : AreHonest was → (side : Side) (place : ℕ) → why ≡ Damaged side place → IsAtRest side was now
   pub keeps : AreHonest was → KeepFound salt was now
   pub cause : why ≡ FailedDisk → HaveFailed was now
   pub quiet : why ≢ FailedDisk → AreQuiet was now
-  pub honesty : now.a.honest ≡ was.a.honest
+  pub honesty : SameHonesty was now
 
 unopened_by : (salt : ℕ) (was : Outside) (disks : Disks) (output : Output) (why : OpenWhy) (status : ℕ) → IsFailed salt was.disks disks was.output output why status → (end : RunEnd) → status ≡ status_of_end end → IsUnopened salt was (record was { output = output; disks = disks }) end
 unopened_by salt was disks output why status fails ReadFault is = absurd (omega (arith, is, (between status fails.known).0))
@@ -89,7 +91,7 @@ unopened_by salt was disks output why status fails OutOfMemory is = record {
 unopened_by salt was disks output why status fails LongInput is = absurd (omega (arith, is, (between status fails.known).1))
 
 refused_by : (salt : ℕ) (was : Outside) (disks : Disks) (output : Output) (why : OpenWhy) → (AreHonest was.disks → (side : Side) (place : ℕ) → why ≡ Damaged side place → recovered_on was.disks salt ≡ damaged side place)
-    → (AreHonest was.disks → why ≢ FailedDisk → AreUnwritten was.disks disks) → (AreHonest was.disks → (side : Side) (place : ℕ) → why ≡ Damaged side place → AreAtRest was.disks disks) → IsDamageReported why was.output output → IsRefused salt was (record was { output = output; disks = disks })
+    → (AreHonest was.disks → why ≢ FailedDisk → AreUnwritten was.disks disks) → (AreHonest was.disks → (side : Side) (place : ℕ) → why ≡ Damaged side place → IsAtRest side was.disks disks) → IsDamageReported why was.output output → IsRefused salt was (record was { output = output; disks = disks })
 refused_by salt was disks output (Damaged side place) broken untouched rests reported = record {
   side = side;
   place = place;
@@ -153,7 +155,7 @@ pub record IsEnded (Safe : Type 0) (salt : ℕ) (start : State) (was now : Outsi
   pub disk_fault : status ≡ 5 → HaveFailed was.disks now.disks
   pub disk_quiet : status ≢ 5 → AreQuiet was.disks now.disks
   pub known : IsRunStatus status
-  pub honesty : now.disks.a.honest ≡ was.disks.a.honest
+  pub honesty : SameHonesty was.disks now.disks
 
 no_two : (status : ℕ) → IsRunStatus status → status ≢ 2
 no_two status (inl whole) two = no_two_whole whole.0 _ (sym two ∙ whole.1)
@@ -189,9 +191,6 @@ short_long (Some all) left_after short long =
 rose_of : (before now : ℕ) → RoseByOne before now → Rose before now
 rose_of before now one = omega (arith, one)
 
-failed_from : (was ready now : Disks) → AreQuiet was ready → HaveFailed ready now → HaveFailed was now
-failed_from was ready now same failed = subst (λ n. RoseByOne n now.a.faults) same failed
-
 -- where nothing keeps a run from taking its input, all its lines are answered or memory is wanting
 complete_by : (Safe : Type 0) (salt : ℕ) (was now : Outside) (ready : Disks) (start state : State) (status : ℕ) → AreQuiet was.disks ready → IsEnded Safe salt start (opened was ready) now state status → IsFree salt was now → IsComplete status
 complete_by Safe salt was now ready start state status same runs free = by_status runs.known
@@ -199,7 +198,7 @@ complete_by Safe salt was now ready start state status same runs free = by_statu
     by_end : (end : RunEnd) → status ≡ status_of_end end → IsComplete status
     by_end ReadFault is = absurd (free.input_quiet (rose_of _ _ (runs.read_fault is)))
     by_end WriteFault is = absurd (free.output_quiet (rose_of _ _ (write_cut Safe start (opened was ready) now state (runs.cut WriteFault is))))
-    by_end DiskFault is = absurd (free.disk_quiet (failed_from was.disks ready now.disks same (runs.disk_fault is)))
+    by_end DiskFault is = absurd (free.disk_quiet (failed_on was.disks ready now.disks same (runs.disk_fault is)))
     by_end OutOfMemory is = inr is
     by_end LongInput is = absurd (short_long was.input.left now.input.left free.short ((runs.cut LongInput is).long refl))
 
@@ -220,8 +219,8 @@ run_over words folder Safe salt was now ready start state status some opening ru
   read_quiet = runs.read_quiet;
   write_fault = λ four. write_cut Safe start (opened was ready) now state (runs.cut WriteFault four);
   write_quiet = runs.passed;
-  disk_fault = λ five. failed_from was.disks ready now.disks opening.quiet (runs.disk_fault five);
-  disk_quiet = λ other. runs.disk_quiet other ∙ opening.quiet;
+  disk_fault = λ five. failed_on was.disks ready now.disks opening.quiet (runs.disk_fault five);
+  disk_quiet = λ other. quiet_on was.disks ready now.disks opening.quiet (runs.disk_quiet other);
   complete = λ named honest free. complete_by Safe salt was now ready start state status opening.quiet runs free;
-  honesty = runs.honesty ∙ opening.honesty;
+  honesty = honest_on was.disks ready now.disks opening.honesty runs.honesty;
 }

@@ -11,10 +11,10 @@ use Rattle.sb_model.specs.declared.reply.Refusal.{Refusal}
 use Rattle.sb_model.specs.declared.reply.Refusal.TheVariants.{DiskFault, Stopped, OutOfMemory}
 use Rattle.sb_model.specs.declared.state.State.{State}
 use Rattle.sb_node.specs.Nodes.{IsStep}
+use Rattle.sb_bus.specs.Outside.{Output}
 use Rattle.sb_script.specs.Replies.{answer_line}
 use Rattle.sb_bus.specs.declared.script_line.ScriptLine.TheVariants.{Request}
 use Rattle.sb_bus.specs.declared.dispatch.AnswerKind.TheVariants.{Accepted, Refused}
-use Rattle.sb_bus.specs.Outside.{Output}
 use Rattle.sb_bus.specs.Runs.{kind_of, IsAnswered}
 
 refused_kind : (r : Refusal) → kind_of (Err r) ≡ Refused → is_fault (Err r) ≡ false

@@ -4,7 +4,6 @@ pub mod Lines
 pub mod PartialLines
 pub mod Taking
 pub mod Readers
-pub mod Disks
 pub mod Nodes
 pub mod Runs
 pub mod Endings

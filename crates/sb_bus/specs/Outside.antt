@@ -1,10 +1,9 @@
--- The outside of a call, before it and after it: what an input has left, what an output was given, what two disks hold and held, and how
--- many faults each has counted.
-use Rattle.std.specs.Prelude.{ℕ, List, Bool, Option}
-use Rattle.sb_outside.specs.Held.{Held}
+-- The outside of a call, before it and after it: an input, an output and two disks.
+use Rattle.std.specs.Prelude.{ℕ, List, Option}
 use Rattle.sb_outside.specs.declared.disk.Disk.{Ghosts as Disk}
 use Rattle.sb_outside.specs.declared.streams.Source.{Ghosts as Source}
 use Rattle.sb_outside.specs.declared.streams.Sink.{Ghosts as Sink}
+use Rattle.sb_journal.specs.Disks.{Disks, disks_of}
 
 -- what is left of it, where it tells
 pub record Input : Type 0 where
@@ -16,17 +15,6 @@ pub record Output : Type 0 where
   pub given : Option (List ℕ)
   pub faults : ℕ
 
--- what it holds, and what it held at each moment before
-pub record OneDisk : Type 0 where
-  pub honest : Bool
-  pub past : List Held
-  pub held : Held
-  pub faults : ℕ
-
-pub record Disks : Type 0 where
-  pub a : OneDisk
-  pub b : OneDisk
-
 pub record Outside : Type 0 where
   pub input : Input
   pub output : Output
@@ -37,12 +25,6 @@ input_of source input = record { left = source.left input; faults = source.count
 
 abbrev pub output_of : {K : Type 0} → Sink K → K → Output
 output_of sink output = record { given = sink.given output; faults = sink.count output }
-
-abbrev pub disk_of : {D : Type 0} → Disk D → D → OneDisk
-disk_of disk d = record { honest = disk.honest d; past = disk.past d; held = disk.held d; faults = disk.count d }
-
-abbrev pub disks_of : {D : Type 0} → Disk D → D → D → Disks
-disks_of disk a b = record { a = disk_of disk a; b = disk_of disk b }
 
 abbrev pub outside_of : {D S K : Type 0} → Disk D → Source S → Sink K → D → D → S → K → Outside
 outside_of disk source sink a b input output = record {

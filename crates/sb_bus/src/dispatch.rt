@@ -2,10 +2,10 @@
 ghost use Rattle.std.specs.Prelude.{◌≡◌, ◌≢◌, None, Ok, Err, OnOk, IfOk, IfErr};
 ghost use Rattle.sb_outside.specs.Streams.{Gains};
 ghost use Rattle.sb_script.specs.Replies.{answer_line};
-ghost use Rattle.sb_node.specs.Nodes.{node_state, node_stopped, node_journal, node_disk_a, node_disk_b, IsKept};
+ghost use Rattle.sb_journal.specs.Disks.{HaveFailed, AreQuiet, SameHonesty};
+ghost use Rattle.sb_node.specs.Nodes.{node_state, node_stopped, node_journal, node_disk_b, IsKept, IsEither, StayEither, node_disks};
 ghost use Rattle.sb_bus.specs.Outside.{output_of};
-ghost use Rattle.sb_bus.specs.Disks.{IsEither, StayEither, HaveFailed, AreQuiet};
-ghost use Rattle.sb_bus.specs.Nodes.{disks_under, IsSafe};
+ghost use Rattle.sb_bus.specs.Nodes.{IsSafe};
 ghost use Rattle.sb_bus.specs.Runs.{kind_of, state_by, IsAnswered};
 ghost use Rattle.sb_bus.specs.Endings.{IsReplyCut, IsCutAt};
 ghost use Rattle.sb_bus.specs.declared.ending.RunEnd.TheVariants.{DiskFault};
@@ -67,14 +67,14 @@ fn dispatch_call<D: Disk, K: Sink>(
     ensures cut { IfErr result (IsCutAt (node_state node.old) (Request asked.now) (output_of K.Sink output.old) (output_of K.Sink output.new) (node_state node.new)) }
     ensures running { OnOk result (node_stopped node.new ≡ None) }
     ensures kept { IsSafe node.old → result ≢ Err DiskFault → IsKept (node_journal node.new) (node_state node.new) }
-    ensures undecided { IsSafe node.old → result ≡ Err DiskFault → IsEither (disks_under D.Disk node.new) (node_state node.old) (state_by (node_state node.old) (Request asked.now)) }
+    ensures undecided { IsSafe node.old → result ≡ Err DiskFault → IsEither (node_disks node.new) (node_state node.old) (state_by (node_state node.old) (Request asked.now)) }
 
     // At each moment a crash leads to the state before the line or to the one after it.
-    ensures any_moment { IsSafe node.old → StayEither (disks_under D.Disk node.old) (disks_under D.Disk node.new) (node_state node.old) (state_by (node_state node.old) (Request asked.now)) }
-    ensures passed { OnOk result (AreQuiet (disks_under D.Disk node.old) (disks_under D.Disk node.new) × (K.count output.new ≡ K.count output.old)) }
-    ensures disk_fault { result ≡ Err DiskFault → HaveFailed (disks_under D.Disk node.old) (disks_under D.Disk node.new) }
-    ensures disk_quiet { IfErr result (λ e. e ≢ DiskFault → AreQuiet (disks_under D.Disk node.old) (disks_under D.Disk node.new)) }
-    ensures honesty { D.honest (node_disk_a node.new) ≡ D.honest (node_disk_a node.old) }
+    ensures any_moment { IsSafe node.old → StayEither (node_disks node.old) (node_disks node.new) (node_state node.old) (state_by (node_state node.old) (Request asked.now)) }
+    ensures passed { OnOk result (AreQuiet (node_disks node.old) (node_disks node.new) × (K.count output.new ≡ K.count output.old)) }
+    ensures disk_fault { result ≡ Err DiskFault → HaveFailed (node_disks node.old) (node_disks node.new) }
+    ensures disk_quiet { IfErr result (λ e. e ≢ DiskFault → AreQuiet (node_disks node.old) (node_disks node.new)) }
+    ensures honesty { SameHonesty (node_disks node.old) (node_disks node.new) }
     ensures disk_b { node_disk_b node.new ≡ node_disk_b node.old }
 {
     let answer = node.step(asked.reading, &asked.call);
@@ -110,14 +110,14 @@ pub fn dispatch_line<D: Disk, K: Sink>(
     ensures cut { IfErr result (IsCutAt (node_state node.old) line (output_of K.Sink output.old) (output_of K.Sink output.new) (node_state node.new)) }
     ensures running { OnOk result (node_stopped node.new ≡ None) }
     ensures kept { IsSafe node.old → result ≢ Err DiskFault → IsKept (node_journal node.new) (node_state node.new) }
-    ensures undecided { IsSafe node.old → result ≡ Err DiskFault → IsEither (disks_under D.Disk node.new) (node_state node.old) (state_by (node_state node.old) line) }
+    ensures undecided { IsSafe node.old → result ≡ Err DiskFault → IsEither (node_disks node.new) (node_state node.old) (state_by (node_state node.old) line) }
 
     // At each moment a crash leads to the state before the line or to the one after it.
-    ensures any_moment { IsSafe node.old → StayEither (disks_under D.Disk node.old) (disks_under D.Disk node.new) (node_state node.old) (state_by (node_state node.old) line) }
-    ensures passed { OnOk result (AreQuiet (disks_under D.Disk node.old) (disks_under D.Disk node.new) × (K.count output.new ≡ K.count output.old)) }
-    ensures disk_fault { result ≡ Err DiskFault → HaveFailed (disks_under D.Disk node.old) (disks_under D.Disk node.new) }
-    ensures disk_quiet { IfErr result (λ e. e ≢ DiskFault → AreQuiet (disks_under D.Disk node.old) (disks_under D.Disk node.new)) }
-    ensures honesty { D.honest (node_disk_a node.new) ≡ D.honest (node_disk_a node.old) }
+    ensures any_moment { IsSafe node.old → StayEither (node_disks node.old) (node_disks node.new) (node_state node.old) (state_by (node_state node.old) line) }
+    ensures passed { OnOk result (AreQuiet (node_disks node.old) (node_disks node.new) × (K.count output.new ≡ K.count output.old)) }
+    ensures disk_fault { result ≡ Err DiskFault → HaveFailed (node_disks node.old) (node_disks node.new) }
+    ensures disk_quiet { IfErr result (λ e. e ≢ DiskFault → AreQuiet (node_disks node.old) (node_disks node.new)) }
+    ensures honesty { SameHonesty (node_disks node.old) (node_disks node.new) }
     ensures disk_b { node_disk_b node.new ≡ node_disk_b node.old }
 {
     match line {

@@ -5,7 +5,7 @@ use Rattle.std.proofs.lemmas.Bool.{cases_eq}
 use Rattle.sb_outside.specs.Held.{Held, IsImage, Moves, MayMove, overwritten, touched, at_rest}
 use Rattle.sb_journal.specs.Text.{File, max_payload, framed, file_text, with_payload, IsWithin}
 use Rattle.sb_journal.specs.Framing.{Whole, framing}
-use Rattle.sb_journal.specs.Settled.{Rests, IsBeforeOrAfter, IsTornAppend}
+use Rattle.sb_journal.specs.Crashes.{Rests, IsTornAppend}
 use Rattle.sb_journal.specs.Moments.{EachMoment}
 use Rattle.sb_journal.proofs.Moments.{started, goes_on, stays, may_go_on}
 use Rattle.sb_journal.proofs.Frames.{length-records}
@@ -19,6 +19,30 @@ rests_read h end next f rests = ap (λ k. framing k.seen) rests.held_is ∙ read
 pub rests_leave : (h : Held) (end next : ℕ) (f : File) → Rests h end next f → (image : List ℕ) → IsImage h image → framing image ≡ Whole f
 rests_leave h end next f rests image left =
     ap framing (rest_image (file_text f ++ 0 ∷ rests.tail) image (subst (λ k. IsImage k image) rests.held_is left)) ∙ reads_closed f 0 rests.tail rests.within (omega arith)
+
+-- all of it is safe
+pub rests_at : (h : Held) (end next : ℕ) (f : File) → Rests h end next f → h ≡ at_rest h.seen
+rests_at h end next f rests = rests.held_is ∙ ap at_rest (sym (ap (λ m. m.seen) rests.held_is))
+
+-- the place behind the next gate
+pub behind_place : (f : File) (p : List ℕ) (end next : ℕ) {h : Held} (frame : List ℕ) → Rests h end next f → frame ≡ framed next p ++ 0 ∷ [] → end + length frame + 1 ≡ length (file_text (with_payload f p)) + 1
+behind_place f p end next frame rests is =
+    let end_is = rests.end_is in
+    let next_is = rests.next_is in
+    omega (
+      arith,
+      ap length is,
+      length-append (framed next p) (0 ∷ []),
+      ap (λ n. length (framed n p)) next_is,
+      ap length (file_text-push f p []),
+      length-append (file_text (with_payload f p)) [],
+      length-append (file_text f) (1 ∷ (framed (f.first + length f.payloads) p ++ [])),
+      length-append (framed (f.first + length f.payloads) p) [],
+    )
+
+-- the bytes stand for the file, with one payload more or without it
+abbrev pub IsBeforeOrAfter : File → List ℕ → List ℕ → Type 0
+IsBeforeOrAfter file payload bytes = (framing bytes ≡ Whole file) ⊎ (framing bytes ≡ Whole (with_payload file payload))
 
 -- what a crash during an append left is read as the file before it or after
 pub torn_read : (f : File) (p bytes : List ℕ) → IsTornAppend f p bytes → IsBeforeOrAfter f p bytes

@@ -5,8 +5,8 @@ use Rattle.std.proofs.lemmas.List.{take_at, drop_at, get_or_at}
 use Rattle.std.proofs.lemmas.Bool.Decides.{nat_tests}
 use Rattle.sb_outside.specs.Held.{Held, IsImage, Moves, MayMove, overwritten, touched, at_rest}
 use Rattle.sb_journal.specs.Text.{File, file_text}
-use Rattle.sb_journal.specs.Laws.{Spells}
-use Rattle.sb_journal.specs.Settled.{IsTornEnd}
+use Rattle.sb_journal.specs.Text.{Spells}
+use Rattle.sb_journal.specs.Crashes.{IsTornEnd}
 use Rattle.sb_journal.specs.Moments.{EachMoment}
 use Rattle.sb_journal.proofs.Moments.{started, goes_on, stays, may_go_on}
 use Rattle.sb_journal.proofs.Images.{rest_image, front_stays, one_place}

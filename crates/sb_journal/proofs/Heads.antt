@@ -7,7 +7,7 @@ use Rattle.std.proofs.lemmas.Bool.Decides.{nat_tests}
 use Rattle.sb_journal.specs.Text.{File, new_file, with_payload, max_payload, head, framed, records, file_text, gate_after, IsWithin, Ends}
 use Rattle.sb_journal.specs.Framing.{Whole, Uncreated, first_failing, is_created, number_at, is_count, head_fault, read, payloads_in, file_with, whole_or_damaged, sound_or_damaged, framing}
 use Rattle.sb_outside.specs.Held.{Held, at_rest}
-use Rattle.sb_journal.specs.Settled.{Rests}
+use Rattle.sb_journal.specs.Crashes.{Rests}
 use Rattle.sb_journal.proofs.Frames.{read_ended, records-push, length-records, length-records_from, AreShort-push}
 
 -- a file without a base

@@ -3,7 +3,7 @@ use Rattle.std.proofs.Common.{◌≡◌, ◌⊎◌, inl, inr, ℕ, ◌+◌, List
 use Rattle.std.proofs.lemmas.Bool.{cases_eq}
 use Rattle.sb_journal.specs.Text.{File, framed, file_text, with_payload}
 use Rattle.sb_journal.specs.Framing.{Framing, Whole, framing}
-use Rattle.sb_journal.specs.Settled.{IsTornAppend, IsTornEnd, MayLeave}
+use Rattle.sb_journal.specs.Crashes.{IsTornAppend, IsTornEnd, MayLeave}
 use Rattle.sb_journal.proofs.Heads.{reads_closed, file_text-push}
 
 -- where a whole file was found, what it may leave

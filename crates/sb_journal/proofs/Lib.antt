@@ -1,5 +1,7 @@
 pub mod Adding
+pub mod Behind
 pub mod Ending
+pub mod Finishing
 pub mod Frames
 pub mod Heads
 pub mod Images
@@ -7,8 +9,8 @@ pub mod Kept
 pub mod Making
 pub mod Moments
 pub mod Onward
+pub mod Pairs
 pub mod Parts
 pub mod Scan
-pub mod Settling
 pub mod Shut
 pub mod Wholes

@@ -3,9 +3,7 @@ use Rattle.std.proofs.Common.{◌≡◌, ℕ, ◌+◌, ◌<◌, ◌≤◌, List,
 use Rattle.std.specs.Int.{to_be_bytes}
 use Rattle.std.proofs.lemmas.List.{append-nil, take_at, drop_all}
 use Rattle.sb_outside.specs.Held.{overwritten}
-use Rattle.sb_journal.specs.Text.{head, new_file, file_text, IsWithin}
-use Rattle.sb_journal.specs.Framing.{Whole, framing}
-use Rattle.sb_journal.proofs.Heads.{reads_closed}
+use Rattle.sb_journal.specs.Text.{head, file_text, new_bytes}
 use Rattle.sb_journal.proofs.Images.{written_at}
 
 -- a write from a place to the end or past it
@@ -28,14 +26,14 @@ gate_written bytes base long =
     ∙ ap (λ (l : List ℕ). 0 ∷ l) (append_assoc bytes base (0 ∷ []))
 
 -- the new file, with its gate open
-pub opened_text : (salt generation first : ℕ) (base : List ℕ) → 1 ∷ (head salt generation first (length base) ++ (base ++ 0 ∷ [])) ≡ file_text (new_file salt generation first base) ++ 0 ∷ []
+pub opened_text : (salt generation first : ℕ) (base : List ℕ) → 1 ∷ (head salt generation first (length base) ++ (base ++ 0 ∷ [])) ≡ new_bytes salt generation first base
 unfolding file_text
 opened_text salt generation first base =
     let h = head salt generation first (length base) in
     ap (λ (l : List ℕ). 1 ∷ (h ++ (l ++ 0 ∷ []))) (sym (append-nil base))
     ∙ ap (λ (l : List ℕ). 1 ∷ l) (sym (append_assoc h (base ++ []) (0 ∷ [])))
 
-pub file_opened : (salt generation first : ℕ) (base : List ℕ) → overwritten (0 ∷ (head salt generation first (length base) ++ (base ++ 0 ∷ []))) 0 (1 ∷ []) ≡ file_text (new_file salt generation first base) ++ 0 ∷ []
+pub file_opened : (salt generation first : ℕ) (base : List ℕ) → overwritten (0 ∷ (head salt generation first (length base) ++ (base ++ 0 ∷ []))) 0 (1 ∷ []) ≡ new_bytes salt generation first base
 file_opened salt generation first base =
     written_at [] (head salt generation first (length base) ++ (base ++ 0 ∷ [])) 0 1 0 refl ∙ opened_text salt generation first base
 
@@ -56,8 +54,3 @@ head_spelled s g f b salt generation first n s_is g_is f_is b_is =
     ∙ ap (λ (l : List ℕ). bytes_of_head (to_be_bytes w64 salt) l f b) g_is
     ∙ ap (λ (l : List ℕ). bytes_of_head (to_be_bytes w64 salt) (to_be_bytes w64 generation) l b) f_is
     ∙ ap (λ (l : List ℕ). bytes_of_head (to_be_bytes w64 salt) (to_be_bytes w64 generation) (to_be_bytes w64 first) l) b_is
-
-pub new_whole : (salt generation first : ℕ) (base : List ℕ) → base ≡ [] → IsWithin (new_file salt generation first []) → framing (1 ∷ (head salt generation first (length base) ++ (base ++ 0 ∷ []))) ≡ Whole (new_file salt generation first [])
-new_whole salt generation first base empty within =
-    ap framing (opened_text salt generation first base ∙ ap (λ (b : List ℕ). file_text (new_file salt generation first b) ++ 0 ∷ []) empty)
-    ∙ reads_closed (new_file salt generation first []) 0 [] within (omega arith)

@@ -4,9 +4,8 @@ use Rattle.std.specs.Prelude.{slice_index}
 use Rattle.std.proofs.lemmas.Bool.{cases_eq}
 use Rattle.std.proofs.lemmas.Bool.Decides.{nat_tests}
 use Rattle.sb_outside.specs.Held.{Held, IsImage, Moves, MayMove, overwritten, touched, shortened, at_rest}
-use Rattle.sb_journal.specs.Text.{File}
-use Rattle.sb_journal.specs.Framing.{Uncreated, Whole, framing}
-use Rattle.sb_journal.specs.Settled.{IsOldNoneOrNew, IsShut}
+use Rattle.sb_journal.specs.Framing.{Uncreated, framing}
+use Rattle.sb_journal.specs.Crashes.{IsOldNoneOrNew, IsShut}
 use Rattle.sb_journal.specs.Moments.{EachMoment}
 use Rattle.sb_journal.proofs.Moments.{started, goes_on, stays, may_go_on}
 use Rattle.sb_journal.proofs.Images.{rest_image, one_place, written_at}
@@ -36,9 +35,9 @@ shut-moved p0 p1 h0 h1 next shut (inl same) on = subst IsShut (sym same.1) shut
 shut-moved p0 p1 h0 h1 next shut (inr moved) on = subst IsShut (sym moved.1.now_is) (on moved.0)
 
 -- the gate is closed over bytes that are old
-module _ (old : List ℕ) (file : File) (known : slice_index old 0 ≤ 1) (p0 : List Held) (h0 : Held) (at : h0 ≡ at_rest h0.seen) (old_is : old ≡ h0.seen) where
+module _ (old new : List ℕ) (known : slice_index old 0 ≤ 1) (p0 : List Held) (h0 : Held) (at : h0 ≡ at_rest h0.seen) (old_is : old ≡ h0.seen) where
   abbrev P : List ℕ → Type 0
-  P = IsOldNoneOrNew old file
+  P = IsOldNoneOrNew old new
 
   rest : h0 ≡ at_rest old
   rest = at ∙ ap at_rest (sym old_is)
@@ -84,54 +83,54 @@ shut_of h at first = subst IsShut (sym at) (shut-first h.seen first)
     shut-first (b ∷ bytes) is = shut-rest (b ∷ bytes) (omega arith) (let e : b ≡ 0 = cc in e)
 
 -- a shut disk at some moment
-pub shut_here : (old : List ℕ) (file : File) (h : Held) → IsShut h → (image : List ℕ) → IsImage h image → IsOldNoneOrNew old file image
-shut_here old file h shut image left = inr (inl (shut_image h image shut left))
+pub shut_here : (old new : List ℕ) (h : Held) → IsShut h → (image : List ℕ) → IsImage h image → IsOldNoneOrNew old new image
+shut_here old new h shut image left = inr (inl (shut_image h image shut left))
 
 -- the new file's gate is opened
-module _ (old : List ℕ) (file : File) (all : List ℕ) (new : framing (1 ∷ all) ≡ Whole file) where
-  pub opening_here : (seen image : List ℕ) → IsImage (touched (at_rest (0 ∷ all)) 0 1 seen) image → IsOldNoneOrNew old file image
+module _ (old new all : List ℕ) (new_is : 1 ∷ all ≡ new) where
+  pub opening_here : (seen image : List ℕ) → IsImage (touched (at_rest (0 ∷ all)) 0 1 seen) image → IsOldNoneOrNew old new image
   opening_here seen image left =
       let same = one_place [] all 0 seen image left in
       elim (cases_eq (get_or image 0 0) 1) [
-        | inl opened ↦ inr (inr (ap framing (same ∙ ap (λ g. g ∷ all) opened) ∙ new))
+        | inl opened ↦ inr (inr (same ∙ ap (λ (g : ℕ). g ∷ all) opened ∙ new_is))
         | inr shut ↦ inr (inl (closed_uncreated image shut))
       ]
 
-  pub opened_here : (image : List ℕ) → IsImage (at_rest (1 ∷ all)) image → IsOldNoneOrNew old file image
-  opened_here image left = inr (inr (ap framing (rest_image (1 ∷ all) image left) ∙ new))
+  pub opened_here : (image : List ℕ) → IsImage (at_rest (1 ∷ all)) image → IsOldNoneOrNew old new image
+  opened_here image left = inr (inr (rest_image (1 ∷ all) image left ∙ new_is))
 
 -- one call on a disk that is shut
-module _ (old : List ℕ) (file : File) (p0 p1 : List Held) (h0 h1 : Held) (shut : IsShut h0) where
+module _ (old new : List ℕ) (p0 p1 : List Held) (h0 h1 : Held) (shut : IsShut h0) where
   abbrev Q : List ℕ → Type 0
-  Q = IsOldNoneOrNew old file
+  Q = IsOldNoneOrNew old new
 
   begun : EachMoment p0 p0 h0 Q
-  begun = started p0 h0 Q (shut_here old file h0 shut)
+  begun = started p0 h0 Q (shut_here old new h0 shut)
 
   pub shut_writes : (place n : ℕ) (seen : List ℕ) → 1 ≤ place → Moves p0 h0 p1 h1 (touched h0 place n seen) → EachMoment p0 p1 h1 Q × IsShut h1
   shut_writes place n seen low moved =
       let after = shut-write h0 place n seen shut low in (
-        goes_on p0 p0 p1 h0 h1 _ Q begun moved (shut_here old file _ after),
+        goes_on p0 p0 p1 h0 h1 _ Q begun moved (shut_here old new _ after),
         subst IsShut (sym moved.now_is) after,
       )
 
   pub shut_fails : (place n : ℕ) → 1 ≤ place → MayMove p0 h0 p1 h1 (touched h0 place n) → EachMoment p0 p1 h1 Q
-  shut_fails place n low moved = may_go_on p0 p0 p1 h0 h1 (touched h0 place n) Q begun moved (λ seen. shut_here old file _ (shut-write h0 place n seen shut low))
+  shut_fails place n low moved = may_go_on p0 p0 p1 h0 h1 (touched h0 place n) Q begun moved (λ seen. shut_here old new _ (shut-write h0 place n seen shut low))
 
   pub shut_cuts : (n : ℕ) (seen : List ℕ) → 1 ≤ n → Moves p0 h0 p1 h1 (shortened h0 n seen) → EachMoment p0 p1 h1 Q × IsShut h1
   shut_cuts n seen low moved =
       let after = shut-cut h0 n seen shut low in (
-        goes_on p0 p0 p1 h0 h1 _ Q begun moved (shut_here old file _ after),
+        goes_on p0 p0 p1 h0 h1 _ Q begun moved (shut_here old new _ after),
         subst IsShut (sym moved.now_is) after,
       )
 
   pub shut_not_cut : (n : ℕ) → 1 ≤ n → MayMove p0 h0 p1 h1 (shortened h0 n) → EachMoment p0 p1 h1 Q
-  shut_not_cut n low moved = may_go_on p0 p0 p1 h0 h1 (shortened h0 n) Q begun moved (λ seen. shut_here old file _ (shut-cut h0 n seen shut low))
+  shut_not_cut n low moved = may_go_on p0 p0 p1 h0 h1 (shortened h0 n) Q begun moved (λ seen. shut_here old new _ (shut-cut h0 n seen shut low))
 
 -- what was filled behind a closed gate is made safe, and the gate is opened
-module _ (old : List ℕ) (file : File) (all : List ℕ) (new : framing (1 ∷ all) ≡ Whole file) (p0 p3 : List Held) (h3 : Held) (filled : EachMoment p0 p3 h3 (IsOldNoneOrNew old file)) (seen_3 : h3.seen ≡ 0 ∷ all) where
+module _ (old new all : List ℕ) (new_is : 1 ∷ all ≡ new) (p0 p3 : List Held) (h3 : Held) (filled : EachMoment p0 p3 h3 (IsOldNoneOrNew old new)) (seen_3 : h3.seen ≡ 0 ∷ all) where
   abbrev R : List ℕ → Type 0
-  R = IsOldNoneOrNew old file
+  R = IsOldNoneOrNew old new
 
   pub filled_fails : (p4 : List Held) (h4 : Held) → p4 ≡ p3 → h4 ≡ h3 → EachMoment p0 p4 h4 R
   filled_fails p4 h4 same_past same_now = stays p0 p3 p4 h3 h4 R filled same_past same_now
@@ -141,10 +140,10 @@ module _ (old : List ℕ) (file : File) (all : List ℕ) (new : framing (1 ∷ a
     at_4 = synced.now_is ∙ ap at_rest seen_3
 
     safe : EachMoment p0 p4 h4 R
-    safe = goes_on p0 p3 p4 h3 h4 _ R filled synced (shut_here old file _ (subst (λ s. IsShut (at_rest s)) (sym seen_3) (shut-rest (0 ∷ all) (omega arith) refl)))
+    safe = goes_on p0 p3 p4 h3 h4 _ R filled synced (shut_here old new _ (subst (λ s. IsShut (at_rest s)) (sym seen_3) (shut-rest (0 ∷ all) (omega arith) refl)))
 
     opens : (seen image : List ℕ) → IsImage (touched h4 0 1 seen) image → R image
-    opens seen image left = opening_here old file all new seen image (subst (λ h. IsImage (touched h 0 1 seen) image) at_4 left)
+    opens seen image left = opening_here old new all new_is seen image (subst (λ h. IsImage (touched h 0 1 seen) image) at_4 left)
 
     pub open_fails : (p5 : List Held) (h5 : Held) → MayMove p4 h4 p5 h5 (touched h4 0 1) → EachMoment p0 p5 h5 R
     open_fails p5 h5 moved = may_go_on p0 p4 p5 h4 h5 (touched h4 0 1) R safe moved opens
@@ -159,4 +158,4 @@ module _ (old : List ℕ) (file : File) (all : List ℕ) (new : framing (1 ∷ a
       pub open_safe : (p6 : List Held) (h6 : Held) → Moves p5 h5 p6 h6 (at_rest h5.seen) → EachMoment p0 p6 h6 R
       open_safe p6 h6 kept =
           let seen_5 : h5.seen ≡ 1 ∷ all = ap (λ h. h.seen) wrote.now_is ∙ ap (λ h. overwritten h.seen 0 (1 ∷ [])) at_4 ∙ written_at [] all 0 1 0 refl in
-          goes_on p0 p5 p6 h5 h6 _ R opened_5 kept (λ image left. opened_here old file all new image (subst (λ s. IsImage (at_rest s) image) seen_5 left))
+          goes_on p0 p5 p6 h5 h6 _ R opened_5 kept (λ image left. opened_here old new all new_is image (subst (λ s. IsImage (at_rest s) image) seen_5 left))

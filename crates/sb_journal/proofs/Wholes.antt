@@ -8,7 +8,7 @@ use Rattle.std.proofs.lemmas.Bool.Decides.{nat_tests}
 use Rattle.std.proofs.lemmas.Slice.Eq.{bytes_eq-Decides}
 use Rattle.sb_journal.specs.Text.{File, magic, head, records, file_text, AreBytes, max_count}
 use Rattle.sb_journal.specs.Framing.{Framing, Whole, Damaged, Uncreated, first_failing, is_created, number_at, is_count, head_fault, read, payloads_in, file_with, whole_or_damaged, sound_or_damaged, framing}
-use Rattle.sb_journal.specs.Laws.{Spells}
+use Rattle.sb_journal.specs.Text.{Spells}
 use Rattle.sb_journal.proofs.Frames.{length-records}
 use Rattle.sb_journal.proofs.Parts.{spelled, part, number_part, both, AreBytes-drop, AreBytes-take}
 

@@ -1,8 +1,9 @@
 -- Reading and writing files belong together, and what a whole file's bytes are.
 use Rattle.std.specs.Prelude.{◌≡◌, ◌≢◌, ◌≤◌, ◌^◌, ℕ, List, [], ◌∷◌, ◌++◌, length}
-use Rattle.sb_journal.specs.Text.{File, new_file, file_text, IsWithin, Ends, AreBytes}
-use Rattle.sb_journal.specs.Settled.{IsBeforeOrAfter, IsTornAppend, MayLeave}
+use Rattle.sb_journal.specs.Text.{File, new_bytes, file_text, IsWithin, AreBytes, Spells}
 use Rattle.sb_journal.specs.Framing.{Whole, framing}
+use Rattle.sb_journal.specs.Opened.{FindsEither}
+use Rattle.sb_journal.specs.Crashes.{IsTornPair, LeavesFound}
 
 -- a file is read back as itself: whatever stands behind a closed end gate
 abbrev pub ReadsBack : Type 0
@@ -12,19 +13,13 @@ ReadsBack = (f : File) (gate : ℕ) (tail : List ℕ) → IsWithin f → gate �
 abbrev pub ReadsBackCut : Type 0
 ReadsBackCut = (f : File) → IsWithin f → f.payloads ≢ [] → framing (file_text f) ≡ Whole f
 
-pub record Spells (f : File) (bytes : List ℕ) : Type 0 where
-  pub rest : List ℕ
-  pub is : bytes ≡ file_text f ++ rest
-  pub ends : Ends rest
-  pub within : IsWithin f
-
 -- no other bytes are read so
 abbrev pub SpellsOnly : Type 0
 SpellsOnly = (bytes : List ℕ) (f : File) → AreBytes bytes → length bytes ≤ 2 ^ 62 → framing bytes ≡ Whole f → Spells f bytes
 
 -- the new file of the salt a1b2c3d4e5f60718, as a crash at rest leaves it
 abbrev pub NewFileBytes : Type 0
-NewFileBytes = file_text (new_file 11651590505119483672 1 1 []) ++ 0 ∷ []
+NewFileBytes = new_bytes 11651590505119483672 1 1 []
     ≡ 1 ∷ 0x53 ∷ 0x42 ∷ 0x4e ∷ 0x53 ∷ 0x4a ∷ 0x52 ∷ 0x4e ∷ 0x4c ∷ 1
     ∷ 0xa1 ∷ 0xb2 ∷ 0xc3 ∷ 0xd4 ∷ 0xe5 ∷ 0xf6 ∷ 0x07 ∷ 0x18
     ∷ 0 ∷ 0 ∷ 0 ∷ 0 ∷ 0 ∷ 0 ∷ 0 ∷ 1
@@ -32,10 +27,10 @@ NewFileBytes = file_text (new_file 11651590505119483672 1 1 []) ++ 0 ∷ []
     ∷ 0 ∷ 0 ∷ 0 ∷ 0 ∷ 0 ∷ 0 ∷ 0 ∷ 0
     ∷ 0 ∷ []
 
--- what a crash during an append left is the file with the record or without it
-abbrev pub TornIsBeforeOrAfter : Type 0
-TornIsBeforeOrAfter = (file : File) (payload bytes : List ℕ) → IsTornAppend file payload bytes → IsBeforeOrAfter file payload bytes
+-- what a crash during an append left is found as the file with the record or without it
+abbrev pub TornIsFound : Type 0
+TornIsFound = (file : File) (payload a b : List ℕ) → IsTornPair file payload a b → FindsEither file payload a b
 
 -- and stays so through crashes during openings, however many
 abbrev pub TornIsKept : Type 0
-TornIsKept = (salt : ℕ) (file : File) (payload seen bytes : List ℕ) → IsTornAppend file payload seen → MayLeave salt seen (framing seen) bytes → IsTornAppend file payload bytes
+TornIsKept = (salt : ℕ) (file : File) (payload a b x y : List ℕ) → IsTornPair file payload a b → LeavesFound salt a b x y → IsTornPair file payload x y

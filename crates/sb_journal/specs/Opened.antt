@@ -1,5 +1,5 @@
 -- What two disks stand for, and what an opening says of it.
-use Rattle.std.specs.Prelude.{◌≡◌, ◌≤◌, ◌+◌, ◌&&◌, ◌==◌, ◌^◌, ℕ, List, [], length, nat_lt, slice_index, true}
+use Rattle.std.specs.Prelude.{◌≡◌, ◌⊎◌, ◌≤◌, ◌+◌, ◌&&◌, ◌==◌, ◌^◌, ℕ, List, [], length, nat_lt, slice_index, true}
 use Rattle.sb_outside.specs.Held.{Held, at_rest}
 use Rattle.sb_journal.specs.declared.found.Side.{Side}
 use Rattle.sb_journal.specs.declared.found.Side.TheVariants.{A}
@@ -8,8 +8,7 @@ use Rattle.sb_journal.specs.declared.reading.Stand.{Stand}
 use Rattle.sb_journal.specs.declared.reading.Ending.{Ending}
 use Rattle.sb_journal.specs.declared.reading.Reading.{Reading}
 use Rattle.sb_journal.specs.declared.reading.Reading.TheVariants.{NoFile, AFile, BadFile}
-use Rattle.sb_journal.specs.Text.{File, new_file, file_text, AreBytes}
-use Rattle.sb_journal.specs.Laws.{Spells}
+use Rattle.sb_journal.specs.Text.{File, new_file, file_text, with_payload, AreBytes, Spells}
 use Rattle.sb_journal.specs.Framing.{Framing, Uncreated, Whole, Damaged, framing, is_created}
 
 pub data Opened : Type 0 where
@@ -27,6 +26,14 @@ opened_alone salt (Damaged place) = Damage A place
 -- Disk b doesn't count yet. The salt is that of a new file.
 abbrev pub opened : List ℕ → List ℕ → ℕ → Opened
 opened a b salt = opened_alone salt (framing a)
+
+-- an opening finds this file, on whichever disk and with whatever salt it is called
+abbrev pub FindsFile : File → (a b : List ℕ) → Type 0
+FindsFile file a b = (salt : ℕ) → (side : Side) × (opened a b salt ≡ Stands side file)
+
+-- it finds the file, with this payload more or without it
+abbrev pub FindsEither : File → List ℕ → (a b : List ℕ) → Type 0
+FindsEither file payload a b = FindsFile file a b ⊎ FindsFile (with_payload file payload) a b
 
 -- the file that was found
 abbrev pub found_file : Found → File

@@ -44,14 +44,26 @@ abbrev pub records : ℕ → List (List ℕ) → List ℕ
 records number [] = []
 records number (p ∷ ps) = 1 ∷ (framed number p ++ records (number + 1) ps)
 
+-- the place of a file's first gate
+abbrev pub first_gate : File → ℕ
+first_gate f = 42 + length f.base
+
+-- the place of the gate behind the record of this payload, from that of its own gate
+abbrev pub next_gate : ℕ → List ℕ → ℕ
+next_gate place payload = place + (13 + length payload)
+
 -- the place of the gate behind these records, from that of the first one's gate
 abbrev pub gate_after : ℕ → List (List ℕ) → ℕ
 gate_after place [] = place
-gate_after place (p ∷ ps) = gate_after (place + (13 + length p)) ps
+gate_after place (p ∷ ps) = gate_after (next_gate place p) ps
 
 -- a whole file, up to its end gate
 unfoldable pub file_text : File → List ℕ
 file_text f = 1 ∷ (head f.salt f.generation f.first (length f.base) ++ (f.base ++ records f.first f.payloads))
+
+-- the bytes of a file with no payloads, and its closed end gate
+abbrev pub new_bytes : (salt generation first : ℕ) → List ℕ → List ℕ
+new_bytes salt generation first base = file_text (new_file salt generation first base) ++ 0 ∷ []
 
 abbrev pub AreShort : List (List ℕ) → Type 0
 AreShort [] = Unit {0}
@@ -75,3 +87,10 @@ Ends (gate ∷ tail) = gate ≢ 1
 
 abbrev pub AreBytes : List ℕ → Type 0
 AreBytes bytes = (k : ℕ) → slice_index bytes k < 256
+
+-- these are a file's bytes: its text, and then what ends it
+pub record Spells (f : File) (bytes : List ℕ) : Type 0 where
+  pub rest : List ℕ
+  pub is : bytes ≡ file_text f ++ rest
+  pub ends : Ends rest
+  pub within : IsWithin f

@@ -1,14 +1,23 @@
 // Adding a record: its bytes behind the closed end gate first, and once they are safe, the gate.
-ghost use Rattle.std.specs.Prelude.{◌≡◌, ◌≤◌, ◌+◌, ◌++◌, [], ◌∷◌, ◌^◌, List, ℕ, IsTrue, length, vec_capacity, OnOk};
+ghost use Rattle.std.specs.Prelude.{◌≡◌, ◌≤◌, ◌<◌, ◌+◌, ◌++◌, [], ◌∷◌, ◌^◌, List, ℕ, IsTrue, length, drop, vec_capacity, OnOk};
 ghost use Rattle.sb_outside.specs.Causes.{HasCause};
-ghost use Rattle.sb_journal.specs.Text.{File, framed, max_payload, with_payload};
-ghost use Rattle.sb_journal.specs.Settled.{Rests, IsTornAppend};
+ghost use Rattle.sb_outside.specs.Held.{at_rest};
+ghost use Rattle.sb_journal.specs.Text.{File, framed, max_payload, next_gate, with_payload};
+ghost use Rattle.sb_journal.specs.Crashes.{Rests, IsTornAppend};
 ghost use Rattle.sb_journal.specs.Moments.{EachMoment};
 
 use sb_outside::{Disk, DiskFault};
 
 // The bytes of a record beside its payload: the length, the number and the next gate.
 pub(crate) const FRAME_BYTES: usize = 13;
+
+/// The place of the gate behind the record of this payload, from that of its own gate, in bytes.
+pub fn next_gate(gate: u64, payload: &[u8]) -> u64
+    requires { next_gate gate payload.now < 2 ^ 64 }
+    ensures { result ≡ next_gate gate payload.now }
+{
+    gate + (FRAME_BYTES as u64 + payload.len() as u64)
+}
 
 // The record behind its gate, and the next gate, closed. The buffer has room for it.
 pub(crate) fn frame_in(buffer: &mut Vec<u8>, number: u64, payload: &[u8])
@@ -40,6 +49,10 @@ pub(crate) fn append_frame<D: Disk>(disk: &mut D, end: u64, frame: &[u8]) -> Res
     ensures any_moment { (file : File) (payload : List ℕ) (next : ℕ) → IsTrue (D.honest disk.old) → Rests (D.held disk.old) end next file
         → frame.now ≡ framed next payload ++ 0 ∷ [] → length payload ≤ max_payload
         → EachMoment (D.past disk.old) (D.past disk.new) (D.held disk.new) (IsTornAppend file payload) }
+
+    // What stands behind the next gate stays.
+    ensures behind { IsTrue (D.honest disk.old) → D.held disk.old ≡ at_rest (D.held disk.old).seen
+        → EachMoment (D.past disk.old) (D.past disk.new) (D.held disk.new) (λ image. drop (end + length frame.now + 1) image ≡ drop (end + length frame.now + 1) (D.held disk.old).seen) }
     ensures cause { HasCause (D.count disk.old) (D.count disk.new) result }
 {
     disk.write_at(end + 1, frame)?;

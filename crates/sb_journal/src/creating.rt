@@ -3,9 +3,9 @@
 ghost use Rattle.std.specs.Prelude.{◌≡◌, ◌≢◌, ◌≤◌, ◌+◌, ◌++◌, [], ◌∷◌, ◌^◌, List, ℕ, IsTrue, length, take, slice_index, true, false, IfOk, OnOk};
 ghost use Rattle.sb_outside.specs.Causes.{HasCause};
 ghost use Rattle.sb_outside.specs.Held.{at_rest};
-ghost use Rattle.sb_journal.specs.Text.{File, head, new_file, file_text, IsWithin};
+ghost use Rattle.sb_journal.specs.Text.{head, new_file, new_bytes};
 ghost use Rattle.sb_journal.specs.Framing.{Whole, framing};
-ghost use Rattle.sb_journal.specs.Settled.{IsShut, IsOldNoneOrNew};
+ghost use Rattle.sb_journal.specs.Crashes.{IsShut, IsOldNoneOrNew};
 ghost use Rattle.sb_journal.specs.Moments.{EachMoment, FromSync};
 
 use crate::reading::VERSION;
@@ -46,8 +46,8 @@ fn close_file<D: Disk>(disk: &mut D) -> Result<(), DiskFault>
     ensures rest { IsTrue (D.honest disk.old) → D.held disk.old ≡ at_rest (D.held disk.old).seen → OnOk result (D.held disk.new ≡ at_rest (D.held disk.new).seen) }
 
     // Where the gate was open or closed, nothing else counts at any moment.
-    ensures any_moment { (file : File) → IsTrue (D.honest disk.old) → D.held disk.old ≡ at_rest (D.held disk.old).seen → slice_index (D.held disk.old).seen 0 ≤ 1
-        → EachMoment (D.past disk.old) (D.past disk.new) (D.held disk.new) (IsOldNoneOrNew (D.held disk.old).seen file) }
+    ensures any_moment { (new : List ℕ) → IsTrue (D.honest disk.old) → D.held disk.old ≡ at_rest (D.held disk.old).seen → slice_index (D.held disk.old).seen 0 ≤ 1
+        → EachMoment (D.past disk.old) (D.past disk.new) (D.held disk.new) (IsOldNoneOrNew (D.held disk.old).seen new) }
     ensures cause { HasCause (D.count disk.old) (D.count disk.new) result }
 {
     if has_closed_gate(disk)? {
@@ -64,8 +64,8 @@ fn fill<D: Disk>(disk: &mut D, head: &[u8], base: &[u8]) -> Result<(), DiskFault
     requires head { length head.now ≡ 42 }
     ensures honesty { D.honest disk.new ≡ D.honest disk.old }
     ensures shut { IsTrue (D.honest disk.old) → IsShut (D.held disk.old) → IsShut (D.held disk.new) }
-    ensures any_moment { (old : List ℕ) (file : File) → IsTrue (D.honest disk.old) → IsShut (D.held disk.old)
-        → EachMoment (D.past disk.old) (D.past disk.new) (D.held disk.new) (IsOldNoneOrNew old file) }
+    ensures any_moment { (old new : List ℕ) → IsTrue (D.honest disk.old) → IsShut (D.held disk.old)
+        → EachMoment (D.past disk.old) (D.past disk.new) (D.held disk.new) (IsOldNoneOrNew old new) }
     ensures ok { (bytes : List ℕ) → IsTrue (D.honest disk.old) → head.now ≡ bytes ++ 0 ∷ [] → OnOk result ((D.held disk.new).seen ≡ 0 ∷ (bytes ++ (base.now ++ 0 ∷ []))) }
     ensures cause { HasCause (D.count disk.old) (D.count disk.new) result }
 {
@@ -86,12 +86,11 @@ fn make_file<D: Disk>(
     base: &[u8],
 ) -> Result<(), DiskFault>
     ensures honesty { D.honest disk.new ≡ D.honest disk.old }
-    ensures ok { IsTrue (D.honest disk.old) → OnOk result (D.held disk.new ≡ at_rest (file_text (new_file salt generation first base.now) ++ 0 ∷ [])) }
+    ensures ok { IsTrue (D.honest disk.old) → OnOk result (D.held disk.new ≡ at_rest (new_bytes salt generation first base.now)) }
 
-    // Where the file's gate was open or closed, nothing but the old bytes and the new file counts at any moment.
+    // Where the file's gate was open or closed, nothing but the old bytes and the whole new file counts at any moment.
     ensures any_moment { IsTrue (D.honest disk.old) → D.held disk.old ≡ at_rest (D.held disk.old).seen → slice_index (D.held disk.old).seen 0 ≤ 1
-        → base.now ≡ [] → IsWithin (new_file salt generation first [])
-        → EachMoment (D.past disk.old) (D.past disk.new) (D.held disk.new) (IsOldNoneOrNew (D.held disk.old).seen (new_file salt generation first [])) }
+        → EachMoment (D.past disk.old) (D.past disk.new) (D.held disk.new) (IsOldNoneOrNew (D.held disk.old).seen (new_bytes salt generation first base.now)) }
     ensures cause { HasCause (D.count disk.old) (D.count disk.new) result }
 {
     let head = head_bytes(salt, generation, first, base.len() as u64);
@@ -118,12 +117,12 @@ pub fn create<D: Disk>(
     requires first_least { 1 ≤ first }
     requires first_greatest { first ≤ 2 ^ 62 }
     ensures honesty { D.honest disk.new ≡ D.honest disk.old }
-    ensures ok { IsTrue (D.honest disk.old) → OnOk result (D.held disk.new ≡ at_rest (file_text (new_file salt generation first base.now) ++ 0 ∷ [])) }
+    ensures ok { IsTrue (D.honest disk.old) → OnOk result (D.held disk.new ≡ at_rest (new_bytes salt generation first base.now)) }
     ensures reads { IsTrue (D.honest disk.old) → base.now ≡ [] → OnOk result (framing (D.held disk.new).seen ≡ Whole (new_file salt generation first [])) }
 
-    // From the first sync on a crash leaves the old bytes, no file, or the new one, where the file's gate was open or closed.
-    ensures any_moment { IsTrue (D.honest disk.old) → slice_index (D.held disk.old).seen 0 ≤ 1 → base.now ≡ []
-        → FromSync (D.past disk.old) (D.held disk.old) (D.past disk.new) (D.held disk.new) (IsOldNoneOrNew (D.held disk.old).seen (new_file salt generation first [])) }
+    // From the first sync on a crash leaves the old bytes, no file, or the whole new one, where the file's gate was open or closed.
+    ensures any_moment { IsTrue (D.honest disk.old) → slice_index (D.held disk.old).seen 0 ≤ 1
+        → FromSync (D.past disk.old) (D.held disk.old) (D.past disk.new) (D.held disk.new) (IsOldNoneOrNew (D.held disk.old).seen (new_bytes salt generation first base.now)) }
     ensures cause { HasCause (D.count disk.old) (D.count disk.new) result }
 {
     disk.sync()?;

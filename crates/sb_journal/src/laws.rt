@@ -1,5 +1,5 @@
 // What holds of the file format itself. Each law is the contract of a function that does nothing.
-ghost use Rattle.sb_journal.specs.Laws.{ReadsBack, ReadsBackCut, SpellsOnly, NewFileBytes, TornIsBeforeOrAfter, TornIsKept};
+ghost use Rattle.sb_journal.specs.Laws.{ReadsBack, ReadsBackCut, SpellsOnly, NewFileBytes, TornIsFound, TornIsKept};
 
 /// A whole file is read back as itself, whatever stands behind its closed end gate, and also where
 /// the end gate is missing behind a record.
@@ -21,6 +21,6 @@ pub fn new_file_bytes()
 /// What a crash during an append left is the file with the record or without it, and stays so
 /// through crashes during openings, however many.
 pub fn recovers_from_torn_appends()
-    ensures reads { TornIsBeforeOrAfter }
+    ensures found { TornIsFound }
     ensures kept { TornIsKept }
 {}

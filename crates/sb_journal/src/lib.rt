@@ -6,7 +6,7 @@
 //! then the gate is opened and made safe: so a crash at any moment leaves the file with the record
 //! or without it. That is what `append` says; `open` says that it reads exactly what the bytes
 //! stand for, and names the place of damage where they can't be read. Who judges the payloads too
-//! before anything is written opens in two parts: `Unsettled::read`, and then `settle`.
+//! before anything is written opens in two parts: `Unopened::read`, and then `finish`.
 //!
 //! ```text
 //! let (mut journal, found) = Journal::open(alloc, disk_a, disk_b, salt)?;
@@ -24,10 +24,11 @@ mod opening;
 mod reading;
 #[cfg(test)]
 mod tests;
-mod unsettled;
+mod unopened;
 
+pub use append::next_gate;
 pub use creating::create;
-pub use found::{Found, OpenFault, OpenWhy, Side};
+pub use found::{Found, OpenFault, OpenWhy, Side, first_gate};
 pub use journal::Journal;
 pub use sb_outside::Bytes;
-pub use unsettled::Unsettled;
+pub use unopened::Unopened;

@@ -11,7 +11,7 @@ use crate::Bytes;
 use std::alloc::{AllocError, Global};
 
 // The bytes from a file's gate to its base.
-const HEAD_BYTES: usize = 42;
+pub(crate) const HEAD_BYTES: usize = 42;
 
 // A payload has at most so many bytes.
 pub(crate) const MAX_PAYLOAD: usize = 1_048_576;

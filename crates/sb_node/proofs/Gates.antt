@@ -16,8 +16,8 @@ gate_after_on place [] = omega arith
 gate_after_on place (p ∷ ps) = omega (arith, gate_after_on (place + (13 + length p)) ps)
 
 -- the gate behind the next record is no further than the last
-pub next_gate : (ps : List (List ℕ)) (i : ℕ) (p : List ℕ) (gate bound : ℕ) → i < length ps → p ≡ get_or ps i p → gate_after gate (drop i ps) < bound → gate_after (gate + (13 + length p)) (drop (i + 1) ps) < bound
-next_gate ps i p gate bound here is below = subst (λ (l : List (List ℕ)). gate_after gate l < bound) (next_of ps i p here is) below
+pub gate_below : (ps : List (List ℕ)) (i : ℕ) (p : List ℕ) (gate bound : ℕ) → i < length ps → p ≡ get_or ps i p → gate_after gate (drop i ps) < bound → gate_after (gate + (13 + length p)) (drop (i + 1) ps) < bound
+gate_below ps i p gate bound here is below = subst (λ (l : List (List ℕ)). gate_after gate l < bound) (next_of ps i p here is) below
 
 -- one payload carried out
 pub one_taken : (ps : List (List ℕ)) (i : ℕ) (p : List ℕ) (s next : State) (gate : ℕ) (whole : Replayed) → i < length ps → p ≡ get_or ps i p → next_state s (read_event p) ≡ Some next → replay s gate (drop i ps) ≡ whole

@@ -55,3 +55,9 @@ pub moved_is_move : (t : ℕ) (row : Row) (s : State) → moved t row ≡ Some s
 moved_is_move t (refuses r) s e = absurd cc
 moved_is_move t (stays reply) s e = absurd cc
 moved_is_move t (moves next reply) s e = refl
+
+pub planned_is_still : (s : State) (p : Plan) → is_change p ≡ false → is_move (planned s p) ≡ false
+planned_is_still s (Answers reply) none = refl
+planned_is_still s (Creates q) none = absurd cc
+planned_is_still s (Sends i copies receipts) none = absurd cc
+planned_is_still s (Receives i) none = absurd cc

@@ -4,7 +4,7 @@ use Rattle.std.specs.Prelude.{if◌then◌else◌}
 use Rattle.std.proofs.lemmas.Bool.Decides.{nat_tests}
 use Rattle.sb_journal.specs.Opened.{Opened, Stands, Damage, opened}
 use Rattle.sb_journal.specs.declared.found.Side.{Side}
-use Rattle.sb_journal.specs.Text.{File}
+use Rattle.sb_journal.specs.Text.{File, first_gate}
 use Rattle.sb_codec.specs.Reading.{read_event}
 use Rattle.sb_model.specs.Answers.{Row, refuses, stays, moves, row_of, state_in}
 use Rattle.sb_model.specs.Consistent.{IsConsistent}
@@ -13,7 +13,7 @@ use Rattle.sb_model.specs.declared.call.Event.{Event}
 use Rattle.sb_model.specs.declared.call.Event.TheVariants.{Tick, Called}
 use Rattle.sb_model.specs.declared.state.State.{State}
 use Rattle.sb_model.proofs.Consistency.{stays_consistent}
-use Rattle.sb_node.specs.Recovery.{next_state, moved, replay, reaches, breaks, Replayed, recovered, recovered_from, reached, recovers, first_gate, Recovers}
+use Rattle.sb_node.specs.Recovery.{next_state, moved, replay, reaches, breaks, Replayed, recovered, recovered_from, reached, recovers, Recovers}
 
 starts : (salt : ℕ) → IsConsistent (empty_state salt)
 starts salt = record { now = omega arith; made = omega arith; last_entity = omega arith; entities = omega arith; names = tt }
@@ -47,11 +47,15 @@ reached_consistent : (side : Side) (file : File) (r : Replayed) (s : State) (las
 reached_consistent side file (breaks place) s last on e = absurd cc
 reached_consistent side file (reaches x) s last on e = let same : x ≡ s = cc in subst (λ (y : State). IsConsistent y) same (on x refl)
 
+-- carried out from an empty namespace on
+pub events_consistent : (salt : ℕ) (place : ℕ) (ps : List (List ℕ)) (s : State) → replay (empty_state salt) place ps ≡ reaches s → IsConsistent s
+events_consistent salt place ps s leads = replay_consistent (empty_state salt) s place ps (starts salt) leads
+
 opened_consistent : (o : Opened) (s : State) (last : ℕ) → recovered_from o ≡ recovers s last → IsConsistent s
 opened_consistent (Damage side place) s last e = absurd cc
 opened_consistent (Stands side file) s last e =
     reached_consistent side file (replay (empty_state file.salt) (first_gate file) file.payloads) s last
-    (λ x leads. replay_consistent (empty_state file.salt) x (first_gate file) file.payloads (starts file.salt) leads) e
+    (λ x leads. events_consistent file.salt (first_gate file) file.payloads x leads) e
 
 pub recovers_consistent : (a b : List ℕ) (salt : ℕ) (s : State) → Recovers (recovered a b salt) s → IsConsistent s
 recovers_consistent a b salt s r = opened_consistent (opened a b salt) s r.0 r.1

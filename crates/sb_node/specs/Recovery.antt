@@ -6,8 +6,9 @@ use Rattle.sb_model.specs.declared.call.Event.{Event}
 use Rattle.sb_model.specs.declared.call.Event.TheVariants.{Tick, Called}
 use Rattle.sb_model.specs.declared.state.State.{State}
 use Rattle.sb_codec.specs.Reading.{read_event}
-use Rattle.sb_journal.specs.Text.{File}
+use Rattle.sb_journal.specs.Text.{File, first_gate, next_gate}
 use Rattle.sb_journal.specs.Opened.{Opened, Stands, Damage, opened}
+use Rattle.sb_journal.specs.Disks.{Disks}
 use Rattle.sb_journal.specs.declared.found.Side.{Side}
 
 -- the state after a row that changed something at this moment
@@ -31,17 +32,13 @@ pub data Replayed : Type 0 where
 -- the payloads behind the gate at this place, each the next event
 abbrev pub replay : State → ℕ → List (List ℕ) → Replayed
 replay s place [] = reaches s
-replay s place (p ∷ ps) = elim (next_state s (read_event p)) [ Some next ↦ replay next (place + (13 + length p)) ps | None ↦ breaks place ]
+replay s place (p ∷ ps) = elim (next_state s (read_event p)) [ Some next ↦ replay next (next_gate place p) ps | None ↦ breaks place ]
 
 pub data Recovered : Type 0 where
   -- this state, and the number of the last journal record
   recovers : State → ℕ → Recovered
   -- this disk can't be trusted from this place on
   damaged : Side → ℕ → Recovered
-
--- the place of a file's first gate
-abbrev pub first_gate : File → ℕ
-first_gate file = 42 + length file.base
 
 abbrev pub reached : Side → File → Replayed → Recovered
 reached side file (reaches s) = recovers s (file.first - 1 + length file.payloads)
@@ -54,6 +51,10 @@ recovered_from (Damage side place) = damaged side place
 -- what two disks stand for; the salt is a new namespace's
 abbrev pub recovered : List ℕ → List ℕ → ℕ → Recovered
 recovered a b salt = recovered_from (opened a b salt)
+
+-- as they are read
+abbrev pub recovered_on : Disks → ℕ → Recovered
+recovered_on disks salt = recovered disks.a.held.seen disks.b.held.seen salt
 
 -- it is this state that is recovered
 abbrev pub Recovers : Recovered → State → Type 0

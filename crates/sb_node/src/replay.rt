@@ -10,7 +10,7 @@ ghost use Rattle.sb_node.specs.declared.replay.ReplayFault.TheVariants.{NoEvent}
 
 use crate::engine::Engine;
 use sb_codec::decode_event;
-use sb_journal::Bytes;
+use sb_journal::{Bytes, next_gate};
 use sb_model::{Call, Event, Refusal};
 use std::alloc::{AllocError, Global};
 
@@ -72,7 +72,7 @@ pub fn replay_all(
     for payload in payloads {
         let bytes = payload.as_slice();
         match take_payload(alloc, engine, bytes) {
-            Ok(true) => gate += 13 + bytes.len() as u64,
+            Ok(true) => gate = next_gate(gate, bytes),
             Ok(false) => return Err(ReplayFault::NoEvent(gate)),
             Err(_) => return Err(ReplayFault::OutOfMemory),
         }

@@ -1,10 +1,11 @@
 use Rattle.std.proofs.Common.{◌≡◌, Err, Ok, sym}
-use Rattle.sb_node.specs.Nodes.{node_state, node_stopped}
+use Rattle.sb_node.specs.Nodes.{node_state, node_stopped, node_disks}
 use Rattle.sb_bus.specs.Outside.{output_of}
 use Rattle.sb_bus.specs.declared.script_line.ScriptLine.TheVariants.{Request}
 use Rattle.sb_bus.proofs.Steps.{accepted_answer, refused_answer, stepped, answered_call, still_runs_wanting}
 use Rattle.sb_bus.proofs.Cuts.{step_at, failed_answer, wanting_answer, disk_cut, memory_cut, reply_cut_at}
 use Rattle.sb_bus.proofs.Errors.{passed_on}
+use Rattle.sb_bus.proofs.Faults.{present_either}
 use Rattle.sb_bus.proofs.dispatch.dispatch_call.Goals as goal
 
 pub returns-in-Accepted-clause-done : goal.returns-in-Accepted-clause-done
@@ -22,7 +23,7 @@ pub returns-in-Accepted-clause-kept : goal.returns-in-Accepted-clause-kept
 returns-in-Accepted-clause-kept g c safe sound =
     let kind = accepted_answer c.step-answer.result (sym c.in-Accepted.ensures) in
     let step = stepped (node_state c.args.node.now) _ (node_stopped c.args.node.now) (node_stopped c.step-answer.new.self) c.args.asked.now.reading c.args.asked.now.call c.step-answer.result c.requires (c.step-answer.ensures.step 0) kind.0 in
-    c.step-answer.ensures.kept safe.0 safe.1 step.runs
+    c.step-answer.ensures.kept safe step.runs
 
 pub returns-clause-done : goal.returns-clause-done
 returns-clause-done g c =
@@ -39,7 +40,7 @@ pub returns-clause-kept : goal.returns-clause-kept
 returns-clause-kept g c safe sound =
     let kind = refused_answer c.step-answer.result (sym c.in-Refused.ensures) in
     let step = stepped (node_state c.args.node.now) _ (node_stopped c.args.node.now) (node_stopped c.step-answer.new.self) c.args.asked.now.reading c.args.asked.now.call c.step-answer.result c.requires (c.step-answer.ensures.step 0) kind.0 in
-    c.step-answer.ensures.kept safe.0 safe.1 step.runs
+    c.step-answer.ensures.kept safe step.runs
 
 pub returns-in-Failed-clause-cut : goal.returns-in-Failed-clause-cut
 returns-in-Failed-clause-cut g c =
@@ -56,7 +57,7 @@ returns-in-Wanting-clause-cut g c =
 pub returns-in-Wanting-clause-kept : goal.returns-in-Wanting-clause-kept
 returns-in-Wanting-clause-kept g c safe sound =
     let wants = wanting_answer c.step-answer.result (sym c.in-Wanting.ensures) in
-    c.step-answer.ensures.kept safe.0 safe.1 (still_runs_wanting _ _ _ _ _ _ _ c.requires (c.step-answer.ensures.step 0) wants)
+    c.step-answer.ensures.kept safe (still_runs_wanting _ _ _ _ _ _ _ c.requires (c.step-answer.ensures.step 0) wants)
 
 pub returns-in_err-write_answer-in-Accepted-clause-cut : goal.returns-in_err-write_answer-in-Accepted-clause-cut
 returns-in_err-write_answer-in-Accepted-clause-cut g c =
@@ -69,7 +70,7 @@ pub returns-in_err-write_answer-in-Accepted-clause-kept : goal.returns-in_err-wr
 returns-in_err-write_answer-in-Accepted-clause-kept g c safe sound =
     let kind = accepted_answer c.step-answer.result (sym c.in-Accepted.ensures) in
     let step = stepped (node_state c.args.node.now) _ (node_stopped c.args.node.now) (node_stopped c.step-answer.new.self) c.args.asked.now.reading c.args.asked.now.call c.step-answer.result c.requires (c.step-answer.ensures.step 0) kind.0 in
-    c.step-answer.ensures.kept safe.0 safe.1 step.runs
+    c.step-answer.ensures.kept safe step.runs
 
 pub returns-in_err-write_answer-in-Refused-clause-cut : goal.returns-in_err-write_answer-in-Refused-clause-cut
 returns-in_err-write_answer-in-Refused-clause-cut g c =
@@ -82,4 +83,18 @@ pub returns-in_err-write_answer-in-Refused-clause-kept : goal.returns-in_err-wri
 returns-in_err-write_answer-in-Refused-clause-kept g c safe sound =
     let kind = refused_answer c.step-answer.result (sym c.in-Refused.ensures) in
     let step = stepped (node_state c.args.node.now) _ (node_stopped c.args.node.now) (node_stopped c.step-answer.new.self) c.args.asked.now.reading c.args.asked.now.call c.step-answer.result c.requires (c.step-answer.ensures.step 0) kind.0 in
-    c.step-answer.ensures.kept safe.0 safe.1 step.runs
+    c.step-answer.ensures.kept safe step.runs
+
+pub returns-in-Failed-clause-disk_fault : goal.returns-in-Failed-clause-disk_fault
+returns-in-Failed-clause-disk_fault g c is =
+    let one = c.step-answer.ensures.disk_fault (failed_answer c.step-answer.result (node_stopped c.args.node.now) c.requires c.step-answer.ensures.stopped (sym c.in-Failed.ensures)) in
+    (one.0, one.2)
+
+pub returns-in-Failed-clause-undecided : goal.returns-in-Failed-clause-undecided
+returns-in-Failed-clause-undecided g c safe is = present_either (node_disks c.args.node.now) (node_disks c.step-answer.new.self) _ _ (c.step-answer.ensures.any_moment safe)
+
+pub returns-in_err-write_answer-in-Accepted-clause-undecided : goal.returns-in_err-write_answer-in-Accepted-clause-undecided
+returns-in_err-write_answer-in-Accepted-clause-undecided g c safe is = present_either (node_disks c.args.node.now) (node_disks c.step-answer.new.self) _ _ (c.step-answer.ensures.any_moment safe)
+
+pub returns-in_err-write_answer-in-Refused-clause-undecided : goal.returns-in_err-write_answer-in-Refused-clause-undecided
+returns-in_err-write_answer-in-Refused-clause-undecided g c safe is = present_either (node_disks c.args.node.now) (node_disks c.step-answer.new.self) _ _ (c.step-answer.ensures.any_moment safe)

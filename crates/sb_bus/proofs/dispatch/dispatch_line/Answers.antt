@@ -1,10 +1,8 @@
 use Rattle.std.proofs.Common.{sym, subst}
-use Rattle.sb_node.specs.Nodes.{node_state}
+use Rattle.sb_node.specs.Nodes.{node_state, IsEither, StayEither, node_disks}
+use Rattle.sb_bus.specs.Outside.{output_of}
 use Rattle.sb_node.proofs.Crashes.{untouched_moments}
 use Rattle.sb_bus.specs.declared.script_line.ScriptLine.{ScriptLine}
-use Rattle.sb_bus.specs.Outside.{output_of}
-use Rattle.sb_bus.specs.Disks.{IsEither, StayEither}
-use Rattle.sb_bus.specs.Nodes.{disks_under}
 use Rattle.sb_bus.specs.Runs.{state_by}
 use Rattle.sb_bus.proofs.Cuts.{malformed_cut}
 use Rattle.sb_bus.proofs.Errors.{passed_on}
@@ -18,18 +16,18 @@ returns-in_err-write_answer-in-Malformed-clause-cut g c =
 pub returns-in-Request-clause-undecided : goal.returns-in-Request-clause-undecided
 returns-in-Request-clause-undecided g c safe failed =
     let s = node_state c.args.node.now in
-    subst (λ (x : ScriptLine). IsEither (disks_under g.D.Disk c.dispatch_call.new.node) s (state_by s x)) (sym c.in-Request.is) (c.dispatch_call.ensures.undecided safe failed)
+    subst (λ (x : ScriptLine). IsEither (node_disks c.dispatch_call.new.node) s (state_by s x)) (sym c.in-Request.is) (c.dispatch_call.ensures.undecided safe failed)
 
 pub returns-in-Request-clause-any_moment : goal.returns-in-Request-clause-any_moment
 returns-in-Request-clause-any_moment g c safe =
     let s = node_state c.args.node.now in
-    subst (λ (x : ScriptLine). StayEither (disks_under g.D.Disk c.args.node.now) (disks_under g.D.Disk c.dispatch_call.new.node) s (state_by s x)) (sym c.in-Request.is) (c.dispatch_call.ensures.any_moment safe)
+    subst (λ (x : ScriptLine). StayEither (node_disks c.args.node.now) (node_disks c.dispatch_call.new.node) s (state_by s x)) (sym c.in-Request.is) (c.dispatch_call.ensures.any_moment safe)
 
 pub returns-in-Blank-clause-any_moment : goal.returns-in-Blank-clause-any_moment
-returns-in-Blank-clause-any_moment g c safe = untouched_moments _ _ _ safe.1
+returns-in-Blank-clause-any_moment g c safe = untouched_moments _ _ _ safe
 
 pub returns-in_ok-write_answer-in-Malformed-clause-any_moment : goal.returns-in_ok-write_answer-in-Malformed-clause-any_moment
-returns-in_ok-write_answer-in-Malformed-clause-any_moment g c safe = untouched_moments _ _ _ safe.1
+returns-in_ok-write_answer-in-Malformed-clause-any_moment g c safe = untouched_moments _ _ _ safe
 
 pub returns-in_err-write_answer-in-Malformed-clause-any_moment : goal.returns-in_err-write_answer-in-Malformed-clause-any_moment
-returns-in_err-write_answer-in-Malformed-clause-any_moment g c safe = untouched_moments _ _ _ safe.1
+returns-in_err-write_answer-in-Malformed-clause-any_moment g c safe = untouched_moments _ _ _ safe

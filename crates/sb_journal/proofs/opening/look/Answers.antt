@@ -1,6 +1,6 @@
 use Rattle.std.proofs.Common.{sym, subst}
 use Rattle.std.specs.Prelude.{IsTrue}
-use Rattle.sb_journal.proofs.Settling.{unwritten_synced}
+use Rattle.sb_journal.proofs.Finishing.{unwritten_synced}
 use Rattle.sb_journal.proofs.opening.look.Goals as goal
 
 pub returns-in-Err-Disk-clause-untouched : goal.returns-in-Err-Disk-clause-untouched

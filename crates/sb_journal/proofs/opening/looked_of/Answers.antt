@@ -1,7 +1,7 @@
 use Rattle.std.proofs.Common.{◌≤◌, ℕ, List, length, sym, ◌∙◌, ap, subst, arith}
 use Rattle.std.specs.Prelude.{nat_lt, ◌&&◌, ◌==◌, slice_index, Bool}
 use Rattle.sb_journal.specs.Opened.{stand_file, IsReading}
-use Rattle.sb_journal.proofs.Settling.{read_no_file, read_file}
+use Rattle.sb_journal.proofs.Finishing.{read_no_file, read_file}
 use Rattle.sb_journal.proofs.opening.looked_of.Goals as goal
 
 -- whether this place has a closed gate

@@ -1,10 +1,10 @@
--- An opening: what was read, and what a crash leaves while it is settled.
+-- An opening: what was read, and what a crash leaves while it is finished.
 use Rattle.std.proofs.Common.{◌≡◌, ◌⊎◌, inl, inr, ℕ, ◌+◌, ◌<◌, ◌≤◌, ◌^◌, List, [], ◌∷◌, ◌++◌, length, true, false, refl, sym, ◌∙◌, ap, subst, arith, length-append}
 use Rattle.std.specs.Prelude.{nat_lt, ◌&&◌, ◌==◌, slice_index, Bool, if◌then◌else◌, Option, Some, None, Result, Ok, Err}
 use Rattle.sb_outside.specs.Held.{Held, IsImage, Moves, at_rest}
-use Rattle.sb_journal.specs.Text.{File, new_file, file_text, IsWithin, AreBytes}
+use Rattle.sb_journal.specs.Text.{File, new_file, new_bytes, file_text, IsWithin, AreBytes}
 use Rattle.sb_journal.specs.Framing.{Framing, Uncreated, Whole, Damaged, framing, is_created, head_fault, payloads_in, sound_or_damaged, whole_or_damaged}
-use Rattle.sb_journal.specs.Settled.{Rests, IsOldNoneOrNew, IsTornEnd, MayLeave}
+use Rattle.sb_journal.specs.Crashes.{Rests, IsOldNoneOrNew, IsTornEnd, MayLeave}
 use Rattle.sb_journal.specs.Moments.{EachMoment, FromSync, IsUnwritten}
 use Rattle.sb_journal.specs.Opened.{Stands, opened_alone, IsRead}
 use Rattle.sb_journal.specs.declared.found.Side.{Side}
@@ -115,7 +115,7 @@ module _ (salt : ℕ) (seen : List ℕ) where
   pub end_leaves : (f : File) → framing seen ≡ Whole f → (image : List ℕ) → (image ≡ seen) ⊎ IsTornEnd f seen image → R image
   end_leaves f whole image left = let P : Framing → Type 0 = λ r. MayLeave salt seen r image in subst P (sym whole) left
 
-  pub new_leaves : framing seen ≡ Uncreated → (image : List ℕ) → IsOldNoneOrNew seen (new_file salt 1 1 []) image → R image
+  pub new_leaves : framing seen ≡ Uncreated → (image : List ℕ) → IsOldNoneOrNew seen (new_bytes salt 1 1 []) image → R image
   new_leaves none image left = let P : Framing → Type 0 = λ r. MayLeave salt seen r image in subst P (sym none) left
 
 pub opening_stays : (salt : ℕ) (p0 p1 : List Held) (h0 h1 : Held) → IsUnwritten p0 h0 p1 h1 → FromSync p0 h0 p1 h1 (MayLeave salt h0.seen (framing h0.seen))
@@ -125,9 +125,9 @@ opening_stays salt p0 p1 h0 h1 unwritten = by_moments unwritten.moments
     by_moments (inl same) = inl same
     by_moments (inr run) = inr (weaker_moments (p0 ++ h0 ∷ []) p1 h1 _ _ (kept_leaves salt h0.seen) run)
 
--- what was read is settled
-pub opening_settles : (salt salt_1 : ℕ) (p0 p1 p2 : List Held) (h0 h1 h2 : Held) → salt_1 ≡ salt → Moves p0 h0 p1 h1 (at_rest h0.seen) → EachMoment p1 p2 h2 (MayLeave salt_1 h1.seen (framing h1.seen)) → FromSync p0 h0 p2 h2 (MayLeave salt h0.seen (framing h0.seen))
-opening_settles salt salt_1 p0 p1 p2 h0 h1 h2 same synced run =
+-- what was read is made ready
+pub opening_finishes : (salt salt_1 : ℕ) (p0 p1 p2 : List Held) (h0 h1 h2 : Held) → salt_1 ≡ salt → Moves p0 h0 p1 h1 (at_rest h0.seen) → EachMoment p1 p2 h2 (MayLeave salt_1 h1.seen (framing h1.seen)) → FromSync p0 h0 p2 h2 (MayLeave salt h0.seen (framing h0.seen))
+opening_finishes salt salt_1 p0 p1 p2 h0 h1 h2 same synced run =
     let seen : h1.seen ≡ h0.seen = ap (λ m. m.seen) synced.now_is in
     let here = subst (λ (n : ℕ). EachMoment p1 p2 h2 (MayLeave n h1.seen (framing h1.seen))) same run in
     let there = subst (λ (s : List ℕ). EachMoment p1 p2 h2 (MayLeave salt s (framing s))) seen here in
@@ -150,9 +150,9 @@ pub closes : (salt : ℕ) (p0 p1 : List Held) (h0 h1 : Held) (f : File) → fram
 closes salt p0 p1 h0 h1 f whole run = weaker_moments p0 p1 h1 _ _ (end_leaves salt h0.seen f whole) run
 
 -- or by making a file on a disk at rest, from its first sync on
-pub makes : (salt : ℕ) (p0 p1 : List Held) (h0 h1 : Held) → h0 ≡ at_rest h0.seen → framing h0.seen ≡ Uncreated → FromSync p0 h0 p1 h1 (IsOldNoneOrNew h0.seen (new_file salt 1 1 [])) → EachMoment p0 p1 h1 (MayLeave salt h0.seen (framing h0.seen))
+pub makes : (salt : ℕ) (p0 p1 : List Held) (h0 h1 : Held) → h0 ≡ at_rest h0.seen → framing h0.seen ≡ Uncreated → FromSync p0 h0 p1 h1 (IsOldNoneOrNew h0.seen (new_bytes salt 1 1 [])) → EachMoment p0 p1 h1 (MayLeave salt h0.seen (framing h0.seen))
 makes salt p0 p1 h0 h1 at none run =
-    weaker_moments p0 p1 h1 _ _ (new_leaves salt h0.seen none) (from_start p0 p1 h0 h1 (IsOldNoneOrNew h0.seen (new_file salt 1 1 [])) run (λ image left. inl (rest_image h0.seen image (subst (λ m. IsImage m image) at left))))
+    weaker_moments p0 p1 h1 _ _ (new_leaves salt h0.seen none) (from_start p0 p1 h0 h1 (IsOldNoneOrNew h0.seen (new_bytes salt 1 1 [])) run (λ image left. inl (rest_image h0.seen image (subst (λ m. IsImage m image) at left))))
 
 pub none_is : (h : Held) (e : Ending) → IsRead h e → e.made ≡ false → framing h.seen ≡ Uncreated
 none_is h e read isnt = not_created h.seen (sym read.made ∙ isnt)
@@ -161,7 +161,7 @@ pub some_is : (salt : ℕ) (h : Held) (e : Ending) (file : File) → IsRead h e 
 some_is salt h e file read is stands = file_is salt h.seen file (sym read.made ∙ is) stands
 
 -- the new file rests where the file that counts is to
-pub new_rests_there : (salt : ℕ) (h0 h1 : Held) (e : Ending) (file : File) → IsRead h0 e → framing h0.seen ≡ Uncreated → opened_alone salt (framing h0.seen) ≡ Stands A file → salt < 2 ^ 64 → h1 ≡ at_rest (file_text (new_file salt 1 1 []) ++ 0 ∷ []) → Rests h1 e.end e.next file
+pub new_rests_there : (salt : ℕ) (h0 h1 : Held) (e : Ending) (file : File) → IsRead h0 e → framing h0.seen ≡ Uncreated → opened_alone salt (framing h0.seen) ≡ Stands A file → salt < 2 ^ 64 → h1 ≡ at_rest (new_bytes salt 1 1 []) → Rests h1 e.end e.next file
 new_rests_there salt h0 h1 e file read none stands fits made =
     let is = new_file_is salt (framing h0.seen) file none stands in
     let rests = new_rests h1 salt 1 1 fits (omega arith) (omega arith) (omega arith) (omega arith) made in

@@ -1,7 +1,7 @@
--- When a disk has a whole file on it, and what a crash leaves while a record is added.
+-- When a disk has a whole file on it, and what a crash may leave while a record is added, a file is made, or an opening goes on.
 use Rattle.std.specs.Prelude.{◌≡◌, ◌⊎◌, ◌+◌, ◌≤◌, ℕ, List, [], ◌∷◌, ◌++◌, length, slice_index, false}
 use Rattle.sb_outside.specs.Held.{Held, at_rest, is_written}
-use Rattle.sb_journal.specs.Text.{File, new_file, framed, file_text, with_payload, IsWithin}
+use Rattle.sb_journal.specs.Text.{File, framed, file_text, new_bytes, with_payload, IsWithin}
 use Rattle.sb_journal.specs.Framing.{Framing, Uncreated, Whole, Damaged, framing}
 
 -- The file and its closed end gate are on the disk, all of it safe. Behind the gate may stand what is left of a torn
@@ -15,10 +15,6 @@ pub record Rests (held : Held) (end next : ℕ) (file : File) : Type 0 where
   pub next_is : next ≡ file.first + length file.payloads
   pub within : IsWithin file
 
--- the bytes stand for the file, with one payload more or without it
-abbrev pub IsBeforeOrAfter : File → List ℕ → List ℕ → Type 0
-IsBeforeOrAfter file payload bytes = (framing bytes ≡ Whole file) ⊎ (framing bytes ≡ Whole (with_payload file payload))
-
 -- What a crash during an append may leave: the file and a closed gate, or the file, any gate, and behind it the whole
 -- record and a closed gate.
 pub record IsTornAppend (file : File) (payload bytes : List ℕ) : Type 0 where
@@ -26,9 +22,9 @@ pub record IsTornAppend (file : File) (payload bytes : List ℕ) : Type 0 where
   pub within_after : IsWithin (with_payload file payload)
   pub stands : ((tail : List ℕ) × (bytes ≡ file_text file ++ 0 ∷ tail)) ⊎ ((gate : ℕ) × (tail : List ℕ) × (bytes ≡ file_text file ++ gate ∷ (framed (file.first + length file.payloads) payload ++ 0 ∷ tail)))
 
--- a file is being made in the place of these bytes: they stand unchanged, or no file counts, or the new one does
-abbrev pub IsOldNoneOrNew : List ℕ → File → List ℕ → Type 0
-IsOldNoneOrNew old file bytes = (bytes ≡ old) ⊎ ((framing bytes ≡ Uncreated) ⊎ (framing bytes ≡ Whole file))
+-- New bytes are being put in the place of old ones: the old ones stand unchanged, or no file counts, or all of the new ones stand.
+abbrev pub IsOldNoneOrNew : (old new bytes : List ℕ) → Type 0
+IsOldNoneOrNew old new bytes = (bytes ≡ old) ⊎ ((framing bytes ≡ Uncreated) ⊎ (bytes ≡ new))
 
 -- the file's gate is closed in each image of this disk
 pub record IsShut (held : Held) : Type 0 where
@@ -47,6 +43,15 @@ pub record IsTornEnd (file : File) (seen bytes : List ℕ) : Type 0 where
 
 -- What a crash during an opening may leave of the bytes that it found.
 abbrev pub MayLeave : ℕ → List ℕ → Framing → List ℕ → Type 0
-MayLeave salt seen Uncreated bytes = IsOldNoneOrNew seen (new_file salt 1 1 []) bytes
+MayLeave salt seen Uncreated bytes = IsOldNoneOrNew seen (new_bytes salt 1 1 []) bytes
 MayLeave salt seen (Whole file) bytes = (bytes ≡ seen) ⊎ IsTornEnd file seen bytes
 MayLeave salt seen (Damaged place) bytes = bytes ≡ seen
+
+-- ---- of the bytes of both disks: disk b doesn't count yet
+
+abbrev pub IsTornPair : File → List ℕ → (a b : List ℕ) → Type 0
+IsTornPair file payload a b = IsTornAppend file payload a
+
+-- the bytes that an opening found on the two disks, and what a crash during it may leave there
+abbrev pub LeavesFound : ℕ → (a b x y : List ℕ) → Type 0
+LeavesFound salt a b x y = MayLeave salt a (framing a) x

@@ -1,0 +1,97 @@
+-- The two disks of a journal as one value, and what is said of both.
+use Rattle.std.specs.Prelude.{◌≡◌, ◌⊎◌, ◌≤◌, ℕ, List, drop, Bool, IsTrue, slice_index}
+use Rattle.sb_outside.specs.Causes.{RoseByOne}
+use Rattle.sb_outside.specs.Held.{Held, IsImage, Moves, at_rest}
+use Rattle.sb_outside.specs.declared.disk.Disk.{Ghosts}
+use Rattle.sb_journal.specs.declared.found.Side.{Side}
+use Rattle.sb_journal.specs.declared.found.Side.TheVariants.{A, B}
+use Rattle.sb_journal.specs.Framing.{Uncreated, framing}
+use Rattle.sb_journal.specs.Moments.{EachMoment, FromSync, IsUnwritten}
+use Rattle.sb_journal.specs.Opened.{Opened, opened}
+use Rattle.sb_journal.specs.Crashes.{LeavesFound}
+
+-- what a disk tells: whether what is said of its content holds, what it holds, what it held at each moment before, and how many of
+-- its calls have failed
+pub record OneDisk : Type 0 where
+  pub honest : Bool
+  pub held : Held
+  pub past : List Held
+  pub faults : ℕ
+
+pub record Disks : Type 0 where
+  pub a : OneDisk
+  pub b : OneDisk
+
+abbrev pub disk_of : {D : Type 0} (G : Ghosts D) → D → OneDisk
+disk_of G d = record { honest = G.honest d; held = G.held d; past = G.past d; faults = G.count d }
+
+abbrev pub disks_of : {D : Type 0} (G : Ghosts D) → (a b : D) → Disks
+disks_of G a b = record { a = disk_of G a; b = disk_of G b }
+
+abbrev pub on_side : Side → Disks → OneDisk
+on_side A disks = disks.a
+on_side B disks = disks.b
+
+abbrev pub AreHonest : Disks → Type 0
+AreHonest disks = IsTrue disks.a.honest × IsTrue disks.b.honest
+
+-- what they stand for, as they are read; the salt is that of a new file
+abbrev pub opened_on : Disks → ℕ → Opened
+opened_on disks salt = opened disks.a.held.seen disks.b.held.seen salt
+
+-- ---- what a crash may leave
+
+-- each two images that a crash now may leave
+abbrev pub EachImage : Disks → (List ℕ → List ℕ → Type 0) → Type 0
+EachImage disks P = (x y : List ℕ) → IsImage disks.a.held x → IsImage disks.b.held y → P x y
+
+-- Each two images that a crash may leave, of the first disk at a moment since and of the second at a moment since. A disk that stood
+-- still has one moment.
+abbrev pub EachPair : (was later : Disks) → (List ℕ → List ℕ → Type 0) → Type 0
+EachPair was later P = EachMoment was.a.past later.a.past later.a.held (λ x. EachMoment was.b.past later.b.past later.b.held (λ y. P x y))
+
+-- What stands on a disk where no file was made begins with 00 or 01, or is nothing: it can't be somebody else's. Disk b isn't taken over
+-- yet.
+abbrev pub AreOurs : Disks → Type 0
+AreOurs disks = framing disks.a.held.seen ≡ Uncreated → slice_index disks.a.held.seen 0 ≤ 1
+
+-- From its first sync on, what counts leaves what a crash during an opening that found these may leave: what was found, up to its end
+-- gate; where there was no file, none or a new one. Of somebody else's file nothing is said, nor of disk b, which doesn't count yet.
+abbrev pub KeepFound : ℕ → (was later : Disks) → Type 0
+KeepFound salt was later = AreOurs was → FromSync was.a.past was.a.held later.a.past later.a.held (λ x. LeavesFound salt was.a.held.seen was.b.held.seen x was.b.held.seen)
+
+-- nothing was written: the same is read, and from the first sync on a crash leaves just that
+abbrev pub AreUnwritten : (was later : Disks) → Type 0
+AreUnwritten was later = IsUnwritten was.a.past was.a.held later.a.past later.a.held × IsUnwritten was.b.past was.b.held later.b.past later.b.held
+
+-- what counts was made safe, and nothing else was done; disk b doesn't count yet
+abbrev pub AreSynced : (was later : Disks) → Type 0
+AreSynced was later = Moves was.a.past was.a.held later.a.past later.a.held (at_rest was.a.held.seen)
+
+-- the disk of this side is as it was read, all of it safe
+abbrev pub IsAtRest : Side → (was later : Disks) → Type 0
+IsAtRest side was later = (on_side side later).held ≡ at_rest (on_side side was).held.seen
+
+-- from this place of the file on, the bytes are those that were read before; disk b has no file yet
+abbrev pub StaysBehind : ℕ → Disks → (x y : List ℕ) → Type 0
+StaysBehind place was x y = drop place x ≡ drop place was.a.held.seen
+
+-- ---- counts of faults, and honesty
+
+abbrev pub AreQuiet : (was later : Disks) → Type 0
+AreQuiet was later = (later.a.faults ≡ was.a.faults) × (later.b.faults ≡ was.b.faults)
+
+-- one call failed, and this is the count of the disk whose call it was
+abbrev pub OneFault : (was later : Disks) → ℕ → Type 0
+OneFault was later n =
+    ((n ≡ later.a.faults) × RoseByOne was.a.faults later.a.faults × (later.b.faults ≡ was.b.faults))
+    ⊎ ((n ≡ later.b.faults) × RoseByOne was.b.faults later.b.faults × (later.a.faults ≡ was.a.faults))
+
+abbrev pub HaveFailed : (was later : Disks) → Type 0
+HaveFailed was later = (n : ℕ) × OneFault was later n
+
+abbrev pub NoneFell : (was later : Disks) → Type 0
+NoneFell was later = (was.a.faults ≤ later.a.faults) × (was.b.faults ≤ later.b.faults)
+
+abbrev pub SameHonesty : (was later : Disks) → Type 0
+SameHonesty was later = (later.a.honest ≡ was.a.honest) × (later.b.honest ≡ was.b.honest)
