@@ -390,8 +390,10 @@ fn left_by_failing(
     row: &str,
     status: u8,
 ) -> Result<Vec<u8>, Fail> {
-    let rows = rows_of(rt, &[row])?;
-    let unopened = call < 3;
+    let mut rows = rows_of(rt, &[row])?;
+    if call < 3 {
+        rows.told.clear();
+    }
     let case = Case {
         words: &RUN,
         disk,
@@ -400,7 +402,7 @@ fn left_by_failing(
             ..NOTHING
         },
         script: &rows.script,
-        told: if unopened { &[] } else { &rows.told },
+        told: &rows.told,
         status,
     };
     leaves(rt, case)

@@ -1,4 +1,4 @@
-use Rattle.std.proofs.Common.{◌≡◌, Err, Ok, sym}
+use Rattle.std.proofs.Common.{sym}
 use Rattle.sb_node.specs.Nodes.{node_state, node_stopped, node_disks}
 use Rattle.sb_bus.specs.Outside.{output_of}
 use Rattle.sb_bus.specs.declared.script_line.ScriptLine.TheVariants.{Request}

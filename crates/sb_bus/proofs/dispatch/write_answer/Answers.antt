@@ -1,4 +1,4 @@
-use Rattle.std.proofs.Common.{sym, ◌∙◌, subst}
+use Rattle.std.proofs.Common.{◌∙◌, subst}
 use Rattle.sb_bus.specs.declared.ending.RunEnd.TheVariants.{WriteFault}
 use Rattle.sb_bus.specs.Outside.{output_of}
 use Rattle.sb_bus.specs.Endings.{IsReplyCut}
