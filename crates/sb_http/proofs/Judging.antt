@@ -12,8 +12,8 @@ use Rattle.sb_http.specs.Bodies.{max_body}
 use Rattle.sb_http.specs.Stages.{whole, IsHeadText}
 use Rattle.sb_http.specs.Causes.{Refuses}
 use Rattle.sb_http.specs.Found.{head_at, IsHeadAt, HeadAnswers}
-use Rattle.sb_http.proofs.Items.{head_unique, head_prefix}
-use Rattle.sb_http.proofs.Refusals.{never_head, refused, too_much}
+use Rattle.sb_http.proofs.Items.{head_unique}
+use Rattle.sb_http.proofs.Refusals.{never_head, refuses_head, too_much}
 
 -- where no head is read, the request is refused for the same reason
 pub head_refused : (bytes : List ℕ) (spans : List HeaderSpan) (fault : HttpFault) → HeadAnswers bytes spans (Err fault) → Refuses fault (whole bytes)
@@ -24,13 +24,7 @@ head_refused bytes spans BodyTooLarge x = absurd x
 module _ (bytes : List ℕ) (spans : List HeaderSpan) (r : RequestSpans) (x : IsHeadAt bytes spans r) (f : Framing)
     (framed : f ≡ framing (head_at (take r.len bytes) spans r)) where
   pub is_refused : f ≡ Refused → Refuses BadHead (whole bytes)
-  is_refused e = record {
-    never = refused bytes _ _ x.reads (sym framed ∙ e);
-    cause = λ more p.
-        let same = (head_prefix bytes more _ p.0 _ p.1 x.reads p.3).0 in
-        let clash : Refused ≡ Sized p.2 = sym (sym framed ∙ e) ∙ ap framing same ∙ p.4 in
-        absurd cc;
-  }
+  is_refused e = refuses_head bytes _ _ x.reads (sym framed ∙ e)
 
   pub is_too_large : (size : ℕ) → f ≡ Sized size → max_body < size → Refuses BodyTooLarge (whole bytes)
   is_too_large size e large = record { never = too_much bytes _ _ size x.reads (sym framed ∙ e) large; cause = (_, _, size, x.reads, sym framed ∙ e, large) }

@@ -10,4 +10,6 @@ pub mod Streams
 pub mod Shorter
 pub mod Kept
 pub mod Answering
-pub mod Worked
+pub mod Written
+pub mod WorkedFraming
+pub mod WorkedStreams

@@ -34,6 +34,15 @@ refused bytes head after x bad others m rest r =
     let same = head_prefix bytes others head m.head after r.after x r.head in
     subst (λ (f : Framing). ReadsBody f r.after m.body rest) (sym (ap framing same.0) ∙ bad) r.body
 
+pub refuses_head : (bytes : List ℕ) (head : Head) (after : List ℕ) → ReadsHead bytes head after → framing head ≡ Refused → Refuses BadHead (whole bytes)
+refuses_head bytes head after x bad = record {
+  never = refused bytes head after x bad;
+  cause = λ more p.
+      let same = (head_prefix bytes more head p.0 after p.1 x p.3).0 in
+      let clash : Refused ≡ Sized p.2 = sym bad ∙ ap framing same ∙ p.4 in
+      absurd cc;
+}
+
 -- a length that is too large
 pub too_much : (bytes : List ℕ) (head : Head) (after : List ℕ) (size : ℕ) → ReadsHead bytes head after → framing head ≡ Sized size → max_body < size → NeverReads (whole bytes)
 too_much bytes head after size x sized large others m rest r =

@@ -9,3 +9,5 @@ pub mod Streams
 pub mod Found
 pub mod Buffers
 pub mod Said
+pub mod Responses
+pub mod Worked
