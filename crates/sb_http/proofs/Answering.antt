@@ -1,5 +1,5 @@
 -- What `Incoming` answers, from what its buffer does.
-use Rattle.std.proofs.Common.{◌≡◌, ℕ, List, [], ◌++◌, take, sym, ap, subst, ◌∙◌, Ok, Err, Some, None}
+use Rattle.std.proofs.Common.{◌≡◌, ℕ, List, [], take, sym, subst, ◌∙◌, None}
 use Rattle.std.specs.Prelude.{Result, Option}
 use Rattle.sb_http.specs.declared.fault.HttpFault.{HttpFault}
 use Rattle.sb_http.specs.declared.buffer.Buffer.{Buffer}

@@ -12,7 +12,7 @@ use Rattle.sb_http.specs.declared.fields.Framing.TheVariants.{Sized, Chunked}
 use Rattle.sb_http.specs.declared.fault.HttpFault.{HttpFault}
 use Rattle.sb_http.specs.declared.fault.HttpFault.TheVariants.{BadHead, HeadTooLarge, BodyTooLarge}
 use Rattle.sb_http.specs.Heads.{Head, ReadsHead, framing}
-use Rattle.sb_http.specs.Bodies.{ReadsLine, max_body}
+use Rattle.sb_http.specs.Bodies.{max_body}
 use Rattle.sb_http.specs.Messages.{ReadsMessage}
 use Rattle.sb_http.specs.Stages.{at_body, at_line, at_data, at_trailers, whole, IsHeadText, Reads, Continues}
 use Rattle.sb_http.specs.Causes.{Refuses}

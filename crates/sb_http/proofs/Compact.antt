@@ -1,5 +1,5 @@
 -- Dropping what was read from the buffer.
-use Rattle.std.proofs.Common.{◌≡◌, ℕ, ◌+◌, ◌-◌, ◌≤◌, ◌<◌, inl, inr, List, ◌++◌, length, take, drop, refl, sym, ap, subst, ◌∙◌, arith, Ok, Err, Some, None}
+use Rattle.std.proofs.Common.{◌≡◌, ℕ, ◌+◌, ◌-◌, ◌≤◌, ◌<◌, inl, inr, List, ◌++◌, length, take, drop, refl, sym, ap, ◌∙◌, arith, Ok, Err, Some, None}
 use Rattle.std.specs.Prelude.{slice_range, ◌≢◌, Result, Option}
 use Rattle.std.proofs.lemmas.List.{drop-drop, length-drop, length-append, drop_at, take-take, take-append-le, drop-append-le, length-take-le}
 use Rattle.std.proofs.lemmas.Slice.{between_is}

@@ -1,12 +1,12 @@
 -- What a head that was found says of the request.
-use Rattle.std.proofs.Common.{◌≡◌, ℕ, ◌+◌, ◌-◌, ◌≤◌, ◌<◌, List, [], length, take, drop, sym, ap, subst, ◌∙◌, arith, Err}
-use Rattle.std.proofs.lemmas.List.{drop-drop, take_all, drop_all, length-drop, append-nil}
+use Rattle.std.proofs.Common.{◌≡◌, ℕ, ◌<◌, List, [], length, take, drop, sym, ap, subst, ◌∙◌, arith, Err}
+use Rattle.std.proofs.lemmas.List.{take_all, drop_all, length-drop, append-nil}
 use Rattle.httparse.specs.declared.spans.HeaderSpan.{HeaderSpan}
 use Rattle.httparse.specs.declared.spans.RequestSpans.{RequestSpans}
 use Rattle.sb_http.specs.declared.fault.HttpFault.{HttpFault}
 use Rattle.sb_http.specs.declared.fault.HttpFault.TheVariants.{BadHead, HeadTooLarge, BodyTooLarge}
 use Rattle.sb_http.specs.declared.fields.Framing.{Framing}
-use Rattle.sb_http.specs.declared.fields.Framing.TheVariants.{Refused, Sized, Chunked}
+use Rattle.sb_http.specs.declared.fields.Framing.TheVariants.{Refused, Sized}
 use Rattle.sb_http.specs.Heads.{Head, ReadsHead, WaitsForHead, framing}
 use Rattle.sb_http.specs.Bodies.{max_body}
 use Rattle.sb_http.specs.Stages.{whole, IsHeadText}

@@ -1,7 +1,7 @@
 -- What was refused stays refused, for the same reason, whatever more comes.
-use Rattle.std.proofs.Common.{◌≡◌, ℕ, ◌+◌, ◌-◌, ◌≤◌, ◌<◌, inl, inr, List, [], ◌∷◌, ◌++◌, length, take, drop, refl, sym, ap, subst, ◌∙◌, arith, append_assoc, length-append, Some, None}
+use Rattle.std.proofs.Common.{◌≡◌, ℕ, ◌+◌, ◌-◌, inl, inr, List, [], ◌++◌, length, take, sym, ap, subst, ◌∙◌, arith, append_assoc, length-append, Some, None}
 use Rattle.std.specs.Prelude.{Option}
-use Rattle.std.proofs.lemmas.List.{take-append-le, take-append-drop, take_all, append-nil}
+use Rattle.std.proofs.lemmas.List.{take_all, append-nil}
 use Rattle.std.proofs.lemmas.Bool.{cases_lt}
 use Rattle.std.proofs.Math.Seq.{take-append-add}
 use Rattle.httparse.specs.Grammar.{HasNoRequest}
@@ -9,7 +9,6 @@ use Rattle.httparse.specs.Spans.{RequestExceeds}
 use Rattle.sb_http.specs.declared.fault.HttpFault.{HttpFault}
 use Rattle.sb_http.specs.declared.fault.HttpFault.TheVariants.{BadHead, HeadTooLarge, BodyTooLarge}
 use Rattle.sb_http.specs.Heads.{PassesHead, max_head, max_fields}
-use Rattle.sb_http.specs.Messages.{RequestMessage}
 use Rattle.sb_http.specs.Stages.{Stage, at_head, at_body, at_line, at_data, at_trailers, Left, and_more, Reads}
 use Rattle.sb_http.specs.Causes.{PassesBody, PassesHeadAt, HasCause, Refuses, IsCaused}
 use Rattle.sb_http.proofs.Items.{head_more, line_more, settled}

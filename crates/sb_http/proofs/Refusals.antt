@@ -12,7 +12,7 @@ use Rattle.sb_http.specs.declared.fault.HttpFault.TheVariants.{BadHead}
 use Rattle.sb_http.specs.Stages.{Stage, at_head, at_body, at_line, at_data, at_trailers, whole, IsHeadText, ReadsAt}
 use Rattle.sb_http.specs.Causes.{NeverReads, WaitsAt, Refuses}
 use Rattle.sb_http.specs.Found.{NoHead, NoLine, NoTrailers}
-use Rattle.sb_http.proofs.Items.{judged, judged_full, head_unique, head_prefix, line_prefix}
+use Rattle.sb_http.proofs.Items.{judged, judged_full, head_prefix, line_prefix}
 use Rattle.sb_http.proofs.ReadingOn.{at, LastChunk, NextChunk, unrolled}
 
 -- ---- heads

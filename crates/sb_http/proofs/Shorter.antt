@@ -1,5 +1,5 @@
 -- What follows a request is shorter than what it begins.
-use Rattle.std.proofs.Common.{◌≡◌, ℕ, ◌+◌, ◌≤◌, ◌<◌, List, [], ◌∷◌, ◌++◌, length, ap, arith, length-append, Ok, Err, Some, None}
+use Rattle.std.proofs.Common.{◌≡◌, ℕ, ◌+◌, ◌≤◌, ◌<◌, List, [], ◌++◌, length, ap, arith, length-append, Ok, Err, Some, None}
 use Rattle.std.specs.Prelude.{Result, Option}
 use Rattle.httparse.specs.Ascii.{crlf_bytes}
 use Rattle.httparse.specs.Grammar.{print_request, print_chunk_line, LineEnd, crlf, lf, print_end, print_section, print_field}

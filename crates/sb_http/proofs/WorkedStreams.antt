@@ -1,24 +1,22 @@
 -- The worked streams: each head and chunk line is given as a tree of the grammar, which is tested and printed.
-use Rattle.std.proofs.Common.{◌≡◌, ℕ, ◌≤◌, ◌<◌, Bool, true, false, List, [], ◌∷◌, ◌++◌, length, refl, sym, ap, subst, ◌∙◌, Some, None, lit≤, lit<}
+use Rattle.std.proofs.Common.{◌≡◌, ℕ, ◌<◌, Bool, true, List, [], ◌∷◌, ◌++◌, length, refl, Some, None, lit≤, lit<}
 use Rattle.std.specs.Prelude.{◌&&◌, All, codes, nat_lt, nat_le}
 use Rattle.std.specs.List.{list_all}
 use Rattle.std.specs.Fmt.{digits}
 use Rattle.std.specs.Char.{is_ascii_hexdigit}
 use Rattle.std.proofs.lemmas.Bool.{and_parts, ltb-true, leb-true}
-use Rattle.std.proofs.lemmas.List.{append-nil}
 use Rattle.std.proofs.lemmas.List.Sums.{AllPass-from_list_all}
 use Rattle.std.proofs.lemmas.List.Elements.{All-nil, All-cons}
 use Rattle.std.proofs.lemmas.Str.{IsUtf8-from_ascii}
 use Rattle.std.proofs.lemmas.Str.Ascii.{IsAscii-from_all}
 use Rattle.httparse.specs.Ascii.{crlf_bytes}
-use Rattle.httparse.specs.Grammar.{RequestHead, Field as FieldLine, crlf, ChunkLine, IsChunkLine, is_extension_byte, IsField, IsRequestHead, is_token, is_token_byte, is_uri_byte, is_value_byte, print_request, print_section, print_chunk_line}
+use Rattle.httparse.specs.Grammar.{RequestHead, Field as FieldLine, crlf, is_extension_byte, IsField, IsRequestHead, is_token, is_token_byte, is_uri_byte, is_value_byte, print_request}
 use Rattle.httparse.proofs.OnLiterals.{httparse_on_literals}
 use Rattle.sb_http.specs.declared.fault.HttpFault.TheVariants.{BadHead, BodyTooLarge}
-use Rattle.sb_http.specs.declared.fields.Framing.TheVariants.{Refused, Sized, Chunked}
 use Rattle.sb_http.specs.Fields.{with_line, framing_by}
-use Rattle.sb_http.specs.Heads.{Head, head_of, ReadsHead, framing, max_head, max_fields}
-use Rattle.sb_http.specs.Bodies.{ReadsLine, ReadsTrailers, Chunks, one_chunk, last_chunk}
-use Rattle.sb_http.specs.Messages.{RequestMessage, ReadsMessage}
+use Rattle.sb_http.specs.Heads.{Head, head_of, ReadsHead, max_head, max_fields}
+use Rattle.sb_http.specs.Bodies.{ReadsLine, ReadsTrailers, one_chunk, last_chunk}
+use Rattle.sb_http.specs.Messages.{ReadsMessage}
 use Rattle.sb_http.specs.Stages.{whole}
 use Rattle.sb_http.specs.Causes.{Refuses}
 use Rattle.sb_http.specs.Responses.{field_line, status_line}

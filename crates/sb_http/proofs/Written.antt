@@ -1,5 +1,5 @@
 -- What is written of a response is read as that response.
-use Rattle.std.proofs.Common.{◌≡◌, ℕ, ◌+◌, ◌<◌, ◌^◌, ◌≤◌, Bool, true, false, List, [], ◌∷◌, ◌++◌, length, map, refl, sym, ap, ◌∙◌, arith, append_assoc, lit≤, lit<}
+use Rattle.std.proofs.Common.{◌≡◌, ℕ, ◌<◌, ◌^◌, Bool, true, false, List, [], ◌∷◌, ◌++◌, length, map, refl, sym, ap, ◌∙◌, arith, append_assoc, lit≤, lit<}
 use Rattle.std.specs.Prelude.{All, IsTrue, codes, if◌then◌else◌, slice_index_or}
 use Rattle.std.specs.List.{flat_map, list_all}
 use Rattle.std.specs.Fmt.{digits, decimal}
@@ -14,7 +14,7 @@ use Rattle.std.proofs.lemmas.Bool.Decides.{nat_tests}
 use Rattle.std.proofs.lemmas.Str.Parse.{digit_at}
 use Rattle.std.proofs.lemmas.Fmt.{decimal_is_IsNumeral}
 use Rattle.httparse.specs.Ascii.{crlf_bytes, space}
-use Rattle.httparse.specs.Grammar.{ResponseHead, Field as FieldLine, IsField, IsToken, AllPass, is_token_byte, is_value_byte, print_field, print_version, print_response, ReadsResponse, IsResponseHead}
+use Rattle.httparse.specs.Grammar.{IsField, is_token_byte, is_value_byte, print_field, print_version, print_response}
 use Rattle.sb_http.specs.declared.response.Status.{Status}
 use Rattle.sb_http.specs.declared.response.Status.TheVariants.{Ok as Fine, Created, NoContent, BadRequest, Forbidden, NotFound, MethodNotAllowed, Conflict, Gone, PayloadTooLarge, HeaderFieldsTooLarge, InternalServerError, ServiceUnavailable}
 use Rattle.sb_http.specs.Fields.{Field}

@@ -1,5 +1,5 @@
 -- The bytes of a response (RFC 9112, sections 2.1, 4 and 6; RFC 9110, sections 8.6 and 15).
-use Rattle.std.specs.Prelude.{ℕ, ◌+◌, ◌≡◌, ◌<◌, ◌^◌, Bool, List, [], ◌∷◌, ◌++◌, length, map, codes, if◌then◌else◌, ◌==◌, All, Some}
+use Rattle.std.specs.Prelude.{ℕ, ◌<◌, ◌^◌, Bool, List, [], ◌∷◌, ◌++◌, length, map, codes, if◌then◌else◌, ◌==◌, All, Some}
 use Rattle.std.specs.List.{flat_map}
 use Rattle.std.specs.Fmt.{decimal}
 use Rattle.httparse.specs.Ascii.{crlf_bytes, space}

@@ -1,5 +1,5 @@
 -- What a request that was handed out says.
-use Rattle.std.specs.Prelude.{ℕ, List, map, Result, Ok, Err, Option, Some, None}
+use Rattle.std.specs.Prelude.{List, map, Result, Ok, Err, Option, Some, None}
 use Rattle.httparse.specs.Spans.{header_bytes}
 use Rattle.sb_http.specs.declared.fault.HttpFault.{HttpFault}
 use Rattle.sb_http.specs.declared.request.Request.{Request}

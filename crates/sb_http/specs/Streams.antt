@@ -1,5 +1,5 @@
 -- The requests of a stream, and how taking them goes on.
-use Rattle.std.specs.Prelude.{◌≡◌, ℕ, ◌<◌, List, [], ◌∷◌, ◌++◌, length, Result, Ok, Err, Option, Some, None}
+use Rattle.std.specs.Prelude.{◌≡◌, ℕ, ◌<◌, List, [], ◌∷◌, ◌++◌, Result, Ok, Err, Option, Some, None}
 use Rattle.sb_http.specs.declared.fault.HttpFault.{HttpFault}
 use Rattle.sb_http.specs.Messages.{RequestMessage, ReadsMessage}
 use Rattle.sb_http.specs.Stages.{at_head, Left, whole, held, Reads, Continues}

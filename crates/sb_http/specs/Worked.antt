@@ -1,5 +1,5 @@
 -- Streams and responses that were worked out by hand.
-use Rattle.std.specs.Prelude.{◌≡◌, ℕ, Bool, true, false, List, [], ◌∷◌, ◌++◌, codes}
+use Rattle.std.specs.Prelude.{◌≡◌, ℕ, true, false, List, [], ◌∷◌, ◌++◌, codes}
 use Rattle.std.specs.List.{flat_map}
 use Rattle.httparse.specs.Ascii.{crlf_bytes}
 use Rattle.sb_http.specs.declared.fault.HttpFault.TheVariants.{BadHead, BodyTooLarge}

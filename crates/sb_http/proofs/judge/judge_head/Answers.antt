@@ -1,4 +1,3 @@
-use Rattle.std.proofs.Common.{arith}
 use Rattle.std.proofs.lemmas.Result.{err_from_is_err_and}
 use Rattle.sb_http.specs.Found.{IsHeadAt}
 use Rattle.sb_http.proofs.Judging.{head_refused, is_refused, is_too_large}

@@ -1,5 +1,4 @@
 use Rattle.std.proofs.Common.{◌≡◌, ◌≤◌, arith}
-use Rattle.httparse.specs.Spans.{IsRequestWithin}
 use Rattle.sb_http.specs.Bodies.{max_body}
 use Rattle.sb_http.proofs.Compact.{is_next}
 use Rattle.sb_http.proofs.BufferParts.{body_message}

@@ -1,6 +1,4 @@
 use Rattle.std.proofs.Common.{◌≡◌, refl, ap, subst, sym, ◌∙◌, Ok, Err, Some, None}
-use Rattle.std.specs.Prelude.{Result, Option}
-use Rattle.sb_http.specs.declared.fault.HttpFault.{HttpFault}
 use Rattle.sb_http.specs.Messages.{RequestMessage}
 use Rattle.sb_http.specs.Streams.{Pending, AnswersAt}
 use Rattle.sb_http.specs.Buffers.{left_of, TakeAnswers}
