@@ -155,18 +155,18 @@ ended items text done raw n none e =
 -- ---- what is refused, for the reason that was found
 
 pub line_refused : (text done bytes : List ℕ) (have : ℕ) (fault : HttpFault) → have ≡ length done → JudgesLine have bytes (Err fault) → Refuses fault (at (at_line text done) bytes)
-line_refused text done bytes have BadHead same x = record { never = never_line text done bytes x; cause = λ more p. x more p.0 p.1 p.2 }
+line_refused text done bytes have BadHead same x = record { never = never_line text done bytes x; cause = (tt, λ more p. x more p.0 p.1 p.2) }
 line_refused text done bytes have HeadTooLarge same x = absurd x
 line_refused text done bytes have BodyTooLarge same x =
     let large : max_body < length done + x.0 = omega (arith, x.4, same) in
     record { never = large_chunk text done bytes x.0 x.1 x.2 x.3 large; cause = (x.0, x.1, x.2, large) }
 
 pub end_refused : (text done bytes : List ℕ) (n : ℕ) (fault : HttpFault) → n ≡ 0 → EndAnswers bytes (Err fault) → Refuses fault (at (at_data text done n) bytes)
-end_refused text done bytes n BadHead none x = subst (λ (k : ℕ). Refuses BadHead (at (at_data text done k) bytes)) (sym none) (record { never = bad_end text done bytes x; cause = λ more p. p })
+end_refused text done bytes n BadHead none x = subst (λ (k : ℕ). Refuses BadHead (at (at_data text done k) bytes)) (sym none) (record { never = bad_end text done bytes x; cause = (tt, λ more p. p) })
 end_refused text done bytes n HeadTooLarge none x = absurd x
 end_refused text done bytes n BodyTooLarge none x = absurd x
 
 pub trailers_refused : (text done bytes : List ℕ) (fault : HttpFault) → TrailersAnswer bytes (Err fault) → Refuses fault (at (at_trailers text done) bytes)
-trailers_refused text done bytes BadHead x = record { never = never_trailers text done bytes x; cause = λ more p. p }
+trailers_refused text done bytes BadHead x = record { never = never_trailers text done bytes x; cause = (tt, λ more p. p) }
 trailers_refused text done bytes HeadTooLarge x = absurd x
 trailers_refused text done bytes BodyTooLarge x = absurd x

@@ -1,7 +1,7 @@
 -- The readers' answers, from what the parsers say of the first bytes.
 use Rattle.std.proofs.Common.{◌≡◌, ℕ, ◌≤◌, ◌<◌, inl, inr, List, length, take, subst, ◌∙◌, arith}
 use Rattle.std.proofs.lemmas.List.{take_all}
-use Rattle.httparse.specs.Grammar.{HasNoRequest, HasNoChunkLine, NeverHasChunkLine, HasNoSection, ChunkLine}
+use Rattle.httparse.specs.Grammar.{HasNoRequest, NeverHasRequest, HasNoChunkLine, NeverHasChunkLine, HasNoSection, ChunkLine}
 use Rattle.httparse.specs.Spans.{IsRequestWithin, IsRequestOf, IsRequestAt, IsChunkLineAt, IsSectionWithin, IsSectionOf, IsSectionAt, RequestOverflows, RequestExceeds, SectionOverflows}
 use Rattle.httparse.specs.declared.spans.HeaderSpan.{HeaderSpan}
 use Rattle.httparse.specs.declared.spans.RequestSpans.{RequestSpans}
@@ -29,6 +29,9 @@ module _ (bytes front : List ℕ) (e : front ≡ take max_head bytes) where
 
   pub head_bad : (room : ℕ) → room ≡ max_fields → RequestOverflows room front → NoHead bytes
   head_bad room r h = overflows bytes (subst (λ (b : List ℕ). RequestOverflows max_fields b) e (subst (λ (k : ℕ). RequestOverflows k front) r h))
+
+  pub head_never : (room : ℕ) → room ≡ max_fields → RequestOverflows room front → NeverHasRequest front → NoHead bytes × NeverHasRequest (take max_head bytes)
+  head_never room r h never = (head_bad room r h, subst NeverHasRequest e never)
 
   pub head_many : (room : ℕ) → room ≡ max_fields → RequestOverflows room front → RequestExceeds room front → NoHead bytes × PassesHead bytes
   head_many room r h x = (head_bad room r h, inr (subst (λ (b : List ℕ). RequestExceeds max_fields b) e (subst (λ (k : ℕ). RequestExceeds k front) r x)))

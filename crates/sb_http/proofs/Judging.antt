@@ -1,5 +1,5 @@
 -- What a head that was found says of the request.
-use Rattle.std.proofs.Common.{◌≡◌, ℕ, ◌<◌, List, [], length, take, drop, sym, ap, subst, ◌∙◌, arith, Err}
+use Rattle.std.proofs.Common.{◌≡◌, ℕ, ◌<◌, inl, List, [], length, take, drop, sym, ap, subst, ◌∙◌, arith, Err}
 use Rattle.std.proofs.lemmas.List.{take_all, drop_all, length-drop, append-nil}
 use Rattle.httparse.specs.declared.spans.HeaderSpan.{HeaderSpan}
 use Rattle.httparse.specs.declared.spans.RequestSpans.{RequestSpans}
@@ -17,7 +17,7 @@ use Rattle.sb_http.proofs.Refusals.{never_head, refuses_head, too_much}
 
 -- where no head is read, the request is refused for the same reason
 pub head_refused : (bytes : List ℕ) (spans : List HeaderSpan) (fault : HttpFault) → HeadAnswers bytes spans (Err fault) → Refuses fault (whole bytes)
-head_refused bytes spans BadHead x = record { never = never_head bytes x; cause = λ more p. x more p.0 p.1 p.3 }
+head_refused bytes spans BadHead x = record { never = never_head bytes x.0; cause = (inl x.1, λ more p. x.0 more p.0 p.1 p.3) }
 head_refused bytes spans HeadTooLarge x = record { never = never_head bytes x.0; cause = x.1 }
 head_refused bytes spans BodyTooLarge x = absurd x
 
@@ -33,7 +33,7 @@ module _ (bytes : List ℕ) (spans : List HeaderSpan) (r : RequestSpans) (x : Is
 
 module _ (text : List ℕ) (f : Framing) where
   pub no_text : (spans : List HeaderSpan) (fault : HttpFault) → HeadAnswers text spans (Err fault) → (head : Head) → IsHeadText text head f → ⊥
-  no_text spans BadHead x head h = x [] head [] (subst (λ (b : List ℕ). ReadsHead b head []) (sym (append-nil text)) h.reads)
+  no_text spans BadHead x head h = x.0 [] head [] (subst (λ (b : List ℕ). ReadsHead b head []) (sym (append-nil text)) h.reads)
   no_text spans HeadTooLarge x head h = x.0 [] head [] (subst (λ (b : List ℕ). ReadsHead b head []) (sym (append-nil text)) h.reads)
   no_text spans BodyTooLarge x head h = absurd x
 

@@ -4,13 +4,13 @@ use Rattle.std.specs.Prelude.{Option}
 use Rattle.std.proofs.lemmas.List.{take_all, append-nil}
 use Rattle.std.proofs.lemmas.Bool.{cases_lt}
 use Rattle.std.proofs.Math.Seq.{take-append-add}
-use Rattle.httparse.specs.Grammar.{HasNoRequest}
+use Rattle.httparse.specs.Grammar.{HasNoRequest, NeverHasRequest}
 use Rattle.httparse.specs.Spans.{RequestExceeds}
 use Rattle.sb_http.specs.declared.fault.HttpFault.{HttpFault}
 use Rattle.sb_http.specs.declared.fault.HttpFault.TheVariants.{BadHead, HeadTooLarge, BodyTooLarge}
 use Rattle.sb_http.specs.Heads.{PassesHead, max_head, max_fields}
 use Rattle.sb_http.specs.Stages.{Stage, at_head, at_body, at_line, at_data, at_trailers, Left, and_more, Reads}
-use Rattle.sb_http.specs.Causes.{PassesBody, PassesHeadAt, HasCause, Refuses, IsCaused}
+use Rattle.sb_http.specs.Causes.{IsBadAt, PassesBody, PassesHeadAt, HasCause, Refuses, IsCaused}
 use Rattle.sb_http.proofs.Items.{head_more, line_more, settled}
 
 -- the first bytes of more begin with the first bytes of less
@@ -45,8 +45,19 @@ passes_body_more (at_line text done) bytes more x = (x.0, x.1 ++ more, line_more
 passes_body_more (at_data text done n) bytes more x = x
 passes_body_more (at_trailers text done) bytes more x = x
 
+never_more : (bytes rest : List ℕ) → NeverHasRequest bytes → NeverHasRequest (bytes ++ rest)
+never_more bytes rest x others = subst HasNoRequest (sym (append_assoc bytes rest others)) (x (rest ++ others))
+
+bad_at_more : (stage : Stage) (bytes more : List ℕ) → IsBadAt stage bytes → IsBadAt stage (bytes ++ more)
+bad_at_more at_head bytes more (inl x) = let f = front_more max_head bytes more in inl (subst NeverHasRequest (sym f.1) (never_more (take max_head bytes) f.0 x))
+bad_at_more at_head bytes more (inr x) = inr (x.0, x.1 ++ more, head_more bytes x.0 x.1 more x.2, x.3)
+bad_at_more (at_body text n) bytes more x = tt
+bad_at_more (at_line text done) bytes more x = tt
+bad_at_more (at_data text done n) bytes more x = tt
+bad_at_more (at_trailers text done) bytes more x = tt
+
 cause_more : (fault : HttpFault) (left : Left) (more : List ℕ) → HasCause fault left → HasCause fault (and_more left more)
-cause_more BadHead left more x = λ others p. x (more ++ others) (subst (λ (b : List ℕ). PassesBody left.stage b) (append_assoc left.bytes more others) p)
+cause_more BadHead left more x = (bad_at_more left.stage left.bytes more x.0, λ others p. x.1 (more ++ others) (subst (λ (b : List ℕ). PassesBody left.stage b) (append_assoc left.bytes more others) p))
 cause_more HeadTooLarge left more x = passes_at_more left.stage left.bytes more x
 cause_more BodyTooLarge left more x = passes_body_more left.stage left.bytes more x
 

@@ -37,10 +37,13 @@ refused bytes head after x bad others m rest r =
 pub refuses_head : (bytes : List ℕ) (head : Head) (after : List ℕ) → ReadsHead bytes head after → framing head ≡ Refused → Refuses BadHead (whole bytes)
 refuses_head bytes head after x bad = record {
   never = refused bytes head after x bad;
-  cause = λ more p.
-      let same = (head_prefix bytes more head p.0 after p.1 x p.3).0 in
-      let clash : Refused ≡ Sized p.2 = sym bad ∙ ap framing same ∙ p.4 in
-      absurd cc;
+  cause = (
+    inr (head, after, x, bad),
+    λ more p.
+    let same = (head_prefix bytes more head p.0 after p.1 x p.3).0 in
+    let clash : Refused ≡ Sized p.2 = sym bad ∙ ap framing same ∙ p.4 in
+    absurd cc,
+  );
 }
 
 -- a length that is too large
@@ -97,10 +100,10 @@ long_trailers bytes full none others rest x = none x.fields x.last _ (x.reads.0,
 
 -- what isn't the text of such a head
 pub no_sized : (text bytes : List ℕ) (n : ℕ) → ((head : Head) → IsHeadText text head (Sized n) → ⊥) → Refuses BadHead (at (at_body text n) bytes)
-no_sized text bytes n none = record { never = λ others m rest r. none m.head r.0; cause = λ more p. p }
+no_sized text bytes n none = record { never = λ others m rest r. none m.head r.0; cause = (tt, λ more p. p) }
 
 pub no_chunked : (text done bytes : List ℕ) → ((head : Head) → IsHeadText text head Chunked → ⊥) → Refuses BadHead (at (at_trailers text done) bytes)
-no_chunked text done bytes none = record { never = λ others m rest r. none m.head r.head; cause = λ more p. p }
+no_chunked text done bytes none = record { never = λ others m rest r. none m.head r.head; cause = (tt, λ more p. p) }
 
 -- ---- none yet
 

@@ -1,11 +1,11 @@
 -- Why what is left is no request yet, and why it is refused.
-use Rattle.std.specs.Prelude.{◌≡◌, ℕ, ◌+◌, ◌<◌, ◌⊎◌, List, [], ◌∷◌, ◌++◌, length, Option, Some, None}
+use Rattle.std.specs.Prelude.{◌≡◌, ℕ, ◌+◌, ◌<◌, ◌⊎◌, List, [], ◌∷◌, ◌++◌, length, take, Option, Some, None}
 use Rattle.httparse.specs.Ascii.{carriage_return}
-use Rattle.httparse.specs.Grammar.{HasNoChunkLine, HasNoSection}
-use Rattle.sb_http.specs.declared.fields.Framing.TheVariants.{Sized}
+use Rattle.httparse.specs.Grammar.{NeverHasRequest, HasNoChunkLine, HasNoSection}
+use Rattle.sb_http.specs.declared.fields.Framing.TheVariants.{Refused, Sized}
 use Rattle.sb_http.specs.declared.fault.HttpFault.{HttpFault}
 use Rattle.sb_http.specs.declared.fault.HttpFault.TheVariants.{BadHead, HeadTooLarge, BodyTooLarge}
-use Rattle.sb_http.specs.Heads.{Head, ReadsHead, framing, WaitsForHead, PassesHead}
+use Rattle.sb_http.specs.Heads.{Head, ReadsHead, framing, max_head, WaitsForHead, PassesHead}
 use Rattle.sb_http.specs.Bodies.{ReadsLine, max_body, max_line, max_trailers}
 use Rattle.sb_http.specs.Messages.{RequestMessage}
 use Rattle.sb_http.specs.Stages.{Stage, at_head, at_body, at_line, at_data, at_trailers, Left, and_more, Reads}
@@ -48,10 +48,20 @@ PassesHeadAt (at_line text done) bytes = ⊥
 PassesHeadAt (at_data text done n) bytes = ⊥
 PassesHeadAt (at_trailers text done) bytes = ⊥
 
--- What the fault says beside that no request begins here. What is too large is never called bad,
+-- What is next is bad, and not only too large: the first bytes that a head may have never become one,
+-- whatever its limits, or it is a head whose framing is refused. Chunk lines and trailers are bad also
+-- where they are too long.
+abbrev pub IsBadAt : Stage → List ℕ → Type 0
+IsBadAt at_head bytes = NeverHasRequest (take max_head bytes) ⊎ ((head : Head) × (after : List ℕ) × ReadsHead bytes head after × (framing head ≡ Refused))
+IsBadAt (at_body text n) bytes = Unit {0}
+IsBadAt (at_line text done) bytes = Unit {0}
+IsBadAt (at_data text done n) bytes = Unit {0}
+IsBadAt (at_trailers text done) bytes = Unit {0}
+
+-- What the fault says beside that no request begins here. What is only too large is never called bad,
 -- whatever more comes.
 abbrev pub HasCause : HttpFault → Left → Type 0
-HasCause BadHead left = (more : List ℕ) → PassesBody left.stage (left.bytes ++ more) → ⊥
+HasCause BadHead left = IsBadAt left.stage left.bytes × ((more : List ℕ) → PassesBody left.stage (left.bytes ++ more) → ⊥)
 HasCause HeadTooLarge left = PassesHeadAt left.stage left.bytes
 HasCause BodyTooLarge left = PassesBody left.stage left.bytes
 

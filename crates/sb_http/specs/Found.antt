@@ -1,7 +1,7 @@
 -- What the readers of heads, chunk lines and trailers answer. No other crate needs these words.
 use Rattle.std.specs.Prelude.{◌≡◌, ℕ, ◌+◌, ◌≤◌, ◌<◌, ◌⊎◌, List, [], ◌∷◌, ◌++◌, length, take, drop, map, Result, Ok, Err, Option, Some, None, Bool, true, false}
 use Rattle.httparse.specs.Ascii.{crlf_bytes, carriage_return}
-use Rattle.httparse.specs.Grammar.{HasNoChunkLine, HasNoSection}
+use Rattle.httparse.specs.Grammar.{NeverHasRequest, HasNoChunkLine, HasNoSection}
 use Rattle.httparse.specs.Spans.{span_bytes, header_bytes, IsRequestWithin}
 use Rattle.httparse.specs.declared.spans.HeaderSpan.{HeaderSpan}
 use Rattle.httparse.specs.declared.spans.RequestSpans.{RequestSpans}
@@ -13,7 +13,7 @@ use Rattle.sb_http.specs.declared.judge.Judged.{Judged}
 use Rattle.sb_http.specs.declared.judge.Judged.TheVariants.{Waits as HeadWaits, Sized as SizedBody, Chunked as ChunkedBody}
 use Rattle.sb_http.specs.declared.judge.LineJudged.{LineJudged}
 use Rattle.sb_http.specs.declared.judge.LineJudged.TheVariants.{Waits as LineWaits, Last as LastLine, Chunk as ChunkLine}
-use Rattle.sb_http.specs.Heads.{Head, ReadsHead, WaitsForHead, PassesHead, framing}
+use Rattle.sb_http.specs.Heads.{Head, ReadsHead, WaitsForHead, PassesHead, framing, max_head}
 use Rattle.sb_http.specs.Bodies.{ReadsLine, ReadsTrailers, max_body, max_line, max_trailers}
 use Rattle.sb_http.specs.Stages.{whole, IsHeadText}
 use Rattle.sb_http.specs.Causes.{Refuses}
@@ -35,7 +35,7 @@ NoHead bytes = (others : List ℕ) (head : Head) (rest : List ℕ) → ReadsHead
 abbrev pub HeadAnswers : List ℕ → List HeaderSpan → Result (Option RequestSpans) HttpFault → Type 0
 HeadAnswers bytes spans (Ok (Some r)) = IsHeadAt bytes spans r
 HeadAnswers bytes spans (Ok None) = WaitsForHead bytes
-HeadAnswers bytes spans (Err BadHead) = NoHead bytes
+HeadAnswers bytes spans (Err BadHead) = NoHead bytes × NeverHasRequest (take max_head bytes)
 HeadAnswers bytes spans (Err HeadTooLarge) = NoHead bytes × PassesHead bytes
 HeadAnswers bytes spans (Err BodyTooLarge) = ⊥
 

@@ -1,5 +1,6 @@
 // Reads a head, the line of a chunk or trailers off the front of bytes, within their limits.
-ghost use Rattle.std.specs.Prelude.{◌≡◌, length, take};
+ghost use Rattle.std.specs.Prelude.{◌≡◌, ◌≢◌, true, false, length, take};
+ghost use Rattle.httparse.specs.declared.Error.TheVariants.{TooManyHeaders};
 ghost use Rattle.sb_http.specs.Heads.{max_fields};
 ghost use Rattle.sb_http.specs.Found.{HeadAnswers, LineAnswers, TrailersAnswer};
 
@@ -13,6 +14,17 @@ fn front(bytes: &[u8], n: usize) -> &[u8]
     ensures { result.now ≡ take n bytes.now }
 {
     if bytes.len() <= n { bytes } else { &bytes[..n] }
+}
+
+// Whether there are more field lines than places for them.
+fn is_crowded(error: Error) -> bool
+    ensures crowded { result ≡ true → error ≡ TooManyHeaders }
+    ensures other { result ≡ false → error ≢ TooManyHeaders }
+{
+    match error {
+        Error::TooManyHeaders => true,
+        _ => false,
+    }
 }
 
 /// The head that the bytes begin with, and its fields' places; none where it may still come.
@@ -32,8 +44,13 @@ pub(crate) fn read_head(
                 Err(HttpFault::HeadTooLarge)
             }
         }
-        Err(Error::TooManyHeaders) => Err(HttpFault::HeadTooLarge),
-        Err(_) => Err(HttpFault::BadHead),
+        Err(error) => {
+            if is_crowded(error) {
+                Err(HttpFault::HeadTooLarge)
+            } else {
+                Err(HttpFault::BadHead)
+            }
+        }
     }
 }
 
