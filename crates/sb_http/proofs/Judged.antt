@@ -1,7 +1,7 @@
 -- The readers' answers, from what the parsers say of the first bytes.
 use Rattle.std.proofs.Common.{◌≡◌, ℕ, ◌≤◌, ◌<◌, inl, inr, List, length, take, subst, ◌∙◌, arith}
 use Rattle.std.proofs.lemmas.List.{take_all}
-use Rattle.httparse.specs.Grammar.{HasNoRequest, NeverHasRequest, HasNoChunkLine, NeverHasChunkLine, HasNoSection, ChunkLine}
+use Rattle.httparse.specs.Grammar.{HasNoRequest, NeverHasRequest, MayBecomeRequest, HasNoChunkLine, NeverHasChunkLine, HasNoSection, ChunkLine}
 use Rattle.httparse.specs.Spans.{IsRequestWithin, IsRequestOf, IsRequestAt, IsChunkLineAt, IsSectionWithin, IsSectionOf, IsSectionAt, RequestOverflows, RequestExceeds, SectionOverflows}
 use Rattle.httparse.specs.declared.spans.HeaderSpan.{HeaderSpan}
 use Rattle.httparse.specs.declared.spans.RequestSpans.{RequestSpans}
@@ -24,8 +24,8 @@ module _ (bytes front : List ℕ) (e : front ≡ take max_head bytes) where
   pub head_waits : length bytes < max_head → HasNoRequest front → WaitsForHead bytes
   head_waits short none = record { short = short; none = subst HasNoRequest (all_there max_head bytes front e short) none }
 
-  pub head_long : max_head ≤ length bytes → HasNoRequest front → NoHead bytes × PassesHead bytes
-  head_long full none = let judged = subst HasNoRequest e none in (too_long bytes full judged, inl (full, judged))
+  pub head_long : max_head ≤ length bytes → HasNoRequest front → MayBecomeRequest front → NoHead bytes × PassesHead bytes
+  head_long full none open_yet = let judged = subst HasNoRequest e none in (too_long bytes full judged, inl (full, judged, subst MayBecomeRequest e open_yet))
 
   pub head_bad : (room : ℕ) → room ≡ max_fields → RequestOverflows room front → NoHead bytes
   head_bad room r h = overflows bytes (subst (λ (b : List ℕ). RequestOverflows max_fields b) e (subst (λ (k : ℕ). RequestOverflows k front) r h))

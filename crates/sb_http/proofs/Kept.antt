@@ -4,7 +4,7 @@ use Rattle.std.specs.Prelude.{Option}
 use Rattle.std.proofs.lemmas.List.{take_all, append-nil}
 use Rattle.std.proofs.lemmas.Bool.{cases_lt}
 use Rattle.std.proofs.Math.Seq.{take-append-add}
-use Rattle.httparse.specs.Grammar.{HasNoRequest, NeverHasRequest}
+use Rattle.httparse.specs.Grammar.{HasNoRequest, NeverHasRequest, MayBecomeRequest}
 use Rattle.httparse.specs.Spans.{RequestExceeds}
 use Rattle.sb_http.specs.declared.fault.HttpFault.{HttpFault}
 use Rattle.sb_http.specs.declared.fault.HttpFault.TheVariants.{BadHead, HeadTooLarge, BodyTooLarge}
@@ -28,7 +28,7 @@ exceeds_more : (bytes rest : List ℕ) → RequestExceeds max_fields bytes → R
 exceeds_more bytes rest x = (x.0, x.1 ++ rest, ap (λ (b : List ℕ). b ++ rest) x.2 ∙ append_assoc x.0 x.1 rest, x.3, x.4, x.5)
 
 passes_head_more : (bytes more : List ℕ) → PassesHead bytes → PassesHead (bytes ++ more)
-passes_head_more bytes more (inl x) = inl (omega (arith, x.0, length-append bytes more), subst HasNoRequest (sym (settled max_head bytes more x.0)) x.1)
+passes_head_more bytes more (inl x) = inl (omega (arith, x.0, length-append bytes more), subst HasNoRequest (sym (settled max_head bytes more x.0)) x.1, subst MayBecomeRequest (sym (settled max_head bytes more x.0)) x.2)
 passes_head_more bytes more (inr x) = let f = front_more max_head bytes more in inr (subst (λ (b : List ℕ). RequestExceeds max_fields b) (sym f.1) (exceeds_more (take max_head bytes) f.0 x))
 
 passes_at_more : (stage : Stage) (bytes more : List ℕ) → PassesHeadAt stage bytes → PassesHeadAt stage (bytes ++ more)

@@ -40,9 +40,9 @@ refuses_head bytes head after x bad = record {
   cause = (
     inr (head, after, x, bad),
     λ more p.
-    let same = (head_prefix bytes more head p.0 after p.1 x p.3).0 in
-    let clash : Refused ≡ Sized p.2 = sym bad ∙ ap framing same ∙ p.4 in
-    absurd cc,
+        let same = (head_prefix bytes more head p.0 after p.1 x p.3).0 in
+        let clash : Refused ≡ Sized p.2 = sym bad ∙ ap framing same ∙ p.4 in
+        absurd cc,
   );
 }
 

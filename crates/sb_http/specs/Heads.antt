@@ -1,7 +1,7 @@
 -- What the head of a request says, and which bytes begin with one (RFC 9112, sections 2.1, 3 and 5).
 -- The grammar is that of `httparse`; the limits are this crate's.
 use Rattle.std.specs.Prelude.{◌≡◌, ℕ, ◌≤◌, ◌<◌, ◌⊎◌, List, length, take, map}
-use Rattle.httparse.specs.Grammar.{RequestHead, print_request, ReadsRequest, HasNoRequest}
+use Rattle.httparse.specs.Grammar.{RequestHead, print_request, ReadsRequest, HasNoRequest, MayBecomeRequest}
 use Rattle.httparse.specs.Spans.{name_and_value, RequestExceeds}
 use Rattle.sb_http.specs.declared.fields.Framing.{Framing}
 use Rattle.sb_http.specs.Fields.{Field, stated_by, framing_by}
@@ -43,7 +43,7 @@ pub record WaitsForHead (bytes : List ℕ) : Type 0 where
   pub short : length bytes < max_head
   pub none : HasNoRequest bytes
 
--- the head goes on past its limits: it hasn't ended in the most bytes that it may have, or it has
--- more lines than it may have within these
+-- The head goes on past its limits: the most bytes that it may have are no head and may become one,
+-- or it has more lines than it may have within these.
 abbrev pub PassesHead : List ℕ → Type 0
-PassesHead bytes = ((max_head ≤ length bytes) × HasNoRequest (take max_head bytes)) ⊎ RequestExceeds max_fields (take max_head bytes)
+PassesHead bytes = ((max_head ≤ length bytes) × HasNoRequest (take max_head bytes) × MayBecomeRequest (take max_head bytes)) ⊎ RequestExceeds max_fields (take max_head bytes)
