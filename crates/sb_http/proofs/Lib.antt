@@ -1,0 +1,15 @@
+pub mod Items
+pub mod ReadingOn
+pub mod Refusals
+pub mod SpanPlaces
+pub mod Judged
+pub mod Judging
+pub mod BufferParts
+pub mod Compact
+pub mod Streams
+pub mod Shorter
+pub mod Kept
+pub mod Answering
+pub mod Written
+pub mod WorkedFraming
+pub mod WorkedStreams

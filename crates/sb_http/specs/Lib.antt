@@ -1,0 +1,13 @@
+pub mod Version
+pub mod Fields
+pub mod Heads
+pub mod Bodies
+pub mod Messages
+pub mod Stages
+pub mod Causes
+pub mod Streams
+pub mod Found
+pub mod Buffers
+pub mod Said
+pub mod Responses
+pub mod Worked
