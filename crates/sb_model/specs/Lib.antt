@@ -16,3 +16,9 @@ pub mod FilterFaults
 pub mod Effects
 pub mod Orders
 pub mod WorkedActions
+pub mod Readers
+pub mod Language
+pub mod Reading
+pub mod TokenBytes
+pub mod Tokens
+pub mod Texts

@@ -18,6 +18,7 @@ mod reply;
 mod rows;
 mod state;
 mod text;
+mod token;
 mod truth;
 mod worked;
 
@@ -37,5 +38,6 @@ pub use reply::{Answer, CopyShown, CopyState, Receipt, Refusal, Reply, Showing};
 pub use rows::Rows;
 pub use state::{Entity, Leaf, State, StoredCopy};
 pub use text::Text;
+pub use token::{Kind, Role};
 pub use truth::Truth;
 pub use worked::{worked_filters, worked_rows};

@@ -4,12 +4,12 @@ use Rattle.std.specs.Prelude.{nat_lt}
 use Rattle.sb_model.specs.declared.expression.PropertyName.{PropertyName}
 use Rattle.sb_model.specs.declared.expression.BinaryOperator.TheVariants.{Equal}
 use Rattle.sb_model.specs.Expressions.{Change, setting, removing}
-use Rattle.sb_sqlgrammar.specs.declared.token.Kind.{Kind}
-use Rattle.sb_sqlgrammar.specs.declared.token.Kind.TheVariants.{Comma, Semicolon, Binary, Set, Remove}
-use Rattle.sb_sqlgrammar.specs.Readers.{Reader, Grammar, pure, one, next, Nothing, One, Next, Behind, Either}
+use Rattle.sb_model.specs.declared.token.Kind.{Kind}
+use Rattle.sb_model.specs.declared.token.Kind.TheVariants.{Comma, Semicolon, Binary, Set, Remove}
+use Rattle.sb_model.specs.Readers.{Reader, Grammar, pure, one, next, Nothing, One, Next, Behind, Either}
 use Rattle.sb_sqlgrammar.specs.Exact.{Stops, Exact, Example}
-use Rattle.sb_sqlgrammar.specs.Language.{Property, SpellsFilter, Separator, none, semicolon, comma, Statement, set, remove, Statements, no_more, one_more, SpellsAction, statements as statements_case}
-use Rattle.sb_sqlgrammar.specs.Reading.{name, disjunction, lower, Verb, sets, removes, verb, is_equal, is_separator, separated, after_verb, statements}
+use Rattle.sb_model.specs.Language.{Property, SpellsFilter, Separator, none, semicolon, comma, Statement, set, remove, Statements, no_more, one_more, SpellsAction, statements as statements_case}
+use Rattle.sb_model.specs.Reading.{name, disjunction, lower, Verb, sets, removes, verb, is_equal, is_separator, separated, after_verb, statements}
 use Rattle.sb_sqlgrammar.proofs.Readers.{exact_pure, exact_one, exact_next, exact_either, exact_as, apart_pure, stops_in}
 use Rattle.sb_sqlgrammar.proofs.Basics.{from, looser, stops_none, then_pure, exact_name, example_name}
 use Rattle.sb_sqlgrammar.proofs.Tests.{exact_filter_at, example_filter}

@@ -10,14 +10,14 @@ use Rattle.sb_model.specs.declared.expression.UnaryOperator.{UnaryOperator}
 use Rattle.sb_model.specs.declared.expression.UnaryOperator.TheVariants as unary_operator
 use Rattle.sb_model.specs.declared.expression.BinaryOperator.{BinaryOperator}
 use Rattle.sb_model.specs.Expressions.{Term, constant, property, existing, unary}
-use Rattle.sb_sqlgrammar.specs.declared.token.Kind.{Kind}
-use Rattle.sb_sqlgrammar.specs.declared.token.Kind.TheVariants.{Constant, Name, Open, Close, Dot, Binary, Not, In, Like, Escape, Is, Exists}
-use Rattle.sb_sqlgrammar.specs.declared.token.Role.{Role}
-use Rattle.sb_sqlgrammar.specs.declared.token.Role.TheVariants.{Plain, Function, SystemScope, UserScope}
-use Rattle.sb_sqlgrammar.specs.Readers.{Reader, Grammar, pure, one, next, either, Nothing, One, Next, Either}
+use Rattle.sb_model.specs.declared.token.Kind.{Kind}
+use Rattle.sb_model.specs.declared.token.Kind.TheVariants.{Constant, Name, Open, Close, Dot, Binary, Not, In, Like, Escape, Is, Exists}
+use Rattle.sb_model.specs.declared.token.Role.{Role}
+use Rattle.sb_model.specs.declared.token.Role.TheVariants.{Plain, Function, SystemScope, UserScope}
+use Rattle.sb_model.specs.Readers.{Reader, Grammar, pure, one, next, either, Nothing, One, Next, Either}
 use Rattle.sb_sqlgrammar.specs.Exact.{Stops, Exact, Example}
-use Rattle.sb_sqlgrammar.specs.Language.{Part, or_part, not_part, sum_part, sign_part, binding, sign_of, Property, alone, of_user, of_system, Basic, value, exists, named as named_case, of_message, group, Sign, unsigned, signed}
-use Rattle.sb_sqlgrammar.specs.Reading.{when, is_open, closing, is_dot, named, user_named, system_named, after_name, name, Lead, leaf, naming, calling, asking, grouping, lead, after_lead, basic, is_sign, sign}
+use Rattle.sb_model.specs.Language.{Part, or_part, not_part, sum_part, sign_part, binding, sign_of, Property, alone, of_user, of_system, Basic, value, exists, named as named_case, of_message, group, Sign, unsigned, signed}
+use Rattle.sb_model.specs.Reading.{when, is_open, closing, is_dot, named, user_named, system_named, after_name, name, Lead, leaf, naming, calling, asking, grouping, lead, after_lead, basic, is_sign, sign}
 use Rattle.sb_sqlgrammar.proofs.Readers.{exact_pure, exact_one, exact_next, exact_either, exact_as, apart_from, apart_pure, stops_in}
 
 -- how tight a token holds to the operand before it

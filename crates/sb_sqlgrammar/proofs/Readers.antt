@@ -1,6 +1,6 @@
 -- Readers that are put together of exact ones are exact.
 use Rattle.std.proofs.Common.{◌≡◌, ℕ, zero, suc, ◌<◌, ◌≤◌, Bool, true, false, List, [], ◌∷◌, ◌++◌, length, Option, Some, None, Result, Ok, Err, refl, ap, sym, ◌∙◌, append_assoc, append-nil, subst, inl, inr, ◌⊎◌, length-append, arith}
-use Rattle.sb_sqlgrammar.specs.Readers.{Reader, Grammar, ◌>>=◌, pure, one, one_at, next, either, either_at, repeat, repeat_in, repeat_at, ended, Nothing, One, Next, Either, Repeat, stop, go}
+use Rattle.sb_model.specs.Readers.{Reader, Grammar, ◌>>=◌, pure, one, one_at, next, either, either_at, repeat, repeat_in, repeat_at, ended, Nothing, One, Next, Either, Repeat, stop, go}
 use Rattle.sb_sqlgrammar.specs.Exact.{other_tail, Stops, Found, Fault, Exact, Example}
 
 pub bind_ok : {A B E : Type 0} (r : Result A E) (f : A → Result B E) (y : B) → (r >>= f) ≡ Ok y → (x : A) × (r ≡ Ok x) × (f x ≡ Ok y)

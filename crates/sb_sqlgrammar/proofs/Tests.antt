@@ -6,12 +6,12 @@ use Rattle.sb_model.specs.declared.message.PropertyValue.TheVariants as property
 use Rattle.sb_model.specs.declared.expression.UnaryOperator.TheVariants as unary_operator
 use Rattle.sb_model.specs.declared.expression.BinaryOperator.{BinaryOperator}
 use Rattle.sb_model.specs.Expressions.{Term, constant, unary, binary, within, like, like_escape, first, later}
-use Rattle.sb_sqlgrammar.specs.declared.token.Kind.{Kind}
-use Rattle.sb_sqlgrammar.specs.declared.token.Kind.TheVariants.{Constant, Open, Close, Comma, Binary, Not, In, Like, Escape, Is, Null}
-use Rattle.sb_sqlgrammar.specs.Readers.{Reader, Grammar, pure, one, next, either, Nothing, One, Next, Behind, Either, stop}
+use Rattle.sb_model.specs.declared.token.Kind.{Kind}
+use Rattle.sb_model.specs.declared.token.Kind.TheVariants.{Constant, Open, Close, Comma, Binary, Not, In, Like, Escape, Is, Null}
+use Rattle.sb_model.specs.Readers.{Reader, Grammar, pure, one, next, either, Nothing, One, Next, Behind, Either, stop}
 use Rattle.sb_sqlgrammar.specs.Exact.{Stops, Exact, Example}
-use Rattle.sb_sqlgrammar.specs.Language.{Part, or_part, not_part, sum_part, sign_part, binding, operator_at, is_comma, a_constant, Level, value, Sign, unsigned, Product, Sum, Listed, Choice, is_in, is_like, escaped, Question, compared, is_null, is_not_null, chosen, not_chosen, Test, plain, tested, Negation, affirmed, negated, Conjunction, Disjunction, Each, Lower, SpellsFilter}
-use Rattle.sb_sqlgrammar.specs.Reading.{when, is_open, closing, is_not, is_escape, null_as, basic, sign, level, product, sum, listed, Choosing, in_items, like_pattern, Asked, compares, nulls, denies, chooses, choosing, asked, after_choosing, after_asked, condition, negation, conjunction, disjunction, each, lower}
+use Rattle.sb_model.specs.Language.{Part, or_part, not_part, sum_part, sign_part, binding, operator_at, is_comma, a_constant, Level, value, Sign, unsigned, Product, Sum, Listed, Choice, is_in, is_like, escaped, Question, compared, is_null, is_not_null, chosen, not_chosen, Test, plain, tested, Negation, affirmed, negated, Conjunction, Disjunction, Each, Lower, SpellsFilter}
+use Rattle.sb_model.specs.Reading.{when, is_open, closing, is_not, is_escape, null_as, basic, sign, level, product, sum, listed, Choosing, in_items, like_pattern, Asked, compares, nulls, denies, chooses, choosing, asked, after_choosing, after_asked, condition, negation, conjunction, disjunction, each, lower}
 use Rattle.sb_sqlgrammar.proofs.Readers.{exact_pure, exact_one, exact_next, exact_either, exact_chain, exact_as, apart_from, apart_pure, stops_in}
 use Rattle.sb_sqlgrammar.proofs.Basics.{from, looser, goes, Nested, stops_none, then_pure, closing_is, then_close, example_closed, when_is, open_is, exact_sign}
 

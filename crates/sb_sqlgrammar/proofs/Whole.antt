@@ -2,11 +2,11 @@
 use Rattle.std.proofs.Common.{◌≡◌, ℕ, List, [], ◌∷◌, ◌++◌, Result, Err, refl, sym, ◌∙◌, append-nil, Bool, true}
 use Rattle.std.specs.Prelude.{nat_lt}
 use Rattle.sb_model.specs.Expressions.{Term}
-use Rattle.sb_sqlgrammar.specs.declared.token.Kind.{Kind}
-use Rattle.sb_sqlgrammar.specs.Readers.{Reader, next, ended, Next, Nothing}
+use Rattle.sb_model.specs.declared.token.Kind.{Kind}
+use Rattle.sb_model.specs.Readers.{Reader, next, ended, Next, Nothing}
 use Rattle.sb_sqlgrammar.specs.Exact.{Exact, Stops, other_tail}
-use Rattle.sb_sqlgrammar.specs.Language.{SpellsFilter, SpellsAction}
-use Rattle.sb_sqlgrammar.specs.Reading.{disjunction, lower, filter_of, action_of}
+use Rattle.sb_model.specs.Language.{SpellsFilter, SpellsAction}
+use Rattle.sb_model.specs.Reading.{disjunction, lower, filter_of, action_of}
 use Rattle.sb_sqlgrammar.specs.Laws.{IsNoFurther, ReadsSpelled, ReadsEach, SpellsOne, FaultsExactly}
 use Rattle.sb_sqlgrammar.proofs.Readers.{pair_ok, exact_ended, exact_next}
 use Rattle.sb_sqlgrammar.proofs.Tests.{exact_filter_at}

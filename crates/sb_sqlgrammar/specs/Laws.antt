@@ -1,7 +1,7 @@
 -- What holds of reading and the grammar.
 use Rattle.std.specs.Prelude.{◌≡◌, List, [], ◌∷◌, ◌++◌, Ok, Err}
-use Rattle.sb_sqlgrammar.specs.declared.token.Kind.{Kind}
-use Rattle.sb_sqlgrammar.specs.Readers.{Reader}
+use Rattle.sb_model.specs.declared.token.Kind.{Kind}
+use Rattle.sb_model.specs.Readers.{Reader}
 
 -- some sentence begins with these tokens
 abbrev pub IsContinued : {T : Type 0} → (List Kind → T → Type 0) → List Kind → Type 0

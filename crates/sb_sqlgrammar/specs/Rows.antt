@@ -5,10 +5,10 @@ use Rattle.sb_model.specs.declared.expression.PropertyName.TheVariants.{User, Sy
 use Rattle.sb_model.specs.declared.expression.UnaryOperator.TheVariants as unary_operator
 use Rattle.sb_model.specs.declared.expression.BinaryOperator.TheVariants.{Or, And, Equal, Subtract, Multiply}
 use Rattle.sb_model.specs.Expressions.{Term, constant, property, existing, unary, binary, within, like_escape, first, later, setting, removing}
-use Rattle.sb_sqlgrammar.specs.declared.token.Kind.{Kind}
-use Rattle.sb_sqlgrammar.specs.declared.token.Kind.TheVariants.{Constant, Name, Open, Close, Dot, Comma, Semicolon, Binary, Not, In, Like, Escape, Is, Null, Exists, Set, Remove}
-use Rattle.sb_sqlgrammar.specs.declared.token.Role.TheVariants.{Plain, Function, SystemScope, UserScope}
-use Rattle.sb_sqlgrammar.specs.Reading.{filter_of, action_of}
+use Rattle.sb_model.specs.declared.token.Kind.{Kind}
+use Rattle.sb_model.specs.declared.token.Kind.TheVariants.{Constant, Name, Open, Close, Dot, Comma, Semicolon, Binary, Not, In, Like, Escape, Is, Null, Exists, Set, Remove}
+use Rattle.sb_model.specs.declared.token.Role.TheVariants.{Plain, Function, SystemScope, UserScope}
+use Rattle.sb_model.specs.Reading.{filter_of, action_of}
 
 abbrev pub int : ℕ → Kind
 int n = Constant (Int (pos n))

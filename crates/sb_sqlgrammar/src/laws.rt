@@ -1,8 +1,8 @@
 // Laws of the grammar: each a function without effect, whose contract is the statement.
 ghost use Rattle.std.specs.Prelude.{ℕ};
-ghost use Rattle.sb_sqlgrammar.specs.Language.{SpellsFilter, SpellsAction};
+ghost use Rattle.sb_model.specs.Language.{SpellsFilter, SpellsAction};
 ghost use Rattle.sb_sqlgrammar.specs.Laws.{ReadsSpelled, ReadsEach, SpellsOne, FaultsExactly};
-ghost use Rattle.sb_sqlgrammar.specs.Reading.{filter_of, action_of};
+ghost use Rattle.sb_model.specs.Reading.{filter_of, action_of};
 ghost use Rattle.sb_sqlgrammar.specs.Rows.{RowHalf, RowTwice, RowDeep, RowDeeper, RowLeft, RowOr, RowLike, RowIn, RowInOpen, RowExists, RowExistsCall, RowAction, RowSeparators, RowStatements};
 
 /// Token lists and what they are read as, worked out by hand.

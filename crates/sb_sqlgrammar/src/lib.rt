@@ -7,7 +7,5 @@
 #![tactic(auto)]
 
 mod laws;
-mod token;
 
 pub use laws::{reading_actions_is_exact, reading_filters_is_exact, worked_readings};
-pub use token::{Kind, Role};

@@ -3,15 +3,16 @@ use Rattle.std.proofs.Common.{◌≡◌, ℕ, List, [], ◌∷◌, ◌++◌, len
 use Rattle.std.specs.Prelude.{MatchOption}
 use Rattle.std.proofs.lemmas.List.{map-append}
 use Rattle.sb_model.specs.Expressions.{Term, Change}
-use Rattle.sb_sqlgrammar.specs.declared.token.Kind.{Kind}
-use Rattle.sb_sqlgrammar.specs.Readers.{◌>>=◌, ended}
-use Rattle.sb_sqlgrammar.specs.Language.{SpellsFilter, SpellsAction}
-use Rattle.sb_sqlgrammar.specs.Reading.{filter_of, action_of}
+use Rattle.sb_model.specs.declared.token.Kind.{Kind}
+use Rattle.sb_model.specs.Readers.{◌>>=◌, ended}
+use Rattle.sb_model.specs.Language.{SpellsFilter, SpellsAction}
+use Rattle.sb_model.specs.Reading.{filter_of, action_of}
 use Rattle.sb_sqlgrammar.specs.Laws.{ReadsSpelled, ReadsEach, FaultsExactly, IsNoFurther, IsContinued}
 use Rattle.sb_sqlgrammar.proofs.Readers.{pair_ok}
 use Rattle.sb_sqlgrammar.proofs.Whole.{filters_spelled, filters_each, filter_faults, actions_spelled, actions_each, action_faults}
-use Rattle.sb_sqltokens.specs.Tokens.{tokens_of}
-use Rattle.sb_sqltext.specs.Texts.{past_limit, kinds_of, end_of, SpellsText, IsTokenFault, IsTextFault, end_before, read_kinds, read_short, read_text}
+use Rattle.sb_model.specs.Tokens.{tokens_of}
+use Rattle.sb_sqltext.specs.Texts.{end_of, SpellsText, IsTokenFault, IsTextFault}
+use Rattle.sb_model.specs.Texts.{past_limit, kinds_of, end_before, read_kinds, read_short, read_text}
 use Rattle.sb_sqltext.specs.Laws.{ReadsTexts}
 use Rattle.sb_sqltext.proofs.Joined.{Tokens, fault_of}
 

@@ -4,13 +4,14 @@ use Rattle.std.specs.Prelude.{nat_le}
 use Rattle.std.proofs.lemmas.Bool.Decides.{nat_tests}
 use Rattle.std.proofs.lemmas.List.{length-map}
 use Rattle.sb_model.specs.Expressions.{Term, Change}
-use Rattle.sb_sqlgrammar.specs.declared.token.Kind.{Kind}
-use Rattle.sb_sqlgrammar.specs.Language.{SpellsFilter, SpellsAction}
-use Rattle.sb_sqlgrammar.specs.Reading.{filter_of, action_of}
+use Rattle.sb_model.specs.declared.token.Kind.{Kind}
+use Rattle.sb_model.specs.Language.{SpellsFilter, SpellsAction}
+use Rattle.sb_model.specs.Reading.{filter_of, action_of}
 use Rattle.sb_sqlgrammar.specs.Laws.{IsFault}
 use Rattle.sb_sqlgrammar.proofs.Whole.{filters_spelled, filter_faults, actions_spelled, action_faults}
-use Rattle.sb_sqltokens.specs.Tokens.{tokens_of}
-use Rattle.sb_sqltext.specs.Texts.{past_limit, kinds_of, end_of, SpellsText, IsTokenFault, IsTextFault, end_before}
+use Rattle.sb_model.specs.Tokens.{tokens_of}
+use Rattle.sb_sqltext.specs.Texts.{end_of, SpellsText, IsTokenFault, IsTextFault}
+use Rattle.sb_model.specs.Texts.{past_limit, kinds_of, end_before}
 
 abbrev pub Tokens : Type 0
 Tokens = List (Kind × ℕ)

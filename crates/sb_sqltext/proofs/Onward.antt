@@ -4,12 +4,12 @@ use Rattle.std.specs.Prelude.{nat_lt}
 use Rattle.std.proofs.lemmas.Bool.Decides.{nat_tests}
 use Rattle.sb_model.specs.declared.expression.BinaryOperator.{BinaryOperator}
 use Rattle.sb_model.specs.Expressions.{Term, Terms, binary, later}
-use Rattle.sb_sqlgrammar.specs.declared.token.Kind.{Kind}
-use Rattle.sb_sqlgrammar.specs.declared.token.Kind.TheVariants.{Binary, Comma}
-use Rattle.sb_sqlgrammar.specs.Readers.{Reader, Grammar, repeat}
+use Rattle.sb_model.specs.declared.token.Kind.{Kind}
+use Rattle.sb_model.specs.declared.token.Kind.TheVariants.{Binary, Comma}
+use Rattle.sb_model.specs.Readers.{Reader, Grammar, repeat}
 use Rattle.sb_sqlgrammar.specs.Exact.{Exact}
-use Rattle.sb_sqlgrammar.specs.Language.{or_part, not_part, sum_part, sign_part, operator_at, is_comma}
-use Rattle.sb_sqlgrammar.specs.Reading.{lower, disjunction, negation, sum, sign, level_from, listed_from}
+use Rattle.sb_model.specs.Language.{or_part, not_part, sum_part, sign_part, operator_at, is_comma}
+use Rattle.sb_model.specs.Reading.{lower, disjunction, negation, sum, sign, level_from, listed_from}
 use Rattle.sb_sqlgrammar.proofs.Readers.{repeat_step}
 use Rattle.sb_sqlgrammar.proofs.Tests.{exact_sum_part}
 use Rattle.sb_sqltext.specs.Answers.{IsOver}

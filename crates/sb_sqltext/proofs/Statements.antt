@@ -3,10 +3,10 @@ use Rattle.std.proofs.Common.{◌≡◌, ◌-◌, ℕ, zero, suc, ◌<◌, Bool,
 use Rattle.std.specs.Prelude.{if◌then◌else◌}
 use Rattle.sb_model.specs.declared.expression.Statement.{Statement}
 use Rattle.sb_model.specs.Expressions.{Change, change_of, changes_of}
-use Rattle.sb_sqlgrammar.specs.declared.token.Kind.{Kind}
-use Rattle.sb_sqlgrammar.specs.declared.token.Kind.TheVariants.{Set, Remove}
-use Rattle.sb_sqlgrammar.specs.Readers.{◌>>=◌, ended}
-use Rattle.sb_sqlgrammar.specs.Reading.{verb, after_verb, statements, action_of}
+use Rattle.sb_model.specs.declared.token.Kind.{Kind}
+use Rattle.sb_model.specs.declared.token.Kind.TheVariants.{Set, Remove}
+use Rattle.sb_model.specs.Readers.{◌>>=◌, ended}
+use Rattle.sb_model.specs.Reading.{verb, after_verb, statements, action_of}
 use Rattle.sb_sqltext.specs.Answers.{IsOver}
 use Rattle.sb_sqltext.specs.Verbs.{verb_for}
 

@@ -1,6 +1,6 @@
 -- What a function of the code says of reading.
 use Rattle.std.specs.Prelude.{◌≡◌, List, [], ◌∷◌, Option, None, Result, Ok, Err}
-use Rattle.sb_sqlgrammar.specs.declared.token.Kind.{Kind}
+use Rattle.sb_model.specs.declared.token.Kind.{Kind}
 use Rattle.sb_sqltext.specs.declared.missed.Missed.{Missed}
 use Rattle.sb_sqltext.specs.declared.missed.Missed.TheVariants.{Here, OutOfMemory}
 

@@ -1,7 +1,8 @@
 -- What holds of texts.
 use Rattle.std.specs.Prelude.{◌≡◌, ℕ, List, Result, Ok, Err}
-use Rattle.sb_sqlgrammar.specs.declared.token.Kind.{Kind}
-use Rattle.sb_sqltext.specs.Texts.{SpellsText, IsTextFault, read_text}
+use Rattle.sb_model.specs.declared.token.Kind.{Kind}
+use Rattle.sb_sqltext.specs.Texts.{SpellsText, IsTextFault}
+use Rattle.sb_model.specs.Texts.{read_text}
 
 -- reading a text gives the one tree that it spells, or else the one place of its fault
 pub record ReadsTexts {T : Type 0} (R : List Kind → Result (T × List Kind) (List Kind)) (S : List Kind → T → Type 0) : Type 0 where

@@ -6,8 +6,8 @@ use Rattle.sb_model.specs.declared.expression.PropertyName.TheVariants.{User, Sy
 use Rattle.sb_model.specs.declared.expression.UnaryOperator.TheVariants as unary_operator
 use Rattle.sb_model.specs.declared.expression.BinaryOperator.TheVariants.{Or, And, Equal, NotEqual, Subtract, Multiply}
 use Rattle.sb_model.specs.Expressions.{Term, Change, constant, property, unary, binary, within, like_escape, first, later, setting, removing}
-use Rattle.sb_sqlgrammar.specs.Reading.{filter_of, action_of}
-use Rattle.sb_sqltext.specs.Texts.{read_text}
+use Rattle.sb_model.specs.Reading.{filter_of, action_of}
+use Rattle.sb_model.specs.Texts.{read_text}
 
 abbrev pub filter_in : List ℕ → Result Term ℕ
 filter_in text = read_text (filter_of 64) text

@@ -1,16 +1,15 @@
 // Reading of actions.
 ghost use Rattle.std.specs.Prelude.{◌≡◌, ◌≤◌, ◌<◌, ◌∷◌, [], length, nat_lt, IfOk, IfSome, IfNone, Ok, if◌then◌else◌};
 ghost use Rattle.sb_model.specs.Expressions.{change_of, changes_of};
-ghost use Rattle.sb_sqlgrammar.specs.declared.token.Kind.TheVariants.{Set, Remove};
-ghost use Rattle.sb_sqlgrammar.specs.Reading as reading;
+ghost use Rattle.sb_model.specs.declared.token.Kind.TheVariants.{Set, Remove};
+ghost use Rattle.sb_model.specs.Reading as reading;
 ghost use Rattle.sb_sqltext.specs.Answers.{Reads, IsOver};
 ghost use Rattle.sb_sqltext.specs.Verbs.{verb_for};
 
 use crate::Missed;
 use crate::expressions::disjunction;
 use crate::names::property;
-use sb_model::{Action, BinaryOperator, Rows, Statement};
-use sb_sqlgrammar::Kind;
+use sb_model::{Action, BinaryOperator, Kind, Rows, Statement};
 use std::alloc::Global;
 
 /// Whether `SET` is next, and not `REMOVE`, and what stands behind it; none where neither is.
@@ -39,7 +38,7 @@ fn separated<'a>(statement: Statement, tokens: &'a [Kind]) -> (Statement, &'a [K
 }
 
 /// What stands behind `SET` or `REMOVE`, up to the end of the statement.
-#[tactic(auto, unfolding(sb_sqlgrammar::specs::Reading::after_verb))]
+#[tactic(auto, unfolding(sb_model::specs::Reading::after_verb))]
 fn statement<'a>(
     alloc: Global,
     depth: usize,
@@ -62,7 +61,7 @@ fn statement<'a>(
 
 /// The action that the tokens spell, nested at most so deep, with at most so many statements
 /// behind the first.
-#[tactic(auto, using(crate::proofs::Statements::statement_steps), unfolding(sb_sqlgrammar::specs::Reading::action_of))]
+#[tactic(auto, using(crate::proofs::Statements::statement_steps), unfolding(sb_model::specs::Reading::action_of))]
 pub(crate) fn action_of<'a>(
     alloc: Global,
     depth: usize,

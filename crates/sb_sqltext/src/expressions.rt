@@ -4,16 +4,15 @@ ghost use Rattle.std.specs.Prelude.{◌≡◌, ◌≤◌, ◌<◌, length, nat_l
 ghost use Rattle.sb_model.specs.Expressions.{term_of, terms_of};
 ghost use Rattle.sb_model.specs.Expressions as terms;
 ghost use Rattle.sb_model.specs.declared.expression.UnaryOperator.TheVariants as unary_operator;
-ghost use Rattle.sb_sqlgrammar.specs.Language.{or_part, not_part, sum_part, sign_part};
-ghost use Rattle.sb_sqlgrammar.specs.Reading as reading;
-ghost use Rattle.sb_sqlgrammar.specs.Readers as readers;
+ghost use Rattle.sb_model.specs.Language.{or_part, not_part, sum_part, sign_part};
+ghost use Rattle.sb_model.specs.Reading as reading;
+ghost use Rattle.sb_model.specs.Readers as readers;
 ghost use Rattle.sb_sqltext.specs.Answers.{Reads};
 
 use crate::Missed;
 use crate::names::{property, property_of, user_property, value_of};
 use crate::steps::{after_comma, after_operator, closed, level_of, null};
-use sb_model::{BinaryOperator, Expression, Items, Text, UnaryOperator};
-use sb_sqlgrammar::{Kind, Role};
+use sb_model::{BinaryOperator, Expression, Items, Kind, Role, Text, UnaryOperator};
 use std::alloc::Global;
 
 /// A property by its name, with what stands behind it.
@@ -43,7 +42,7 @@ fn existing<'a>(alloc: Global, tokens: &'a [Kind]) -> Result<(Expression, &'a [K
 }
 
 #[cycle(parser)]
-#[tactic(auto, using(crate::proofs::Onward::steps), unfolding(sb_sqlgrammar::specs::Reading::basic))]
+#[tactic(auto, using(crate::proofs::Onward::steps), unfolding(sb_model::specs::Reading::basic))]
 fn basic<'a>(
     alloc: Global,
     depth: usize,
@@ -100,7 +99,7 @@ fn signed<'a>(
 }
 
 #[cycle(parser)]
-#[tactic(auto, using(crate::proofs::Onward::steps), unfolding(sb_sqlgrammar::specs::Reading::sign))]
+#[tactic(auto, using(crate::proofs::Onward::steps), unfolding(sb_model::specs::Reading::sign))]
 fn sign<'a>(
     alloc: Global,
     depth: usize,
@@ -121,7 +120,7 @@ fn sign<'a>(
 }
 
 #[cycle(parser)]
-#[tactic(auto, using(crate::proofs::Onward::steps), unfolding(sb_sqlgrammar::specs::Reading::product))]
+#[tactic(auto, using(crate::proofs::Onward::steps), unfolding(sb_model::specs::Reading::product))]
 fn product<'a>(
     alloc: Global,
     depth: usize,
@@ -140,7 +139,7 @@ fn product<'a>(
 }
 
 #[cycle(parser)]
-#[tactic(auto, using(crate::proofs::Onward::steps), unfolding(sb_sqlgrammar::specs::Reading::sum))]
+#[tactic(auto, using(crate::proofs::Onward::steps), unfolding(sb_model::specs::Reading::sum))]
 fn sum<'a>(
     alloc: Global,
     depth: usize,
@@ -159,7 +158,7 @@ fn sum<'a>(
 }
 
 #[cycle(parser)]
-#[tactic(auto, using(crate::proofs::Onward::steps), unfolding(sb_sqlgrammar::specs::Reading::listed))]
+#[tactic(auto, using(crate::proofs::Onward::steps), unfolding(sb_model::specs::Reading::listed))]
 fn listed<'a>(
     alloc: Global,
     depth: usize,
@@ -267,7 +266,7 @@ fn nullness<'a>(
 }
 
 #[cycle(parser)]
-#[tactic(auto, using(crate::proofs::Onward::steps), unfolding(sb_sqlgrammar::specs::Reading::condition))]
+#[tactic(auto, using(crate::proofs::Onward::steps), unfolding(sb_model::specs::Reading::condition))]
 fn condition<'a>(
     alloc: Global,
     depth: usize,
@@ -292,7 +291,7 @@ fn condition<'a>(
 }
 
 #[cycle(parser)]
-#[tactic(auto, using(crate::proofs::Onward::steps), unfolding(sb_sqlgrammar::specs::Reading::negation))]
+#[tactic(auto, using(crate::proofs::Onward::steps), unfolding(sb_model::specs::Reading::negation))]
 fn negation<'a>(
     alloc: Global,
     depth: usize,
@@ -312,7 +311,7 @@ fn negation<'a>(
 }
 
 #[cycle(parser)]
-#[tactic(auto, using(crate::proofs::Onward::steps), unfolding(sb_sqlgrammar::specs::Reading::conjunction))]
+#[tactic(auto, using(crate::proofs::Onward::steps), unfolding(sb_model::specs::Reading::conjunction))]
 fn conjunction<'a>(
     alloc: Global,
     depth: usize,
@@ -332,7 +331,7 @@ fn conjunction<'a>(
 
 /// A whole filter, and what stands behind it.
 #[cycle(parser)]
-#[tactic(auto, using(crate::proofs::Onward::steps), unfolding(sb_sqlgrammar::specs::Reading::disjunction))]
+#[tactic(auto, using(crate::proofs::Onward::steps), unfolding(sb_model::specs::Reading::disjunction))]
 pub(crate) fn disjunction<'a>(
     alloc: Global,
     depth: usize,
@@ -403,7 +402,7 @@ fn nested_sign<'a>(
 }
 
 /// The filter that the tokens spell, nested at most so deep.
-#[tactic(auto, using(crate::proofs::Onward::steps), unfolding(sb_sqlgrammar::specs::Reading::filter_of))]
+#[tactic(auto, using(crate::proofs::Onward::steps), unfolding(sb_model::specs::Reading::filter_of))]
 pub(crate) fn filter_of<'a>(
     alloc: Global,
     depth: usize,

@@ -1,4 +1,4 @@
-use sb_sqlgrammar::Kind;
+use sb_model::Kind;
 use std::alloc::AllocError;
 
 /// Why no tree was read: the tokens from the one on that fits nowhere, or want of memory.

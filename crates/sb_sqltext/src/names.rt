@@ -3,11 +3,10 @@ ghost use Rattle.std.specs.Prelude.{◌≡◌, ◌≤◌, length, IfOk};
 ghost use Rattle.std.specs.Str.{str_to_ascii_lowercase};
 ghost use Rattle.sb_model.specs.declared.expression.PropertyName.TheVariants.{User};
 ghost use Rattle.sb_sqltext.specs.Answers.{Reads};
-ghost use Rattle.sb_sqlgrammar.specs.Reading as reading;
+ghost use Rattle.sb_model.specs.Reading as reading;
 
 use crate::Missed;
-use sb_model::{PropertyName, PropertyValue, Text};
-use sb_sqlgrammar::{Kind, Role};
+use sb_model::{Kind, PropertyName, PropertyValue, Role, Text};
 use std::alloc::{AllocError, Global};
 
 /// The same value once more.
@@ -53,7 +52,7 @@ pub(crate) fn property_of<'a>(
 }
 
 /// A property, as it stands in `EXISTS`, `SET` and `REMOVE`.
-#[tactic(auto, unfolding(sb_sqlgrammar::specs::Reading::name))]
+#[tactic(auto, unfolding(sb_model::specs::Reading::name))]
 pub(crate) fn property<'a>(
     alloc: Global,
     tokens: &'a [Kind],

@@ -1,9 +1,9 @@
 // From text to tree.
 ghost use Rattle.std.specs.Prelude.{◌≡◌, Err, IfSome, IfNone, ◌∷◌, []};
 ghost use Rattle.sb_model.specs.Expressions.{term_of, changes_of};
-ghost use Rattle.sb_sqlgrammar.specs.Language.{SpellsFilter, SpellsAction};
+ghost use Rattle.sb_model.specs.Language.{SpellsFilter, SpellsAction};
 ghost use Rattle.sb_sqltext.specs.Texts.{AnswersText};
-ghost use Rattle.sb_sqltext.specs.Texts as texts;
+ghost use Rattle.sb_model.specs.Texts as texts;
 
 use crate::actions::action_of;
 use crate::expressions::filter_of;

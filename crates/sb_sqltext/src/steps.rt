@@ -1,15 +1,14 @@
 // The next token, where it is one of a class.
 ghost use Rattle.std.specs.Prelude.{◌≡◌, ◌==◌, ◌≤◌, ◌<◌, ◌∷◌, length, IfOk, IfSome, IfNone, Some};
 ghost use Rattle.sb_model.specs.Expressions.{term_of};
-ghost use Rattle.sb_sqlgrammar.specs.declared.token.Kind.TheVariants.{Binary, Comma};
-ghost use Rattle.sb_sqlgrammar.specs.Language.{binding, operator_at, is_comma};
+ghost use Rattle.sb_model.specs.declared.token.Kind.TheVariants.{Binary, Comma};
+ghost use Rattle.sb_model.specs.Language.{binding, operator_at, is_comma};
 ghost use Rattle.sb_sqltext.specs.Answers.{Reads, IsOver};
-ghost use Rattle.sb_sqlgrammar.specs.Reading as reading;
-ghost use Rattle.sb_sqlgrammar.specs.Readers as readers;
+ghost use Rattle.sb_model.specs.Reading as reading;
+ghost use Rattle.sb_model.specs.Readers as readers;
 
 use crate::Missed;
-use sb_model::{BinaryOperator, Expression};
-use sb_sqlgrammar::Kind;
+use sb_model::{BinaryOperator, Expression, Kind};
 
 /// How tight an operator binds its operands; at 3 stand the comparisons.
 pub(crate) fn level_of(operator: BinaryOperator) -> u8

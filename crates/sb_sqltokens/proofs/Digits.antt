@@ -2,8 +2,8 @@
 use Rattle.std.proofs.Common.{◌≡◌, ◌-◌, ◌+◌, ◌*◌, ◌/◌, ◌^◌, ℕ, ◌<◌, ◌≤◌, List, [], ◌∷◌, refl, arith, false, None}
 use Rattle.std.specs.Prelude.{nat_lt}
 use Rattle.std.proofs.lemmas.Bool.Decides.{nat_tests}
-use Rattle.sb_sqltokens.specs.Bytes.{digits_value}
-use Rattle.sb_sqltokens.specs.Tokens.{number_of}
+use Rattle.sb_model.specs.TokenBytes.{digits_value}
+use Rattle.sb_model.specs.Tokens.{number_of}
 
 -- more digits make no smaller number
 grows : (n : ℕ) (ds : List ℕ) → n ≤ digits_value n ds

@@ -5,11 +5,11 @@ use Rattle.std.specs.List.{list_all, prefix_len}
 use Rattle.std.proofs.lemmas.List.{take-append-drop}
 use Rattle.std.proofs.lemmas.Bool.Decides.{nat_tests}
 use Rattle.sb_model.specs.declared.message.PropertyValue.TheVariants.{Int, Text}
-use Rattle.sb_sqlgrammar.specs.declared.token.Kind.{Kind}
-use Rattle.sb_sqlgrammar.specs.declared.token.Kind.TheVariants.{Constant, Name, Unknown}
-use Rattle.sb_sqlgrammar.specs.declared.token.Role.TheVariants.{Plain}
-use Rattle.sb_sqltokens.specs.Bytes.{is_white, is_digit, is_word, with_front, or_else, quoted, digits_value}
-use Rattle.sb_sqltokens.specs.Tokens.{goes_on, number_of, word_kind, pair_kind, symbol_kind, text_at, name_at, number_at, word_at, followed, symbol_at, token_at, behind_white, next_token, and_more, tokens_in, tokens_left, tokens_of}
+use Rattle.sb_model.specs.declared.token.Kind.{Kind}
+use Rattle.sb_model.specs.declared.token.Kind.TheVariants.{Constant, Name, Unknown}
+use Rattle.sb_model.specs.declared.token.Role.TheVariants.{Plain}
+use Rattle.sb_model.specs.TokenBytes.{is_white, is_digit, is_word, with_front, or_else, quoted, digits_value}
+use Rattle.sb_model.specs.Tokens.{goes_on, number_of, word_kind, pair_kind, symbol_kind, text_at, name_at, number_at, word_at, followed, symbol_at, token_at, behind_white, next_token, and_more, tokens_in, tokens_left, tokens_of}
 use Rattle.sb_sqltokens.specs.Spelled.{IsQuoted, closed, doubled, other, IsToken, text, name, bracketed, number, word, pair, single, IsLongest, BeginsNone, HasTokens, over, unknown, token, TokensFound, TokensOnly}
 use Rattle.sb_sqltokens.proofs.Listing.{token_shorter}
 use Rattle.sb_sqltokens.proofs.Longest.{both_true, is_byte, symbol_plain, pair_plain, longest_is}

@@ -3,11 +3,11 @@ use Rattle.std.proofs.Common.{◌≡◌, ◌-◌, ◌+◌, ℕ, zero, suc, ◌<�
 use Rattle.std.specs.Prelude.{◌==◌, if◌then◌else◌, IfSome, option_map}
 use Rattle.std.specs.List.{prefix_len, take_while}
 use Rattle.std.proofs.lemmas.Bool.Decides.{nat_tests}
-use Rattle.sb_sqlgrammar.specs.declared.token.Kind.{Kind}
-use Rattle.sb_sqlgrammar.specs.declared.token.Kind.TheVariants.{Constant, Unknown}
+use Rattle.sb_model.specs.declared.token.Kind.{Kind}
+use Rattle.sb_model.specs.declared.token.Kind.TheVariants.{Constant, Unknown}
 use Rattle.sb_model.specs.declared.message.PropertyValue.TheVariants.{Int}
-use Rattle.sb_sqltokens.specs.Bytes.{is_white, is_digit, is_word, with_front, or_else, quoted}
-use Rattle.sb_sqltokens.specs.Tokens.{goes_on, number_of, pair_kind, symbol_kind, followed, text_at, name_at, number_at, word_at, pair_at, single_at, symbol_at, token_at, behind_white, next_token, and_more, tokens_in, tokens_left}
+use Rattle.sb_model.specs.TokenBytes.{is_white, is_digit, is_word, with_front, or_else, quoted}
+use Rattle.sb_model.specs.Tokens.{goes_on, number_of, pair_kind, symbol_kind, followed, text_at, name_at, number_at, word_at, pair_at, single_at, symbol_at, token_at, behind_white, next_token, and_more, tokens_in, tokens_left}
 
 pub is_zero : (n : ℕ) → true ≡ (n == 0) → n ≡ 0
 is_zero n e = grind (arith, nat_tests)

@@ -6,11 +6,11 @@ use Rattle.std.proofs.Math.Seq.{take-append_seam, drop-append_seam}
 use Rattle.std.proofs.lemmas.List.Sums.{prefix_len-le-length}
 use Rattle.std.proofs.lemmas.Bool.Decides.{nat_tests}
 use Rattle.sb_model.specs.declared.message.PropertyValue.TheVariants.{Int, Text}
-use Rattle.sb_sqlgrammar.specs.declared.token.Kind.{Kind}
-use Rattle.sb_sqlgrammar.specs.declared.token.Kind.TheVariants.{Constant, Name}
-use Rattle.sb_sqlgrammar.specs.declared.token.Role.TheVariants.{Plain}
-use Rattle.sb_sqltokens.specs.Bytes.{is_white, is_digit, is_word, with_front, quoted, digits_value}
-use Rattle.sb_sqltokens.specs.Tokens.{goes_on, word_kind, pair_kind, symbol_kind, number_at, word_at, symbol_at, token_at}
+use Rattle.sb_model.specs.declared.token.Kind.{Kind}
+use Rattle.sb_model.specs.declared.token.Kind.TheVariants.{Constant, Name}
+use Rattle.sb_model.specs.declared.token.Role.TheVariants.{Plain}
+use Rattle.sb_model.specs.TokenBytes.{is_white, is_digit, is_word, with_front, quoted, digits_value}
+use Rattle.sb_model.specs.Tokens.{goes_on, word_kind, pair_kind, symbol_kind, number_at, word_at, symbol_at, token_at}
 use Rattle.sb_sqltokens.specs.Spelled.{IsQuoted, closed, doubled, other, IsToken, text, name, bracketed, number, word, pair, single}
 use Rattle.sb_sqltokens.proofs.Listing.{Below, quoted_below}
 

@@ -4,7 +4,7 @@ use Rattle.std.specs.Prelude.{◌==◌, ◌||◌, not, if◌then◌else◌, IfSo
 use Rattle.std.specs.Borrow.{Bor}
 use Rattle.std.specs.List.{list_any, position_or_len, before_first, after_first}
 use Rattle.std.proofs.lemmas.Bool.Decides.{nat_tests}
-use Rattle.sb_sqltokens.specs.Bytes.{with_front, or_else, quoted, ends_here}
+use Rattle.sb_model.specs.TokenBytes.{with_front, or_else, quoted, ends_here}
 
 abbrev is_quote : ℕ → ℕ → Bool
 is_quote q = λ b. b == q

@@ -1,3 +1,1 @@
-pub mod Bytes
-pub mod Tokens
 pub mod Spelled

@@ -2,11 +2,11 @@
 use Rattle.std.specs.Prelude.{◌≡◌, ℕ, ◌<◌, ◌≤◌, ◌-◌, ◌^◌, ◌==◌, true, false, List, [], ◌∷◌, ◌++◌, length, Some, pos}
 use Rattle.std.specs.List.{list_all}
 use Rattle.sb_model.specs.declared.message.PropertyValue.TheVariants.{Int, Text}
-use Rattle.sb_sqlgrammar.specs.declared.token.Kind.{Kind}
-use Rattle.sb_sqlgrammar.specs.declared.token.Kind.TheVariants.{Constant, Name, Unknown}
-use Rattle.sb_sqlgrammar.specs.declared.token.Role.TheVariants.{Plain}
-use Rattle.sb_sqltokens.specs.Bytes.{is_white, is_digit, is_word, digits_value}
-use Rattle.sb_sqltokens.specs.Tokens.{goes_on, word_kind, pair_kind, symbol_kind, tokens_of}
+use Rattle.sb_model.specs.declared.token.Kind.{Kind}
+use Rattle.sb_model.specs.declared.token.Kind.TheVariants.{Constant, Name, Unknown}
+use Rattle.sb_model.specs.declared.token.Role.TheVariants.{Plain}
+use Rattle.sb_model.specs.TokenBytes.{is_white, is_digit, is_word, digits_value}
+use Rattle.sb_model.specs.Tokens.{goes_on, word_kind, pair_kind, symbol_kind, tokens_of}
 
 -- behind an opening quote: these bytes, the closing quote with them, spell this text
 pub data IsQuoted (q : ℕ) : List ℕ → List ℕ → Type 0 where

@@ -1,7 +1,7 @@
 // Classes of bytes, and cuts of a text behind ASCII characters.
 ghost use Rattle.std.specs.Prelude.{◌≡◌, ◌≤◌, ◌<◌, ◌-◌, length, drop, take, slice_index};
 ghost use Rattle.std.specs.List.{prefix_len};
-ghost use Rattle.sb_sqltokens.specs.Bytes as bytes;
+ghost use Rattle.sb_model.specs.TokenBytes as bytes;
 
 /// Space, tab, carriage return and line feed.
 pub(crate) fn is_white(byte: u8) -> bool

@@ -1,10 +1,9 @@
 // Whole numbers.
 ghost use Rattle.std.specs.Prelude.{◌≡◌, IfSome, IfNone, option_map, [], ◌∷◌};
-ghost use Rattle.sb_sqltokens.specs.Tokens as tokens;
+ghost use Rattle.sb_model.specs.Tokens as tokens;
 
 use crate::bytes::{cut, digits_len, is_word};
-use sb_model::PropertyValue;
-use sb_sqlgrammar::Kind;
+use sb_model::{Kind, PropertyValue};
 
 /// The greatest number that may be written: 2^63 - 1.
 const GREATEST: u64 = 9_223_372_036_854_775_807;

@@ -1,7 +1,7 @@
 // Texts and names between quotes.
 ghost use Rattle.std.specs.Prelude.{◌≡◌, ◌<◌, ◌==◌, ◌∷◌, ◌++◌, length, IfOk, IfSome, IfNone, option_map, true, false};
 ghost use Rattle.std.specs.List.{list_any};
-ghost use Rattle.sb_sqltokens.specs.Bytes as bytes;
+ghost use Rattle.sb_model.specs.TokenBytes as bytes;
 
 use crate::bytes::cut;
 use crate::numbers::first_of;

@@ -1,11 +1,10 @@
 // Operators and other signs.
 ghost use Rattle.std.specs.Prelude.{◌≡◌, ◌<◌, IfSome, option_map};
-ghost use Rattle.sb_sqltokens.specs.Tokens as tokens;
+ghost use Rattle.sb_model.specs.Tokens as tokens;
 
 use crate::bytes::cut;
 use crate::numbers::first_of;
-use sb_model::BinaryOperator;
-use sb_sqlgrammar::Kind;
+use sb_model::{BinaryOperator, Kind};
 
 /// The operator of these two characters.
 fn pair_kind(first: u8, second: u8) -> Option<Kind>

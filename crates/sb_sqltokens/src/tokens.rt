@@ -1,14 +1,13 @@
 // The tokens of a text.
 ghost use Rattle.std.specs.Prelude.{◌≡◌, ◌<◌, length, map, drop, slice_index, IfOk, option_map};
-ghost use Rattle.sb_sqltokens.specs.Tokens as tokens;
+ghost use Rattle.sb_model.specs.Tokens as tokens;
 
 use crate::bytes::{cut, is_digit, is_word, white_len};
 use crate::numbers::{first_of, number_at};
 use crate::quotes::quoted;
 use crate::symbols::symbol_at;
 use crate::words::word_at;
-use sb_model::PropertyValue;
-use sb_sqlgrammar::{Kind, Role};
+use sb_model::{Kind, PropertyValue, Role};
 use std::alloc::{AllocError, Global};
 
 /// The tokens of a text in order, and beside each the place in bytes at which it ends.

@@ -1,10 +1,9 @@
 // Reserved words and names.
 ghost use Rattle.std.specs.Prelude.{◌≡◌, IfOk, Some};
-ghost use Rattle.sb_sqltokens.specs.Tokens as tokens;
+ghost use Rattle.sb_model.specs.Tokens as tokens;
 
 use crate::bytes::{cut, word_len};
-use sb_model::{BinaryOperator, PropertyValue, Text};
-use sb_sqlgrammar::{Kind, Role};
+use sb_model::{BinaryOperator, Kind, PropertyValue, Role, Text};
 use std::alloc::{AllocError, Global};
 
 /// The token of a reserved word, which is given in lower case.

@@ -1,6 +1,6 @@
 use Rattle.std.proofs.Common.{◌≡◌, length}
 use Rattle.sb_model.specs.Expressions.{changes_of}
-use Rattle.sb_sqlgrammar.specs.Reading as reading
+use Rattle.sb_model.specs.Reading as reading
 use Rattle.sb_sqltext.proofs.Statements.{action_from}
 use Rattle.sb_sqltext.proofs.actions.action_of.Given as goal
 

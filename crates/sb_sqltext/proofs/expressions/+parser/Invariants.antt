@@ -1,7 +1,7 @@
 use Rattle.std.proofs.Common.{◌≡◌, ◌≤◌, length, ◌+◌, ◌*◌}
 use Rattle.std.specs.Prelude.{nat_lt}
 use Rattle.sb_model.specs.Expressions.{term_of, terms_of}
-use Rattle.sb_sqlgrammar.specs.Reading as reading
+use Rattle.sb_model.specs.Reading as reading
 use Rattle.sb_sqltext.proofs.expressions.+parser.Given as goal
 
 -- how deep it may still go, and then how tight the part is

@@ -1,5 +1,5 @@
 use Rattle.std.proofs.Common.{◌≡◌, ◌+◌, length}
-use Rattle.sb_sqltext.specs.Texts as texts
+use Rattle.sb_model.specs.Texts as texts
 use Rattle.sb_sqltext.proofs.parsing.past_limit.Given as goal
 
 -- what is left gives the place, counted on from here

@@ -1,7 +1,7 @@
 use Rattle.std.proofs.Common.{refl}
-use Rattle.sb_sqlgrammar.specs.Reading.{filter_of, disjunction, conjunction, negation, condition, sum, product, sign, basic, name, listed, lower, action_of, after_verb, statements}
-use Rattle.sb_sqltokens.specs.Tokens.{tokens_left, tokens_of}
-use Rattle.sb_sqltext.specs.Texts.{read_text}
+use Rattle.sb_model.specs.Reading.{filter_of, disjunction, conjunction, negation, condition, sum, product, sign, basic, name, listed, lower, action_of, after_verb, statements}
+use Rattle.sb_model.specs.Tokens.{tokens_left, tokens_of}
+use Rattle.sb_model.specs.Texts.{read_text}
 use Rattle.sb_sqltext.proofs.worked.worked_texts.Goals as goal
 
 pub returns-clause-left : goal.returns-clause-left

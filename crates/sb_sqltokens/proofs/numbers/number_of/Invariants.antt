@@ -1,5 +1,5 @@
 use Rattle.std.proofs.Common.{◌≡◌, ◌<◌, ◌^◌, length}
-use Rattle.sb_sqltokens.specs.Bytes.{digits_value}
+use Rattle.sb_model.specs.TokenBytes.{digits_value}
 use Rattle.sb_sqltokens.proofs.numbers.number_of.Given as goal
 
 -- what was read so far and what is left give the whole

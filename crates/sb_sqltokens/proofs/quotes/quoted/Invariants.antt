@@ -1,7 +1,7 @@
 use Rattle.std.proofs.Common.{◌≡◌, length, string_bytes}
 use denote.Text.{Utf8}
 use denote.Shadow.{shadow}
-use Rattle.sb_sqltokens.specs.Bytes.{quoted, with_front}
+use Rattle.sb_model.specs.TokenBytes.{quoted, with_front}
 use Rattle.sb_sqltokens.proofs.quotes.quoted.Given as goal
 
 -- what was read so far and what is left give the whole

@@ -1,5 +1,5 @@
 use Rattle.std.proofs.Common.{rules, ◌≡◌, length, Some, None, sym, arith}
-use Rattle.sb_sqltokens.specs.Tokens.{token_at, behind_white, tokens_of}
+use Rattle.sb_model.specs.Tokens.{token_at, behind_white, tokens_of}
 use Rattle.sb_sqltokens.proofs.Listing.{is_zero, not_zero, token_shorter, view_ends, view_unknown, view_more}
 use Rattle.sb_sqltokens.proofs.tokens.tokens_of.Goals as goal
 

@@ -1,7 +1,7 @@
 use Rattle.std.proofs.Common.{◌≡◌, ◌++◌, ◌≤◌, length, map}
 use denote.Text.{Utf8}
 use denote.Shadow.{shadow}
-use Rattle.sb_sqltokens.specs.Tokens.{tokens_of, tokens_left}
+use Rattle.sb_model.specs.Tokens.{tokens_of, tokens_left}
 use Rattle.sb_sqltokens.proofs.tokens.tokens_of.Given as goal
 
 -- what was read so far and what is left give the whole
