@@ -1,0 +1,117 @@
+-- What holds of a state between entries.
+use Rattle.std.specs.Prelude.{◌≡◌, ◌≢◌, ℕ, ◌+◌, ◌++◌, ◌≤◌, ◌<◌, List, [], ◌∷◌, length, map, filter, true, false, is_none, sum_by, Some, None}
+use Rattle.std.specs.List.{flat_map}
+use Rattle.sb_machine.specs.Answers.{max_moment}
+use Rattle.sb_machine.specs.Changes.{max_number}
+use Rattle.sb_machine.specs.Fields.{max_messages, bad_in_act, bad_in_how, takes_number, is_between, is_number}
+use Rattle.sb_machine.specs.Keyed.{AreRising}
+use Rattle.sb_machine.specs.Names.{is_address, is_main, is_before, is_same_entity}
+use Rattle.sb_machine.specs.Namespace.{made, entity_of, leaf_of, key_of}
+use Rattle.sb_machine.specs.Transactions.{max_transactions}
+use Rattle.sb_machine.specs.declared.call.Part.{Part}
+use Rattle.sb_machine.specs.declared.call.Part.TheVariants.{Main, Dead, Transfer}
+use Rattle.sb_machine.specs.declared.change.LeafKey.{LeafKey}
+use Rattle.sb_machine.specs.declared.reply.Reply.{Reply}
+use Rattle.sb_machine.specs.declared.reply.Reply.TheVariants.{Sent, Copies, State as Remembers, Counts, Message as Given}
+use Rattle.sb_machine.specs.declared.state.Entity.{Entity}
+use Rattle.sb_machine.specs.declared.state.Kept.{Kept}
+use Rattle.sb_machine.specs.declared.state.Leaf.{Leaf}
+use Rattle.sb_machine.specs.declared.state.Operation.{Operation}
+use Rattle.sb_machine.specs.declared.state.Operation.TheVariants.{Send, Settle}
+use Rattle.sb_machine.specs.declared.state.Session.{Session}
+use Rattle.sb_machine.specs.declared.state.Space.{Space}
+use Rattle.sb_machine.specs.declared.state.State.{State}
+use Rattle.sb_machine.specs.declared.state.Transaction.{Transaction}
+use Rattle.sb_machine.specs.Each.{Each, Pairs, IsSorted, has_lock}
+use Rattle.sb_machine.specs.Fit.{IsMessage, IsEntity, HasTopic}
+use Rattle.sb_machine.specs.Ends.{lock_in}
+use Rattle.sb_machine.specs.Queueing.{weight, max_operations}
+use Rattle.sb_machine.specs.Repeats.{max_clients}
+
+-- ---- locks
+
+abbrev pub holder_lock : Session → List ℕ
+holder_lock x = elim x.holder [ Some h ↦ h.lock ∷ [] | None ↦ [] ]
+
+abbrev pub locks_in : Leaf → List ℕ
+locks_in leaf = flat_map (λ c. lock_in c.standing) leaf.copies ++ flat_map holder_lock leaf.sessions
+
+-- the lock numbers of copies and of session holders
+abbrev pub locks_of : Space → List ℕ
+locks_of s = flat_map (λ e. locks_in e.main ++ locks_in e.dead ++ locks_in e.transfer) s.entities
+
+abbrev pub holder_locks : Space → List ℕ
+holder_locks s = flat_map (λ e. flat_map holder_lock e.main.sessions ++ flat_map holder_lock e.dead.sessions ++ flat_map holder_lock e.transfer.sessions) s.entities
+
+-- ---- transactions
+
+abbrev pub queued_lock : Operation → List ℕ
+queued_lock (Send to messages) = []
+queued_lock (Settle from number token session how) = token.lock ∷ []
+
+abbrev pub queued_locks : Space → List ℕ
+queued_locks s = flat_map (λ x. flat_map queued_lock x.operations) s.transactions
+
+-- the copies that are held under a lock, each by its part and number
+abbrev pub locked_in : ℕ → Entity → Part → List (LeafKey × ℕ)
+locked_in lock e part = map (λ c. (key_of part e, c.number)) (filter (λ c. has_lock lock c.standing) (leaf_of part e).copies)
+
+abbrev pub locked_at : ℕ → Space → List (LeafKey × ℕ)
+locked_at lock s = flat_map (λ e. locked_in lock e Main ++ locked_in lock e Dead ++ locked_in lock e Transfer) s.entities
+
+-- a copy that is held under a queued settlement's lock is the one that it names
+abbrev pub IsOwn : Space → LeafKey → ℕ → ℕ → Type 0
+IsOwn s key number lock = Each (λ x. x ≡ (key, number)) (locked_at lock s)
+
+abbrev pub IsOperation : Space → Entity → Operation → Type 0
+IsOperation s e (Send to messages) =
+    (is_address to ≡ true) × (is_main to.part ≡ true) × (is_none to.subscription ≡ true) × (is_between 1 max_messages (length messages) ≡ true)
+    × Each IsMessage messages × (is_same_entity to e.about.path ≡ false → Each (λ m. m.schedule ≡ None) messages)
+IsOperation s e (Settle from number token session how) =
+    (is_same_entity from e.about.path ≡ true) × (is_number number ≡ true) × (bad_in_how how ≡ None) × IsOwn s (key_of from.part e) number token.lock
+
+pub record IsTransaction (now : ℕ) (s : Space) (x : Transaction) : Type 0 where
+  pub entity : Entity
+  pub there : entity_of x.entity s ≡ Some entity
+  pub deadline : x.deadline ≤ now + 300000
+  pub few : sum_by weight x.operations ≤ max_operations
+  pub operations : Each (IsOperation s entity) x.operations
+
+-- ---- clients
+
+abbrev pub IsReply : Reply → Type 0
+IsReply (Sent receipts) = length receipts ≤ max_messages
+IsReply (Given shown) = shown.message.schedule ≡ None
+IsReply (Copies copies) = ⊥
+IsReply (Remembers state) = ⊥
+IsReply (Counts main dead transfer) = ⊥
+IsReply _ = Unit {0}
+
+pub record IsKept (k : Kept) : Type 0 where
+  pub client : is_between 1 50 (length k.client) ≡ true
+  pub number : is_number k.number ≡ true
+  pub act : takes_number k.act ≡ true
+  pub fields : bad_in_act false k.act ≡ None
+  pub reply : IsReply k.reply
+
+-- ---- the whole
+
+pub record IsConsistent (st : State) : Type 0 where
+  pub now : st.now ≤ max_moment
+  pub made : made st.space ≤ max_number
+  pub last_entity : st.space.last_entity ≤ max_number
+  pub last_lock : st.space.last_lock ≤ max_number
+  pub last_txn : st.space.last_txn ≤ max_number
+  pub numbers : AreRising (λ e. e.about.number) 0 st.space.last_entity st.space.entities
+  pub entities : Each (IsEntity st.now) st.space.entities
+  pub paths : Pairs (λ e x. is_same_entity x.about.path e.about.path ≡ false) st.space.entities
+  pub topics : Each (HasTopic st.space) st.space.entities
+  pub locks : Pairs (λ l m. l ≢ m) (locks_of st.space)
+  pub few_locks : Each (λ l. (0 < l) × (l ≤ st.space.last_lock)) (locks_of st.space ++ queued_locks st.space)
+  pub transactions : AreRising (λ x. x.number) 0 st.space.last_txn st.space.transactions
+  pub opened : Each (IsTransaction st.now st.space) st.space.transactions
+  pub few_open : length st.space.transactions ≤ max_transactions
+  pub queued : Pairs (λ l m. l ≢ m) (queued_locks st.space ++ holder_locks st.space)
+  pub clients : IsSorted (λ a b. is_before a.client b.client) st.clients
+  pub few_clients : length st.clients ≤ max_clients
+  pub kept : Each IsKept st.clients

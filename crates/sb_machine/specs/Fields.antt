@@ -1,0 +1,141 @@
+-- The first field of a call that is outside its range.
+use Rattle.std.specs.Prelude.{ℕ, List, [], ◌∷◌, length, Bool, true, false, nat_le, ◌&&◌, ◌||◌, not, if◌then◌else◌, codes, Option, Some, None, is_none}
+use Rattle.std.specs.List.{list_all, list_any}
+use Rattle.std.specs.Str.{chars}
+use Rattle.sb_machine.specs.Changes.{max_number}
+use Rattle.sb_model.specs.Effects.{text_limit, is_within, max_user_properties}
+use Rattle.sb_machine.specs.Names.{is_main}
+use Rattle.sb_model.specs.SystemNames.{system_name}
+use Rattle.sb_machine.specs.declared.call.Act.{Act}
+use Rattle.sb_machine.specs.declared.call.Act.TheVariants.{CreateRule, Delete, Send, Cancel, ReceiveDeferred, Settle, Renew, Accept, SessionState, Begin, Commit, Rollback, Peek, Counts}
+use Rattle.sb_machine.specs.declared.call.By.{By}
+use Rattle.sb_machine.specs.declared.call.FilterText.{FilterText}
+use Rattle.sb_machine.specs.declared.call.FilterText.TheVariants.{Sql, Correlation}
+use Rattle.sb_machine.specs.declared.call.How.{How}
+use Rattle.sb_machine.specs.declared.call.How.TheVariants.{Complete, Abandon, Defer, DeadLetter}
+use Rattle.sb_machine.specs.declared.call.Path.{Path}
+use Rattle.sb_machine.specs.declared.call.Which.{Which}
+use Rattle.sb_machine.specs.declared.call.Which.TheVariants.{Number, Id}
+use Rattle.sb_model.specs.declared.message.Message.{Message}
+use Rattle.sb_model.specs.declared.message.Property.{Property}
+use Rattle.sb_model.specs.declared.message.SystemText.{SystemText}
+
+abbrev pub max_messages : ℕ
+max_messages = 100
+
+abbrev pub max_peeked : ℕ
+max_peeked = 100
+
+abbrev pub max_ttl : ℕ
+max_ttl = 922337203685
+
+abbrev pub Key : Type 0
+Key = Option (List ℕ)
+
+-- the one before the other, if it is there
+abbrev pub first_some : Key → Key → Key
+first_some None other = other
+first_some (Some key) other = Some key
+
+-- this key where the test fails
+abbrev pub unless : Bool → List ℕ → Key
+unless passes key = if passes then None else Some key
+
+abbrev pub is_between : ℕ → ℕ → ℕ → Bool
+is_between low high n = nat_le low n && nat_le n high
+
+abbrev pub is_between_or_none : ℕ → ℕ → Option ℕ → Bool
+is_between_or_none low high None = true
+is_between_or_none low high (Some n) = is_between low high n
+
+-- a number that the namespace may give
+abbrev pub is_number : ℕ → Bool
+is_number n = is_between 1 max_number n
+
+-- ---- messages
+
+abbrev pub bad_in_texts : List SystemText → Key
+bad_in_texts [] = None
+bad_in_texts (x ∷ xs) = first_some (unless (is_within (text_limit x.name) (length (chars x.text))) (system_name x.name)) (bad_in_texts xs)
+
+abbrev pub is_capital : ℕ → Bool
+is_capital b = nat_le 65 b && nat_le b 90
+
+abbrev pub is_property_name : List ℕ → Bool
+is_property_name name = is_between 1 128 (length name) && not (list_any is_capital name)
+
+abbrev pub are_properties : List Property → Bool
+are_properties props = list_all (λ p. is_property_name p.name) props && nat_le (length props) max_user_properties
+
+abbrev pub bad_in_conditions : List SystemText → List Property → Key
+bad_in_conditions sys props = first_some (bad_in_texts sys) (unless (are_properties props) (codes "props"))
+
+-- a message to another entity than the transaction's may have no schedule
+abbrev pub bad_in_message : Bool → Message → Key
+bad_in_message is_via m =
+    first_some (bad_in_conditions m.sys m.props)
+    (first_some (unless (is_between_or_none 1 max_ttl m.ttl) (codes "ttl")) (unless (not is_via || is_none m.schedule) (codes "schedule")))
+
+abbrev pub bad_in_messages : Bool → List Message → Key
+bad_in_messages is_via [] = None
+bad_in_messages is_via (m ∷ ms) = first_some (bad_in_message is_via m) (bad_in_messages is_via ms)
+
+abbrev pub bad_in_send : Bool → List Message → Option ℕ → Key
+bad_in_send is_via messages txn =
+    first_some (unless (nat_le (length messages) max_messages) (codes "messages"))
+    (first_some (bad_in_messages is_via messages) (unless (is_between_or_none 1 max_number txn) (codes "txn")))
+
+-- ---- other acts
+
+abbrev pub bad_in_filter : FilterText → Key
+bad_in_filter (Sql text) = None
+bad_in_filter (Correlation conditions) = bad_in_conditions conditions.sys conditions.props
+
+abbrev pub bad_in_which : Which → Key
+bad_in_which (Number n) = unless (is_number n) (codes "seq")
+bad_in_which (Id id) = None
+
+-- in characters
+abbrev pub is_short : ℕ → Option (List ℕ) → Bool
+is_short most None = true
+is_short most (Some text) = nat_le (length (chars text)) most
+
+abbrev pub bad_in_how : How → Key
+bad_in_how Complete = None
+bad_in_how Abandon = None
+bad_in_how Defer = None
+bad_in_how (DeadLetter reason description) = first_some (unless (is_short 4096 reason) (codes "reason")) (unless (is_short 4096 description) (codes "description"))
+
+abbrev pub bad_in_entity : Path → Key
+bad_in_entity path = unless (is_main path.part) (codes "entity")
+
+abbrev pub bad_in_act : Bool → Act → Key
+bad_in_act is_via (CreateRule topic subscription name asked action) = bad_in_filter asked
+bad_in_act is_via (Delete entity) = bad_in_entity entity
+bad_in_act is_via (Counts entity) = bad_in_entity entity
+bad_in_act is_via (Begin entity) = bad_in_entity entity
+bad_in_act is_via (Send to messages txn) = bad_in_send is_via messages txn
+bad_in_act is_via (Cancel from number) = unless (is_number number) (codes "seq")
+bad_in_act is_via (ReceiveDeferred from number mode session) = unless (is_number number) (codes "seq")
+bad_in_act is_via (Settle from which token session how txn) = first_some (bad_in_which which) (first_some (unless (is_between_or_none 1 max_number txn) (codes "txn")) (bad_in_how how))
+bad_in_act is_via (Renew from which token) = bad_in_which which
+bad_in_act is_via (Accept from id) = unless (is_short 128 id) (codes "id")
+bad_in_act is_via (Commit txn) = unless (is_number txn) (codes "txn")
+bad_in_act is_via (Rollback txn) = unless (is_number txn) (codes "txn")
+bad_in_act is_via (Peek from start count) = first_some (unless (is_number start) (codes "start")) (unless (is_between 1 max_peeked count) (codes "count"))
+bad_in_act is_via _ = None
+
+-- acts that take no number
+abbrev pub takes_number : Act → Bool
+takes_number (Peek from start count) = false
+takes_number (SessionState from session) = false
+takes_number (Counts entity) = false
+takes_number _ = true
+
+abbrev pub bad_in_by : Act → Option By → Key
+bad_in_by act None = None
+bad_in_by act (Some by) = first_some (unless (takes_number act && is_between 1 50 (length by.client)) (codes "client")) (unless (is_number by.number) (codes "number"))
+
+-- the first key at fault, the client's last
+abbrev pub bad_field : Bool → Act → Option By → Key
+bad_field is_via act by = first_some (bad_in_act is_via act) (bad_in_by act by)

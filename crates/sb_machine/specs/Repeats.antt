@@ -1,0 +1,58 @@
+-- Calls with a client's number: repeated, refused, or acting.
+use Rattle.std.specs.Prelude.{ℕ, ◌==◌, Bool, nat_lt, bytes_eq, find, length, List, if◌then◌else◌, Option, Some, None}
+use Rattle.sb_machine.specs.Fields.{takes_number}
+use Rattle.sb_machine.specs.Rows.{Row, refuses, answers}
+use Rattle.sb_machine.specs.Same.{same_act}
+use Rattle.sb_machine.specs.declared.call.Act.{Act}
+use Rattle.sb_machine.specs.declared.call.By.{By}
+use Rattle.sb_machine.specs.declared.call.Call.{Call}
+use Rattle.sb_machine.specs.declared.change.Change.{Change}
+use Rattle.sb_machine.specs.declared.reply.Refusal.{Refusal}
+use Rattle.sb_machine.specs.declared.reply.Refusal.TheVariants.{StaleNumber, NumberReused, ClientsFull}
+use Rattle.sb_machine.specs.declared.reply.Reply.{Reply}
+use Rattle.sb_machine.specs.declared.state.Kept.{Kept}
+use Rattle.sb_machine.specs.declared.state.State.{State}
+use Rattle.sb_machine.specs.Acts.{row_of}
+
+-- ---- a call with a client's number
+
+-- What a call comes to: it is refused, repeats what was kept, or acts.
+pub data Outcome : Type 0 where
+  refused : Refusal → Outcome
+  repeated : Reply → Outcome
+  acted : Reply → List Change → Outcome
+
+abbrev pub of_row : Row → Outcome
+of_row (refuses r) = refused r
+of_row (answers reply cs) = acted reply cs
+
+abbrev pub is_client : List ℕ → Kept → Bool
+is_client client k = bytes_eq k.client client
+
+abbrev pub kept_for : List ℕ → List Kept → Option Kept
+kept_for client clients = find (is_client client) clients
+
+abbrev pub max_clients : ℕ
+max_clients = 10000
+
+-- a client's number against the one that is kept
+abbrev pub against : By → Act → Kept → Outcome → Outcome
+against by act k next =
+    if nat_lt by.number k.number then refused (StaleNumber k.number)
+    else (if by.number == k.number then (if same_act k.act act then repeated k.reply else refused NumberReused)
+    else next)
+
+abbrev pub by_number : By → Act → List Kept → Option Kept → Outcome → Outcome
+by_number by act clients (Some k) next = against by act k next
+by_number by act clients None next = if nat_lt (length clients) max_clients then next else refused ClientsFull
+
+-- who asks, where the act takes a number
+abbrev pub client_of : Call → Option By
+client_of call = if takes_number call.act then call.by else None
+
+abbrev pub for_client : Option By → Act → List Kept → Outcome → Outcome
+for_client None act clients next = next
+for_client (Some by) act clients next = by_number by act clients (kept_for by.client clients) next
+
+abbrev pub outcome_of : State → ℕ → Call → Outcome
+outcome_of s t call = for_client (client_of call) call.act s.clients (of_row (row_of s.space t call.by call.act))
