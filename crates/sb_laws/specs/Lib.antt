@@ -1,0 +1,4 @@
+pub mod Laws
+pub mod Sweepable
+pub mod Plain
+pub mod Orderly

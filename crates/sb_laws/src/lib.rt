@@ -1,0 +1,14 @@
+//! Laws of the namespace machine, over all its states, calls and histories.
+//!
+//! It stands on the model alone and has no code: each law is a public function without effect
+//! whose contract is one statement of `specs/Laws`. A crate above calls such a function where it
+//! needs the law, as `nothing_due_after();`, and has the statement behind the call.
+#![tactic(auto)]
+
+mod laws;
+
+pub use laws::{
+    answers_legally, answers_no_fault, consistent_is_orderly, goes_on, is_due_exactly, keeps_time,
+    moves_change, nothing_due_after, orderly_is_sweepable, same_act_exactly, starts_consistent,
+    stays_orderly, ticks_orderly,
+};
