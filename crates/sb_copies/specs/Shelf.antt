@@ -1,0 +1,9 @@
+-- The copies of one part of an entity, as contracts see them.
+use Rattle.std.specs.Prelude.{ℕ, List}
+use Rattle.sb_machine.specs.declared.state.StoredCopy.{StoredCopy}
+
+pub record Shelved : Type 0 where
+  -- in the order in which they were put there
+  pub copies : List StoredCopy
+  -- so many more may be put there
+  pub spare : ℕ
