@@ -1,0 +1,14 @@
+-- The sessions of one part of an entity, as contracts see them.
+use Rattle.std.specs.Prelude.{ℕ, List, []}
+use Rattle.sb_machine.specs.declared.state.Leaf.{Leaf}
+use Rattle.sb_machine.specs.declared.state.Session.{Session}
+
+pub record Seated : Type 0 where
+  -- by id, as far as they were opened so
+  pub sessions : List Session
+  -- so many more may be opened
+  pub spare : ℕ
+
+-- a part with these sessions, for what is said of a part and looks at its sessions alone
+abbrev pub seating : List Session → Leaf
+seating sessions = record { last = 0; copies = []; sessions = sessions }

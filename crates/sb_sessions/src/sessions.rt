@@ -1,0 +1,152 @@
+// The sessions of one part, by id.
+ghost use Rattle.std.specs.Prelude.{◌≡◌, ◌==◌, ◌≤◌, ◌-◌, max, [], ◌∷◌, ◌++◌, length, find, if◌then◌else◌, OnOk, OnErr, None};
+ghost use Rattle.std.specs.Option.{option_map};
+ghost use Rattle.sb_machine.specs.Keyed.{changed};
+ghost use Rattle.sb_machine.specs.Leases.{is_living_holder};
+ghost use Rattle.sb_machine.specs.Leaves.{has_id, is_held_under, opened, prolonged_holder, remembered};
+ghost use Rattle.sb_machine.specs.Sessions as spec;
+ghost use Rattle.sb_machine.specs.declared.state.Leaf.{Leaf};
+ghost use Rattle.sb_sessions.specs.Sessions.{seating};
+
+use crate::{rows, waiting};
+use sb_machine::{Session, StoredCopy, Token};
+use sb_model::{Rows, Text};
+use std::alloc::{AllocError, Global};
+use std::marker::Model;
+
+/// The sessions of one part of an entity.
+#[derive(Drop)]
+pub struct Sessions {
+    sessions: Vec<Session>,
+    spare: usize,
+}
+
+impl Model for Sessions {
+    ghost use Rattle.std.specs.Prelude.{◌+◌, ◌≤◌, vec_len, vec_capacity};
+    ghost use Rattle.sb_sessions.specs.Sessions.{Seated};
+
+    ghost Value = { Seated };
+
+    ghost view = { λ s. record { sessions = s.sessions.items; spare = s.spare } };
+
+    ghost invariant = { λ s. vec_len s.sessions + s.spare ≤ vec_capacity s.sessions };
+}
+
+impl Sessions {
+    /// None yet; takes no memory.
+    pub fn new(alloc: Global) -> Sessions
+        ensures sessions { result.sessions ≡ [] }
+        ensures spare { result.spare ≡ 0 }
+    {
+        Sessions {
+            sessions: Vec::new(alloc),
+            spare: 0,
+        }
+    }
+
+    // ---- room
+
+    /// How many slots are promised.
+    pub fn spare(&self) -> usize
+        ensures { result ≡ self.now.spare }
+    {
+        self.spare
+    }
+
+    /// Promises at least so many slots; where memory is wanting, all stays.
+    pub fn reserve(&mut self, count: usize) -> Result<(), AllocError>
+        ensures sessions { self.new.sessions ≡ self.old.sessions }
+        ensures spare { OnOk result (self.new.spare ≡ max self.old.spare count) }
+        ensures err { OnErr result (self.new.spare ≡ self.old.spare) }
+    {
+        self.sessions.reserve(count)?;
+        if self.spare < count {
+            self.spare = count;
+        }
+        Ok(())
+    }
+
+    // ---- reading
+
+    pub fn as_slice(&self) -> &[Session]
+        ensures { result.now ≡ self.now.sessions }
+    {
+        self.sessions.as_slice()
+    }
+
+    /// The session of this id.
+    pub fn get<'a>(&'a self, id: &str) -> Option<&'a Session>
+        ensures { option_map (λ x. x.now) result ≡ find (has_id id.now) self.now.sessions }
+    {
+        rows::session_of(&self.sessions, id)
+    }
+
+    /// The one that is held under the lock of this number.
+    pub fn held_by(&self, lock: u64) -> Option<&Session>
+        ensures { option_map (λ x. x.now) result ≡ find (is_held_under lock) self.now.sessions }
+    {
+        rows::held_by(&self.sessions, lock)
+    }
+
+    /// The one whose living holder the token is at `moment`, in ms since 1970; `salt` is the
+    /// namespace's.
+    pub fn held(&self, salt: u64, moment: u64, token: Token) -> Option<&Session>
+        ensures { option_map (λ x. x.now) result ≡ (if token.salt == salt then find (is_living_holder moment token.lock) self.now.sessions else None) }
+    {
+        if token.salt == salt {
+            rows::living(&self.sessions, moment, token.lock)
+        } else {
+            None
+        }
+    }
+
+    /// The id of the next session that nobody holds: that of the first copy that may be received,
+    /// of the part's copies in these two slices.
+    pub fn next_session<'a>(
+        &self,
+        first: &'a [StoredCopy],
+        second: &'a [StoredCopy],
+    ) -> Option<&'a Text>
+        ensures { (leaf : Leaf) → leaf.sessions ≡ self.now.sessions → option_map (λ x. x.now) result ≡ spec.next_session leaf (first.now ++ second.now) }
+    {
+        waiting::next_session(&self.sessions, first, second)
+    }
+
+    // ---- changes
+
+    /// The session of this id, where nobody holds it, is held under the lock of this number until
+    /// then, in ms since 1970. A slot that was promised is taken, whether or not one is added.
+    pub fn open(&mut self, id: Text, lock: u64, until: u64)
+        requires room { 1 ≤ self.old.spare }
+        ensures sessions { self.new.sessions ≡ opened lock id until (seating self.old.sessions) }
+        ensures spare { self.new.spare ≡ self.old.spare - 1 }
+    {
+        rows::open_row(&mut self.sessions, id, lock, until);
+        self.spare -= 1;
+    }
+
+    /// The session that is held under this lock is held no more, and forgotten where it has no
+    /// state.
+    pub fn close(&mut self, lock: u64)
+        ensures sessions { self.new.sessions ≡ changed (is_held_under lock) (λ x. remembered (record x { holder = None })) self.old.sessions }
+        ensures spare { self.new.spare ≡ self.old.spare }
+    {
+        rows::close_row(&mut self.sessions, lock);
+    }
+
+    /// The lock of a session lives until then, in ms since 1970.
+    pub fn prolong(&mut self, lock: u64, until: u64)
+        ensures sessions { self.new.sessions ≡ changed (is_held_under lock) (λ x. record x { holder = prolonged_holder until x.holder } ∷ []) self.old.sessions }
+        ensures spare { self.new.spare ≡ self.old.spare }
+    {
+        rows::prolong_row(&mut self.sessions, lock, until);
+    }
+
+    /// The session that is held under this lock remembers these bytes, or none.
+    pub fn write(&mut self, lock: u64, state: Option<Rows<u8>>)
+        ensures sessions { self.new.sessions ≡ changed (is_held_under lock) (λ x. remembered (record x { state = state })) self.old.sessions }
+        ensures spare { self.new.spare ≡ self.old.spare }
+    {
+        rows::write_row(&mut self.sessions, lock, state);
+    }
+}
