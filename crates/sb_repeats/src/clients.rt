@@ -1,0 +1,152 @@
+// The last numbered call of each client.
+ghost use Rattle.std.specs.Prelude.{◌≡◌, ◌+◌, ◌-◌, ◌≤◌, ◌<◌, max, [], ◌∷◌, length, find, position, OnOk, OnErr, IfSome, slice_set, vec_len, vec_capacity};
+ghost use Rattle.std.specs.List.{prefix_len};
+ghost use Rattle.std.specs.Option.{option_map};
+ghost use Rattle.std.specs.Ordering.{nat_cmp, is_lt};
+ghost use Rattle.std.specs.Cmp.Lexicographic.{slice_cmp};
+ghost use Rattle.sb_machine.specs.Answers.{with_kept};
+ghost use Rattle.sb_machine.specs.Keyed.{with_sorted};
+ghost use Rattle.sb_machine.specs.Names.{is_before};
+ghost use Rattle.sb_machine.specs.Repeats.{is_client, kept_for};
+
+use sb_machine::Kept;
+use std::alloc::{AllocError, Global};
+use std::marker::Model;
+
+/// What is kept of each client of a namespace.
+#[derive(Drop)]
+pub struct Clients {
+    clients: Vec<Kept>,
+    spare: usize,
+}
+
+impl Model for Clients {
+    ghost use Rattle.std.specs.Prelude.{◌+◌, ◌≤◌, vec_len, vec_capacity};
+    ghost use Rattle.sb_repeats.specs.Clients.{Known};
+
+    ghost Value = { Known };
+
+    ghost view = { λ s. record { clients = s.clients.items; spare = s.spare } };
+
+    ghost invariant = { λ s. vec_len s.clients + s.spare ≤ vec_capacity s.clients };
+}
+
+impl Clients {
+    /// None yet; takes no memory.
+    pub fn new(alloc: Global) -> Clients
+        ensures clients { result.clients ≡ [] }
+        ensures spare { result.spare ≡ 0 }
+    {
+        Clients {
+            clients: Vec::new(alloc),
+            spare: 0,
+        }
+    }
+
+    /// How many slots are promised.
+    pub fn spare(&self) -> usize
+        ensures { result ≡ self.now.spare }
+    {
+        self.spare
+    }
+
+    /// Promises at least so many slots; where memory is wanting, all stays.
+    pub fn reserve(&mut self, count: usize) -> Result<(), AllocError>
+        ensures clients { self.new.clients ≡ self.old.clients }
+        ensures spare { OnOk result (self.new.spare ≡ max self.old.spare count) }
+        ensures err { OnErr result (self.new.spare ≡ self.old.spare) }
+    {
+        self.clients.reserve(count)?;
+        if self.spare < count {
+            self.spare = count;
+        }
+        Ok(())
+    }
+
+    pub fn size(&self) -> usize
+        ensures { result ≡ length self.now.clients }
+    {
+        self.clients.len()
+    }
+
+    pub fn as_slice(&self) -> &[Kept]
+        ensures { result.now ≡ self.now.clients }
+    {
+        self.clients.as_slice()
+    }
+
+    /// What is kept for a client.
+    pub fn get<'a>(&'a self, client: &str) -> Option<&'a Kept>
+        ensures { option_map (λ k. k.now) result ≡ kept_for client.now self.now.clients }
+    {
+        kept_of(&self.clients, client)
+    }
+
+    /// Keeps a call and its reply in the place of the client's last. A slot that was promised is
+    /// taken, whether or not the client is new.
+    pub fn keep(&mut self, kept: Kept)
+        requires room { 1 ≤ self.old.spare }
+        ensures clients { self.new.clients ≡ with_kept kept self.old.clients }
+        ensures spare { self.new.spare ≡ self.old.spare - 1 }
+    {
+        keep_row(&mut self.clients, kept);
+        self.spare -= 1;
+    }
+}
+
+fn place_of(rows: &[Kept], client: &str) -> Option<usize>
+    ensures { result ≡ position (is_client client.now) rows.now }
+{
+    rows.iter().position(|k| k.client.as_str() == client)
+}
+
+fn kept_of<'a>(rows: &'a [Kept], client: &str) -> Option<&'a Kept>
+    ensures { option_map (λ k. k.now) result ≡ kept_for client.now rows.now }
+{
+    match place_of(rows, client) {
+        Some(place) => Some(&rows[place]),
+        None => None,
+    }
+}
+
+// How many stand before this client.
+fn entry_of(rows: &[Kept], client: &str) -> usize
+    ensures place { result ≡ prefix_len (λ x. is_before x.client client.now) rows.now }
+    ensures within { result ≤ length rows.now }
+{
+    rows.iter()
+        .take_while(|x| x.client.as_str() < client)
+        .count()
+}
+
+fn insert_row(rows: &mut Vec<Kept>, kept: Kept)
+    requires room { vec_len rows.old < vec_capacity rows.old }
+    ensures rows { rows.new.items ≡ with_sorted (λ x. is_before x.client kept.client) kept rows.old.items }
+    ensures len { vec_len rows.new ≤ vec_len rows.old + 1 }
+    ensures capacity { vec_capacity rows.new ≡ vec_capacity rows.old }
+{
+    let place = entry_of(rows, kept.client.as_str());
+    let _ = rows.insert(place, kept);
+}
+
+fn replace_at(rows: &mut Vec<Kept>, place: usize, kept: Kept)
+    requires { place < length rows.old.items }
+    ensures rows { rows.new.items ≡ slice_set rows.old.items place kept }
+    ensures len { vec_len rows.new ≡ vec_len rows.old }
+    ensures capacity { vec_capacity rows.new ≡ vec_capacity rows.old }
+{
+    rows[place] = kept;
+}
+
+fn keep_row(rows: &mut Vec<Kept>, kept: Kept)
+    requires room { vec_len rows.old < vec_capacity rows.old }
+    ensures rows { rows.new.items ≡ with_kept kept rows.old.items }
+    ensures len { vec_len rows.new ≤ vec_len rows.old + 1 }
+    ensures capacity { vec_capacity rows.new ≡ vec_capacity rows.old }
+{
+    let Some(place) = place_of(rows, kept.client.as_str()) else {
+        insert_row(rows, kept);
+        return;
+    };
+    replace_at(rows, place, kept);
+}

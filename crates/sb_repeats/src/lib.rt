@@ -1,0 +1,26 @@
+//! What lets a repeated call act once: the ids that an entity accepted within its window, and the
+//! last numbered call of each client.
+//!
+//! It stands on the model alone. Contracts see a [`Window`] as the list of its ids, [`Clients`] as
+//! the list of what is kept, each with a number of slots that are promised. To note an id is the
+//! model's `noted`, to keep a call its `with_kept`, and both take a slot that was promised before,
+//! and so can't fail. [`is_same_act`] is the model's test whether two acts are equal in all their
+//! fields.
+//!
+//! ```text
+//! let mut window = Window::new(alloc);
+//! if !window.is_known(seconds, "order-17", moment) {
+//!     window.reserve(1)?;                            // a slot is promised
+//!     window.note(Some(seconds), id, moment);        // and taken: this can't fail
+//! }
+//! ```
+#![tactic(auto)]
+
+mod clients;
+mod same;
+mod same_act;
+mod window;
+
+pub use clients::Clients;
+pub use same_act::is_same_act;
+pub use window::Window;
