@@ -1,0 +1,153 @@
+// The open transactions of a namespace, in the order in which they were begun.
+ghost use Rattle.std.specs.Prelude.{◌≡◌, ◌≤◌, ◌-◌, max, [], ◌∷◌, ◌++◌, length, filter, find, OnOk, OnErr, IfSome};
+ghost use Rattle.std.specs.List.{list_any};
+ghost use Rattle.std.specs.Option.{option_map};
+ghost use Rattle.sb_machine.specs.Changes.{is_transaction, with_operation};
+ghost use Rattle.sb_machine.specs.Keyed.{changed};
+ghost use Rattle.sb_machine.specs.SettleRow.{settles};
+ghost use Rattle.sb_txn.specs.Txns.{transactions_of, has_txn, begun, with_queued, with_room, is_elsewhere};
+
+use crate::{OpenTransaction, rows};
+use sb_machine::{Operation, Transaction};
+use std::alloc::{AllocError, Global};
+use std::marker::Model;
+
+/// The open transactions of a namespace.
+#[derive(Drop)]
+pub struct Txns {
+    alloc: Global,
+    rows: Vec<OpenTransaction>,
+    spare: usize,
+}
+
+impl Model for Txns {
+    ghost use Rattle.std.specs.Prelude.{◌+◌, ◌≤◌, vec_len, vec_capacity};
+    ghost use Rattle.sb_txn.specs.Txns.{Table};
+
+    ghost Value = { Table };
+
+    ghost view = { λ s. record { rows = s.rows.items; spare = s.spare } };
+
+    ghost invariant = { λ s. vec_len s.rows + s.spare ≤ vec_capacity s.rows };
+}
+
+impl Txns {
+    /// None yet; takes no memory.
+    pub fn new(alloc: Global) -> Txns
+        ensures rows { result.rows ≡ [] }
+        ensures spare { result.spare ≡ 0 }
+    {
+        Txns {
+            alloc,
+            rows: Vec::new(alloc),
+            spare: 0,
+        }
+    }
+
+    // ---- room
+
+    /// How many slots are promised to further transactions.
+    pub fn spare(&self) -> usize
+        ensures { result ≡ self.now.spare }
+    {
+        self.spare
+    }
+
+    /// Promises at least so many slots to transactions; where memory is wanting, all stays.
+    pub fn reserve(&mut self, count: usize) -> Result<(), AllocError>
+        ensures rows { self.new.rows ≡ self.old.rows }
+        ensures spare { OnOk result (self.new.spare ≡ max self.old.spare count) }
+        ensures err { OnErr result (self.new.spare ≡ self.old.spare) }
+    {
+        self.rows.reserve(count)?;
+        if self.spare < count {
+            self.spare = count;
+        }
+        Ok(())
+    }
+
+    /// Promises at least so many slots to the operations of the transaction of this number; where
+    /// memory is wanting, all stays.
+    pub fn reserve_operations(&mut self, number: u64, count: usize) -> Result<(), AllocError>
+        ensures rows { OnOk result (self.new.rows ≡ changed (has_txn number) (λ r. with_room count r ∷ []) self.old.rows) }
+        ensures transactions { transactions_of self.new.rows ≡ transactions_of self.old.rows }
+        ensures spare { self.new.spare ≡ self.old.spare }
+        ensures err { OnErr result (self.new.rows ≡ self.old.rows) }
+    {
+        rows::reserve_row(&mut self.rows, number, count)
+    }
+
+    // ---- reading
+
+    pub fn size(&self) -> usize
+        ensures { result ≡ length self.now.rows }
+    {
+        self.rows.len()
+    }
+
+    pub fn as_slice(&self) -> &[OpenTransaction]
+        ensures { result.now ≡ self.now.rows }
+    {
+        self.rows.as_slice()
+    }
+
+    /// The open transaction of this number.
+    pub fn get(&self, number: u64) -> Option<&OpenTransaction>
+        ensures row { option_map (λ r. r.now) result ≡ find (has_txn number) self.now.rows }
+        ensures transaction { option_map (λ r. r.now.transaction) result ≡ find (is_transaction number) (transactions_of self.now.rows) }
+    {
+        rows::numbered(&self.rows, number)
+    }
+
+    /// The one in which a settlement of this lock is queued.
+    pub fn pending(&self, lock: u64) -> Option<&OpenTransaction>
+        ensures { option_map (λ r. r.now.transaction) result ≡ find (λ x. list_any (settles lock) x.operations) (transactions_of self.now.rows) }
+    {
+        rows::settling(&self.rows, lock)
+    }
+
+    // ---- changes
+
+    /// Opens a transaction on an entity, with nothing queued, in a slot that was promised. Its
+    /// deadline is in ms since 1970.
+    pub fn begin(&mut self, number: u64, entity: u64, deadline: u64)
+        requires room { 1 ≤ self.old.spare }
+        ensures rows { self.new.rows ≡ self.old.rows ++ record { transaction = begun number entity deadline; spare = 0 } ∷ [] }
+        ensures transactions { transactions_of self.new.rows ≡ transactions_of self.old.rows ++ begun number entity deadline ∷ [] }
+        ensures spare { self.new.spare ≡ self.old.spare - 1 }
+    {
+        let row = OpenTransaction::begin(self.alloc, number, entity, deadline);
+        self.rows.push_reserved(row);
+        self.spare -= 1;
+    }
+
+    /// Queues an operation in the transaction of this number, in a slot that was promised to it,
+    /// and sets its deadline, in ms since 1970.
+    pub fn queue(&mut self, number: u64, deadline: u64, operation: Operation)
+        requires room { IfSome (find (has_txn number) self.old.rows) (λ r. 1 ≤ r.spare) }
+        ensures rows { self.new.rows ≡ changed (has_txn number) (λ r. with_queued deadline operation r ∷ []) self.old.rows }
+        ensures transactions { transactions_of self.new.rows ≡ changed (is_transaction number) (λ x. with_operation deadline operation x ∷ []) (transactions_of self.old.rows) }
+        ensures spare { self.new.spare ≡ self.old.spare }
+    {
+        rows::queue_row(&mut self.rows, number, deadline, operation);
+    }
+
+    /// Takes the transaction of this number out, with its operations.
+    pub fn drop_txn(&mut self, number: u64) -> Option<Transaction>
+        ensures taken { result ≡ find (is_transaction number) (transactions_of self.old.rows) }
+        ensures rows { self.new.rows ≡ changed (has_txn number) (λ r. []) self.old.rows }
+        ensures transactions { transactions_of self.new.rows ≡ changed (is_transaction number) (λ x. []) (transactions_of self.old.rows) }
+        ensures spare { self.new.spare ≡ self.old.spare }
+    {
+        rows::take_row(&mut self.rows, number)
+    }
+
+    /// Takes out all that are on this entity.
+    pub fn remove_of(&mut self, entity: u64)
+        ensures rows { self.new.rows ≡ filter (λ r. is_elsewhere entity r.transaction) self.old.rows }
+        ensures transactions { transactions_of self.new.rows ≡ filter (is_elsewhere entity) (transactions_of self.old.rows) }
+        ensures spare { self.new.spare ≡ self.old.spare }
+    {
+        rows::remove_rows(&mut self.rows, entity);
+    }
+}
