@@ -22,9 +22,11 @@ mod like;
 mod numbers;
 mod operators;
 mod properties;
+mod property;
 mod sizes;
 mod value;
 
 pub use action::run_action;
 pub use evaluate::eval;
+pub use property::with_property;
 use value::{Evaluated, Value};
