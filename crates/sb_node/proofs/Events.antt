@@ -21,8 +21,8 @@ use Rattle.sb_model.specs.declared.message.Message.{Message}
 use Rattle.sb_model.specs.declared.reply.Refusal.{Refusal}
 use Rattle.sb_model.specs.declared.state.State.{State}
 use Rattle.sb_model.specs.declared.state.Entity.{Entity}
-use Rattle.sb_codec.specs.EventBytes.{event_bytes, act_bytes, by_bytes, description_bytes, path_bytes, token_bytes, sized, message_bytes, system_bytes, property_bytes, listed, optional, number32, number64, truth}
-use Rattle.sb_codec.specs.Spelled.{HasSpelling, Is32, Is64, IsText, IsPath, IsMessage, IsDescription, IsAct, IsToken, IsBy, AreSystemTexts, AreProperties}
+use Rattle.sb_first_codec.specs.EventBytes.{event_bytes, act_bytes, by_bytes, description_bytes, path_bytes, token_bytes, sized, message_bytes, system_bytes, property_bytes, listed, optional, number32, number64, truth}
+use Rattle.sb_first_codec.specs.Spelled.{HasSpelling, Is32, Is64, IsText, IsPath, IsMessage, IsDescription, IsAct, IsToken, IsBy, AreSystemTexts, AreProperties}
 use Rattle.sb_model.specs.Namespace.{entity_named, numbers_made}
 use Rattle.sb_model.specs.Fields.{max_number}
 use Rattle.sb_model.specs.Answers.{sent, received, created}
@@ -166,8 +166,8 @@ path_spelled path is =
         name.1,
         length-sized path.name,
         length-nothing sized path.subscription no_subscription,
-        length-append (optional sized path.subscription) (Rattle.sb_codec.specs.EventBytes.part_byte path.part ∷ []),
-        length-append (sized path.name) (optional sized path.subscription ++ Rattle.sb_codec.specs.EventBytes.part_byte path.part ∷ []),
+        length-append (optional sized path.subscription) (Rattle.sb_first_codec.specs.EventBytes.part_byte path.part ∷ []),
+        length-append (sized path.name) (optional sized path.subscription ++ Rattle.sb_first_codec.specs.EventBytes.part_byte path.part ∷ []),
       ),
     )
 
@@ -251,7 +251,7 @@ send_spelled s t to ms txn good moving =
         sizes.1,
         length-messages ms fields.0,
         length-optional64 txn,
-        length-append (Rattle.sb_codec.specs.EventBytes.number32 (length ms)) bytes,
+        length-append (Rattle.sb_first_codec.specs.EventBytes.number32 (length ms)) bytes,
         length-append (listed message_bytes ms) (optional number64 txn),
         length-append (path_bytes to) (listed message_bytes ms ++ optional number64 txn),
       );
@@ -279,7 +279,7 @@ receive_spelled s from mode session good moving =
         arith,
         path.1,
         length-nothing token_bytes session none,
-        length-append (path_bytes from) (Rattle.sb_codec.specs.EventBytes.mode_byte mode ∷ optional token_bytes session),
+        length-append (path_bytes from) (Rattle.sb_first_codec.specs.EventBytes.mode_byte mode ∷ optional token_bytes session),
       );
     }
   where

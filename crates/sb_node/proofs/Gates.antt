@@ -1,7 +1,7 @@
 -- Payloads one after another, with the places of their gates.
 use Rattle.std.proofs.Common.{◌≡◌, ℕ, ◌+◌, ◌<◌, ◌≤◌, List, [], ◌∷◌, ◌++◌, length, get_or, drop, Option, Some, None, refl, sym, ◌∙◌, ap, subst, arith}
 use Rattle.sb_journal.specs.Text.{gate_after}
-use Rattle.sb_codec.specs.Reading.{read_event}
+use Rattle.sb_first_codec.specs.Reading.{read_event}
 use Rattle.std.specs.Prelude.{if◌then◌else◌, nat_le, ◌&&◌, Bool, true, false}
 use Rattle.std.proofs.lemmas.Bool.Decides.{nat_tests}
 use Rattle.sb_model.specs.Answers.{Row, refuses, stays, moves, row_of}

@@ -6,7 +6,7 @@ use Rattle.sb_outside.specs.declared.disk.Disk.{Ghosts}
 use Rattle.sb_journal.specs.declared.journal.Journal.{Journal}
 use Rattle.sb_journal.specs.Journals.{journal_disks, HoldsFile}
 use Rattle.sb_journal.specs.Text.{File, with_payload}
-use Rattle.sb_codec.specs.Reading.{read_event}
+use Rattle.sb_first_codec.specs.Reading.{read_event}
 use Rattle.sb_model.specs.Answers.{refuses, row_of, moment_of, is_move}
 use Rattle.sb_model.specs.History.{answered, changes, is_fault}
 use Rattle.sb_model.specs.declared.call.Call.{Call}

@@ -5,7 +5,7 @@ use Rattle.std.proofs.lemmas.Bool.Decides.{nat_tests}
 use Rattle.sb_journal.specs.Opened.{Opened, Stands, Damage, opened}
 use Rattle.sb_journal.specs.declared.found.Side.{Side}
 use Rattle.sb_journal.specs.Text.{File, first_gate}
-use Rattle.sb_codec.specs.Reading.{read_event}
+use Rattle.sb_first_codec.specs.Reading.{read_event}
 use Rattle.sb_model.specs.Answers.{Row, refuses, stays, moves, row_of, state_in}
 use Rattle.sb_model.specs.Consistent.{IsConsistent}
 use Rattle.sb_model.specs.Namespace.{empty_state}

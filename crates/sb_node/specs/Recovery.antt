@@ -5,7 +5,7 @@ use Rattle.sb_model.specs.Answers.{Row, refuses, stays, moves, row_of, max_momen
 use Rattle.sb_model.specs.declared.call.Event.{Event}
 use Rattle.sb_model.specs.declared.call.Event.TheVariants.{Tick, Called}
 use Rattle.sb_model.specs.declared.state.State.{State}
-use Rattle.sb_codec.specs.Reading.{read_event}
+use Rattle.sb_first_codec.specs.Reading.{read_event}
 use Rattle.sb_journal.specs.Text.{File, first_gate, next_gate}
 use Rattle.sb_journal.specs.Opened.{Opened, Stands, Damage, opened}
 use Rattle.sb_journal.specs.Disks.{Disks}

@@ -1,6 +1,6 @@
 -- A journal of one event, and what stands for what where it is cut or a byte is another, worked out by hand.
 use Rattle.std.specs.Prelude.{ℕ, ◌+◌, List, [], ◌∷◌, ◌++◌, codes, take, drop}
-use Rattle.sb_codec.specs.Worked.{made_bytes}
+use Rattle.sb_first_codec.specs.Worked.{made_bytes}
 use Rattle.sb_model.specs.Namespace.{new_entity, default_description}
 use Rattle.sb_model.specs.declared.state.State.{State}
 

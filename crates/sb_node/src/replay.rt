@@ -1,7 +1,7 @@
 // Carrying out again what a journal says.
 ghost use Rattle.std.specs.Bool.{MatchBool};
 ghost use Rattle.std.specs.Prelude.{◌≡◌, ◌^◌, ◌<◌, ℕ, Some, None, IfOk, IfErr, OnOk};
-ghost use Rattle.sb_codec.specs.Reading.{read_event};
+ghost use Rattle.sb_first_codec.specs.Reading.{read_event};
 ghost use Rattle.sb_model.specs.declared.call.Event.TheVariants.{Called};
 ghost use Rattle.sb_journal.specs.Text.{gate_after};
 ghost use Rattle.sb_node.specs.Engine.{engine_state};
@@ -9,7 +9,7 @@ ghost use Rattle.sb_node.specs.Recovery.{next_state, replay, reaches, breaks};
 ghost use Rattle.sb_node.specs.declared.replay.ReplayFault.TheVariants.{NoEvent};
 
 use crate::engine::Engine;
-use sb_codec::decode_event;
+use sb_first_codec::decode_event;
 use sb_journal::{Bytes, next_gate};
 use sb_model::{Call, Event, Refusal};
 use std::alloc::{AllocError, Global};

@@ -1,8 +1,8 @@
 use Rattle.std.proofs.Common.{refl}
 use Rattle.sb_journal.specs.Framing.{framing, head_fault, is_record, payloads_in}
 use Rattle.std.specs.Str.{is_utf8, chars}
-use Rattle.sb_codec.specs.Readers.{number_at, sized_at, optional_at}
-use Rattle.sb_codec.specs.Reading.{text_at, truth_at, description_at, create_queue_at, act_at, called_at, event_at, read_event}
+use Rattle.sb_first_codec.specs.Readers.{number_at, sized_at, optional_at}
+use Rattle.sb_first_codec.specs.Reading.{text_at, truth_at, description_at, create_queue_at, act_at, called_at, event_at, read_event}
 use Rattle.sb_node.proofs.laws.worked_journal.Goals as goal
 
 pub returns-clause-length : goal.returns-clause-length
