@@ -1,0 +1,11 @@
+pub mod Bytes
+pub mod Readers
+pub mod Forms
+pub mod Pieces
+pub mod Messages
+pub mod Choices
+pub mod Acts
+pub mod EventBytes
+pub mod Judged
+pub mod Laws
+pub mod Worked

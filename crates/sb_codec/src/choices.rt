@@ -1,0 +1,142 @@
+// What stands in acts as one of several.
+ghost use Rattle.std.specs.Prelude.{◌≡◌, OnOk};
+ghost use Rattle.sb_codec.specs.Choices as choices;
+ghost use Rattle.sb_codec.specs.Readers.{Gives};
+ghost use Rattle.sb_codec.specs.Forms.{Form, Puts};
+
+use crate::fields::{Number64, Opt, Words};
+use crate::messages::ConditionsPiece;
+use crate::piece::{Piece, take_fields};
+use crate::unread::Unread;
+use sb_machine::{FilterText, How, Which};
+use sb_model::Text;
+use std::alloc::{AllocError, Global};
+
+pub(crate) struct WhichPiece;
+
+impl Piece for WhichPiece {
+    type Value = Which;
+
+    ghost form = { choices.which };
+
+    #[tactic(auto, unfolding(crate::specs::Choices::which))]
+    fn put(value: &Which, out: &mut Vec<u8>) -> Result<(), AllocError> {
+        match value {
+            Which::Number(number) => {
+                out.push(0)?;
+                Number64::put(number, out)
+            }
+            Which::Id(id) => {
+                out.push(1)?;
+                Words::put(id, out)
+            }
+        }
+    }
+
+    #[tactic(auto, unfolding(crate::specs::Choices::which, crate::specs::Forms::chosen_at))]
+    fn take(alloc: Global, bytes: &[u8]) -> Result<(Which, &[u8]), Unread> {
+        let [code, rest @ ..] = bytes else {
+            return Err(Unread::NoSpelling);
+        };
+        match *code {
+            0 => {
+                let (number, rest) = Number64::take(alloc, rest)?;
+                Ok((Which::Number(number), rest))
+            }
+            1 => {
+                let (id, rest) = Words::take(alloc, rest)?;
+                Ok((Which::Id(id), rest))
+            }
+            _ => Err(Unread::NoSpelling),
+        }
+    }
+}
+
+pub(crate) struct HowPiece;
+
+impl Piece for HowPiece {
+    type Value = How;
+
+    ghost form = { choices.how };
+
+    #[tactic(auto, unfolding(crate::specs::Choices::how))]
+    fn put(value: &How, out: &mut Vec<u8>) -> Result<(), AllocError> {
+        match value {
+            How::Complete => {
+                out.push(0)?;
+                Ok(())
+            }
+            How::Abandon => {
+                out.push(1)?;
+                Ok(())
+            }
+            How::Defer => {
+                out.push(2)?;
+                Ok(())
+            }
+            How::DeadLetter {
+                reason,
+                description,
+            } => {
+                out.push(3)?;
+                Opt::<Words>::put(reason, out)?;
+                Opt::<Words>::put(description, out)
+            }
+        }
+    }
+
+    #[tactic(auto, unfolding(crate::specs::Choices::how, crate::specs::Forms::chosen_at))]
+    fn take(alloc: Global, bytes: &[u8]) -> Result<(How, &[u8]), Unread> {
+        let [code, rest @ ..] = bytes else {
+            return Err(Unread::NoSpelling);
+        };
+        match *code {
+            0 => Ok((How::Complete, rest)),
+            1 => Ok((How::Abandon, rest)),
+            2 => Ok((How::Defer, rest)),
+            3 =>
+                take_fields!(alloc, rest, How::DeadLetter { reason: Opt<Words>, description: Opt<Words> }),
+            _ => Err(Unread::NoSpelling),
+        }
+    }
+}
+
+pub(crate) struct FilterPiece;
+
+impl Piece for FilterPiece {
+    type Value = FilterText;
+
+    ghost form = { choices.filter_text };
+
+    #[tactic(auto, unfolding(crate::specs::Choices::filter_text))]
+    fn put(value: &FilterText, out: &mut Vec<u8>) -> Result<(), AllocError> {
+        match value {
+            FilterText::Sql(text) => {
+                out.push(0)?;
+                Words::put(text, out)
+            }
+            FilterText::Correlation(conditions) => {
+                out.push(1)?;
+                ConditionsPiece::put(conditions, out)
+            }
+        }
+    }
+
+    #[tactic(auto, unfolding(crate::specs::Choices::filter_text, crate::specs::Forms::chosen_at))]
+    fn take(alloc: Global, bytes: &[u8]) -> Result<(FilterText, &[u8]), Unread> {
+        let [code, rest @ ..] = bytes else {
+            return Err(Unread::NoSpelling);
+        };
+        match *code {
+            0 => {
+                let (text, rest) = Words::take(alloc, rest)?;
+                Ok((FilterText::Sql(text), rest))
+            }
+            1 => {
+                let (conditions, rest) = ConditionsPiece::take(alloc, rest)?;
+                Ok((FilterText::Correlation(conditions), rest))
+            }
+            _ => Err(Unread::NoSpelling),
+        }
+    }
+}

@@ -1,0 +1,35 @@
+//! Journal events as bytes: one spelling a value, read back exactly.
+//!
+//! What a journal record holds is one event: time went on, or a call acted. The crate stands on
+//! `sb_machine` alone. Its one contract: [`encode_event`] and [`write_event`] give the bytes that
+//! `specs/EventBytes` says, and [`decode_event`] gives an event exactly where bytes spell one.
+//!
+//! A *form* (`specs/Forms`) says of one kind of values how they are spelled, how they are read,
+//! which of them have a spelling and how long it is; a piece (`piece.rt`) is a form in code. Forms
+//! are put together, and an act is one line: in `specs/Acts` and in the table of `acts.rt`.
+//!
+//! ```text
+//! let bytes = encode_event(alloc, &EventRef::Tick { moment: 9 })?; // 00, and 9 in 8 bytes
+//! let event = decode_event(alloc, &bytes)?; // Some(Event::Tick { moment: 9 })
+//! ```
+#![tactic(auto)]
+
+mod acts;
+mod choices;
+mod decode;
+mod encode;
+mod events;
+mod fields;
+mod groups;
+mod laws;
+mod lists;
+mod messages;
+mod piece;
+mod pieces;
+mod unread;
+mod worked;
+
+pub use decode::decode_event;
+pub use encode::{encode_event, write_event};
+pub use laws::{journaled_calls, one_spelling};
+pub use worked::worked_bytes;
