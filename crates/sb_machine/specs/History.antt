@@ -1,7 +1,7 @@
 -- Histories: the entries of a namespace, which of them are legal, and the state that they lead to.
 use Rattle.std.specs.Prelude.{◌≡◌, ℕ, ◌≤◌, List, [], ◌∷◌, ◌++◌, Bool, true, false, not, if◌then◌else◌, Option, Some, None, Result, Err}
 use Rattle.std.specs.Bool.{MatchBool}
-use Rattle.sb_machine.specs.Answers.{moment_of, answer_of, state_of}
+use Rattle.sb_machine.specs.Answers.{max_moment, moment_of, answer_of, state_of}
 use Rattle.sb_machine.specs.Changes.{after_all, is_numbered}
 use Rattle.sb_machine.specs.Due.{is_due, tick_changes}
 use Rattle.sb_machine.specs.declared.call.Call.{Call}
@@ -71,7 +71,7 @@ state_after s entries = (after_entries (fresh_log s) entries).state
 
 -- time may go on to this moment
 abbrev pub IsTick : State → ℕ → Type 0
-IsTick s t = (s.now ≤ t) × (is_due t s.space ≡ true) × (is_spent s t ≡ false)
+IsTick s t = (s.now ≤ t) × (t ≤ max_moment) × (is_due t s.space ≡ true) × (is_spent s t ≡ false)
 
 -- The machine's answer. Where something is due and no tick was made, it is because none can be.
 abbrev pub IsAnswer : State → ℕ → Call → Result Answered Refusal → Type 0
