@@ -15,6 +15,7 @@ pub mod Dueness
 pub mod Sameness
 pub mod SameActs
 pub mod Measures
+pub mod Messages
 pub mod Moves
 pub mod MovesAll
 pub mod Moving
