@@ -16,6 +16,8 @@ pub mod Sameness
 pub mod SameActs
 pub mod Measures
 pub mod Messages
+pub mod DefaultRule
+pub mod Contents
 pub mod Moves
 pub mod MovesAll
 pub mod Moving

@@ -67,7 +67,7 @@ bytes_few (b ∷ bs) = let rest = after_few (continuation_len b) (lead_bits b) b
 
 -- ---- filters of a list with one more
 
-both : (a b : Bool) → (a && b) ≡ true → (a ≡ true) × (b ≡ true)
+pub both : (a b : Bool) → (a && b) ≡ true → (a ≡ true) × (b ≡ true)
 both true b e = (refl, e)
 both false b e = absurd cc
 
@@ -130,11 +130,11 @@ others_same : (name : List ℕ) (value : PropertyValue) (props : List Property) 
 others_same name value props aside =
     filter_placed is_other (λ q. is_before q.name name) (record { name = name; value = value }) (turned (is_set_aside (record { name = name; value = value })) aside) (without_user name props)
     ∙ filter_within is_other (λ q. not (bytes_eq q.name name)) named props where
-  named : (q : Property) → is_other q ≡ true → not (bytes_eq q.name name) ≡ true
-  named q other = at (bytes_eq q.name name) (bytes_eq-Decides q.name name) where
-    at : (b : Bool) → Decides b (q.name ≡ name) → not b ≡ true
-    at true decides = absurd (clash (is_set_aside q) (subst (λ (n : List ℕ). is_set_aside (record { name = n; value = q.value }) ≡ true) (sym (decides.0 refl)) aside) (off (is_set_aside q) other))
-    at false decides = refl
+      named : (q : Property) → is_other q ≡ true → not (bytes_eq q.name name) ≡ true
+      named q other = at (bytes_eq q.name name) (bytes_eq-Decides q.name name) where
+        at : (b : Bool) → Decides b (q.name ≡ name) → not b ≡ true
+        at true decides = absurd (clash (is_set_aside q) (subst (λ (n : List ℕ). is_set_aside (record { name = n; value = q.value }) ≡ true) (sym (decides.0 refl)) aside) (off (is_set_aside q) other))
+        at false decides = refl
 
 -- one of them set
 pub marked_fits : (name text : List ℕ) (m : Message) → is_set_aside (record { name = name; value = Text text }) ≡ true → length text ≤ max_property_bytes → IsMessage m → IsMessage (record m { props = with_user name (Some (Text text)) m.props })
@@ -312,23 +312,26 @@ small_fits m small few =
       each_implied (λ p. property_size p ≤ max_property_bytes) (λ p. is_set_aside p ≡ true → value_size p.value ≤ max_property_bytes) (λ p le is. omega (arith, le)) m.props (each_below property_size max_property_bytes m.props (omega (arith, small))),
     )
 
+-- a message in order, within the limits
+pub fits_in_order : (m : Message) → IsInOrder m → bad_in_texts m.sys ≡ None → property_bytes m ≤ max_property_bytes → length m.props ≤ max_user_properties → length m.body ≤ max_body → is_between_or_none 1 max_ttl m.ttl ≡ true → IsMessage m
+fits_in_order m order texts bytes few body ttl = let small = small_fits m bytes few in record {
+  sys = rising_sorted (λ a b. nat_lt (system_code a.name) (system_code b.name)) m.sys order.sys;
+  texts = each_implied (λ s. is_set s ≡ true) (λ s. 0 < length s.text) text_there m.sys (all_each is_set m.sys order.set);
+  props = rising_sorted (λ a b. is_before a.name b.name) m.props order.props;
+  own = small.2;
+  fields = texts;
+  many = small.1;
+  size = small.0;
+  body = body;
+  ttl = ttl;
+}
+
 pub action_fits : (m n : Message) (cs : List Step) → after_action m cs ≡ Ok n → IsMessage m → IsMessage n
 action_fits m n cs e h =
     let kept = keeps_messages m n cs e in
-    let order = kept.0.order (in_order m h) in
     let sizes = within_sizes n kept.1 in
-    let small = small_fits n sizes.0 sizes.1 in
-    record {
-      sys = rising_sorted (λ a b. nat_lt (system_code a.name) (system_code b.name)) n.sys order.sys;
-      texts = each_implied (λ s. is_set s ≡ true) (λ s. 0 < length s.text) text_there n.sys (all_each is_set n.sys order.set);
-      props = rising_sorted (λ a b. is_before a.name b.name) n.props order.props;
-      own = small.2;
-      fields = each_texts n.sys (action_texts m n cs e (texts_each m.sys h.fields));
-      many = small.1;
-      size = small.0;
-      body = subst (λ (b : List ℕ). length b ≤ max_body) (sym kept.0.body) h.body;
-      ttl = subst (λ (o : Option ℕ). is_between_or_none 1 max_ttl o ≡ true) (sym kept.0.ttl) h.ttl;
-    }
+    fits_in_order n (kept.0.order (in_order m h)) (each_texts n.sys (action_texts m n cs e (texts_each m.sys h.fields))) sizes.0 sizes.1
+    (subst (λ (b : List ℕ). length b ≤ max_body) (sym kept.0.body) h.body) (subst (λ (o : Option ℕ). is_between_or_none 1 max_ttl o ≡ true) (sym kept.0.ttl) h.ttl)
 
 acted_fits : (m : Message) (action : Option (List ℕ)) → IsMessage m → IsMessage (acted_on m action)
 acted_fits m None h = h
