@@ -18,6 +18,7 @@ pub mod Measures
 pub mod Messages
 pub mod DefaultRule
 pub mod Contents
+pub mod OwnLocks
 pub mod Moves
 pub mod MovesAll
 pub mod Moving
