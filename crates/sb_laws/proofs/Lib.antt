@@ -19,6 +19,7 @@ pub mod Messages
 pub mod DefaultRule
 pub mod Contents
 pub mod OwnLocks
+pub mod Placing
 pub mod Moves
 pub mod MovesAll
 pub mod Moving

@@ -151,7 +151,7 @@ option_turned (Some a) (Some b) = at (bytes_eq a b) refl where
 bytes_both : (a b : List ℕ) → bytes_eq a b ≡ bytes_eq b a
 bytes_both a b = option_turned (Some a) (Some b)
 
-entity_turned : (a b : Path) → is_same_entity a b ≡ is_same_entity b a
+pub entity_turned : (a b : Path) → is_same_entity a b ≡ is_same_entity b a
 entity_turned a b = rw (bytes_both a.name b.name, option_turned a.subscription b.subscription) refl
 
 new_path : (path : Path) (new : Entity) (es : List Entity) → new.about.path ≡ path → find (λ e. is_same_entity e.about.path path) es ≡ None → Each (λ e. Each (OtherPath e) (new ∷ [])) es

@@ -68,7 +68,7 @@ still_there k es fs is = at (find (is_entity k) es) refl is where
   at (Some d) there is = rw (found_first (is_entity k) d es fs there) refl
 
 -- another's removal leaves it there
-other_removed : (k n : ℕ) (es : List Entity) → (k == n) ≡ false → find (is_entity k) (filter (λ e. not (is_entity n e)) es) ≡ find (is_entity k) es
+pub other_removed : (k n : ℕ) (es : List Entity) → (k == n) ≡ false → find (is_entity k) (filter (λ e. not (is_entity n e)) es) ≡ find (is_entity k) es
 other_removed k n [] other = refl
 other_removed k n (x ∷ xs) other = at (is_entity n x) refl (is_entity k x) refl (other_removed k n xs other) where
   at : (b : Bool) → is_entity n x ≡ b → (c : Bool) → is_entity k x ≡ c → find (is_entity k) (filter (λ e. not (is_entity n e)) xs) ≡ find (is_entity k) xs → find (is_entity k) (filter (λ e. not (is_entity n e)) (x ∷ xs)) ≡ find (is_entity k) (x ∷ xs)
