@@ -20,6 +20,7 @@ pub mod DefaultRule
 pub mod Contents
 pub mod OwnLocks
 pub mod Placing
+pub mod PlacedCalls
 pub mod Moves
 pub mod MovesAll
 pub mod Moving

@@ -141,7 +141,7 @@ queued_later t c s x frees other owned is = record {
 }
 
 -- what a change queues is placed so
-abbrev QueuesPlaced : Change → Space → Type 0
+abbrev pub QueuesPlaced : Change → Space → Type 0
 QueuesPlaced (Queues n deadline o) s = (x : Transaction) → find (is_transaction n) s.transactions ≡ Some x → OwnsLock s x.entity o × ((e : Entity) → entity_of x.entity s ≡ Some e → IsPlaced e.about.path o)
 QueuesPlaced _ s = Unit {0}
 
@@ -192,6 +192,6 @@ IsSettled s = AreOwned s × ArePlaced s
 pub acts_placed : (t : ℕ) (cs : List Change) (s : Space) → Each (IsOfAct Arrives t) cs → IsSettled s → IsSettled (after_all t cs s)
 acts_placed t cs s acts h = kept_by_all (IsOfAct Arrives t) IsSettled t (λ c now is so. ((owned_steps t s).acts c now is so.0, placed_step t c now (λ k. act_frees_locks Arrives t c k is) (act_queues_none t c now is) so.0 so.1)) cs s acts h
 
-removed_placed : (t : ℕ) (es : List Entity) (s : Space) → IsSettled s → IsSettled (after_all t (map (λ x. Removes x.about.number) es) s)
+pub removed_placed : (t : ℕ) (es : List Entity) (s : Space) → IsSettled s → IsSettled (after_all t (map (λ x. Removes x.about.number) es) s)
 removed_placed t [] s h = h
 removed_placed t (e ∷ es) s h = removed_placed t es (after t (Removes e.about.number) s) ((owned_steps t s).removes e.about.number s h.0, placed_step t (Removes e.about.number) s (λ k. tt) tt h.0 h.1)
