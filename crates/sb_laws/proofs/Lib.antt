@@ -21,6 +21,7 @@ pub mod Contents
 pub mod OwnLocks
 pub mod Placing
 pub mod PlacedCalls
+pub mod Sequences
 pub mod Moves
 pub mod MovesAll
 pub mod Moving
