@@ -215,21 +215,21 @@ lock_is_own s lock p q e part c locked there found on =
     let there_sum = found_sum (those_of lock (key_of part e) c.number) p e s.entities there in
     let all = split_all lock (key_of part e) c.number s.entities in
     all_that lock (key_of part e) c.number s.entities (omega (arith, all, locked.most lock, there_sum, in_entity part here)) where
-  same_part : (part : Part) → is_same_part part part ≡ true
-  same_part Main = refl
-  same_part Dead = refl
-  same_part Transfer = refl
+      same_part : (part : Part) → is_same_part part part ≡ true
+      same_part Main = refl
+      same_part Dead = refl
+      same_part Transfer = refl
 
-  same_number : (n : ℕ) → (n == n) ≡ true
-  same_number n = grind (arith, nat_tests)
+      same_number : (n : ℕ) → (n == n) ≡ true
+      same_number n = grind (arith, nat_tests)
 
-  counts : that_once lock (key_of part e) c.number e.about.number part c ≡ 1
-  counts = rw (on, same_number e.about.number, same_part part, same_number c.number) refl
+      counts : that_once lock (key_of part e) c.number e.about.number part c ≡ 1
+      counts = rw (on, same_number e.about.number, same_part part, same_number c.number) refl
 
-  at_least : that_once lock (key_of part e) c.number e.about.number part c ≤ sum_by (that_once lock (key_of part e) c.number e.about.number part) (leaf_of part e).copies → 1 ≤ sum_by (that_once lock (key_of part e) c.number e.about.number part) (leaf_of part e).copies
-  at_least le = omega (arith, le, counts)
+      at_least : that_once lock (key_of part e) c.number e.about.number part c ≤ sum_by (that_once lock (key_of part e) c.number e.about.number part) (leaf_of part e).copies → 1 ≤ sum_by (that_once lock (key_of part e) c.number e.about.number part) (leaf_of part e).copies
+      at_least le = omega (arith, le, counts)
 
-  in_entity : (part : Part) → 1 ≤ sum_by (that_once lock (key_of part e) c.number e.about.number part) (leaf_of part e).copies → 1 ≤ those_of lock (key_of part e) c.number e
-  in_entity Main le = omega (arith, le)
-  in_entity Dead le = omega (arith, le)
-  in_entity Transfer le = omega (arith, le)
+      in_entity : (part : Part) → 1 ≤ sum_by (that_once lock (key_of part e) c.number e.about.number part) (leaf_of part e).copies → 1 ≤ those_of lock (key_of part e) c.number e
+      in_entity Main le = omega (arith, le)
+      in_entity Dead le = omega (arith, le)
+      in_entity Transfer le = omega (arith, le)

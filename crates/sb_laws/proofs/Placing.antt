@@ -170,8 +170,8 @@ placed_step t (Begins n deadline) s frees queues owned h =
     each_append (IsQueuedIn (after t (Begins n deadline) s)) s.transactions _ (all_later t (Begins n deadline) s frees (λ n is. cc) s.transactions owned h) (record { placed = λ e there. tt; owns = tt }, tt)
 placed_step t (Queues n deadline o) s frees queues owned h =
     each_changed (IsQueuedIn (after t (Queues n deadline o) s)) (is_transaction n) (λ x. with_operation deadline o x ∷ []) s.transactions
-        (λ x there is. (record { placed = λ e at_e. each_append (IsPlaced e.about.path) x.operations (o ∷ []) (is.placed e at_e) ((queues x there).1 e at_e, tt); owns = each_append (OwnsLock (after t (Queues n deadline o) s) x.entity) x.operations (o ∷ []) is.owns (owns_later t (Queues n deadline o) s x.entity frees o (queues x there).0, tt) }, tt))
-        (all_later t (Queues n deadline o) s frees (λ n is. cc) s.transactions owned h)
+    (λ x there is. (record { placed = λ e at_e. each_append (IsPlaced e.about.path) x.operations (o ∷ []) (is.placed e at_e) ((queues x there).1 e at_e, tt); owns = each_append (OwnsLock (after t (Queues n deadline o) s) x.entity) x.operations (o ∷ []) is.owns (owns_later t (Queues n deadline o) s x.entity frees o (queues x there).0, tt) }, tt))
+    (all_later t (Queues n deadline o) s frees (λ n is. cc) s.transactions owned h)
 placed_step t (Drops n) s frees queues owned h = each_changed (IsQueuedIn (after t (Drops n) s)) (is_transaction n) (λ x. []) s.transactions (λ x there is. tt) (all_later t (Drops n) s frees (λ n is. cc) s.transactions owned h)
 
 -- ---- lists of changes that queue nothing
