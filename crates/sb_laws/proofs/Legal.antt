@@ -1,13 +1,13 @@
 -- The calls that the machine answers one after another are a legal history without faults.
-use Rattle.std.proofs.Common.{Bool, Err, List, Ok, Result, [], ap, arith, false, refl, subst, sym, true, ℕ, ◌++◌, ◌∙◌, ◌∷◌, ◌≡◌}
+use Rattle.std.proofs.Common.{Bool, Err, List, Ok, Result, [], ap, arith, false, refl, subst, sym, true, ℕ, ◌++◌, ◌∙◌, ◌∷◌, ◌≡◌, ◌≤◌}
 use Rattle.std.specs.Prelude.{MatchBool, if◌then◌else◌}
 use Rattle.sb_laws.proofs.Core.{core_tick}
 use Rattle.sb_laws.proofs.Histories.{goes_on}
 use Rattle.sb_laws.proofs.Keeping.{LastsCore, core_call, core_sweepable, lasts_lists, lasts_sending}
 use Rattle.sb_laws.proofs.NothingDue.{lasts_travels}
-use Rattle.sb_laws.proofs.Outcomes.{answers_no_fault}
+use Rattle.sb_laws.proofs.Outcomes.{answers_no_fault, keeps_time}
 use Rattle.sb_laws.proofs.Sweeps.{nothing_due_after}
-use Rattle.sb_machine.specs.Answers.{answer_of, moment_of, state_of}
+use Rattle.sb_machine.specs.Answers.{answer_of, max_moment, moment_of, state_of}
 use Rattle.sb_machine.specs.Due.{is_due}
 use Rattle.sb_machine.specs.History.{Follows, IsAllowed, IsAnswer, IsFaultless, IsLegal, IsLegalFrom, Log, advanced, after_entries, after_entry, entries_at, entries_of, fresh_log, is_fault, is_spent, is_stopped, state_after, stops}
 use Rattle.sb_machine.specs.declared.call.Call.{Call}
@@ -35,6 +35,7 @@ pub record Goes (s : State) (es : List Entry) : Type 0 where
   pub later : State
   pub log : after_entries (fresh_log s) es ≡ fresh_log later
   pub core : LastsCore later.space
+  pub early : later.now ≤ max_moment
 
 -- an answer of the machine where nothing is due
 replied : (l : Log) (seat t reading : ℕ) (call : Call) → l.stopped ≡ false → Follows l.tick seat (moment_of l.state reading) → t ≡ moment_of l.state reading → is_due t l.state.space ≡ false
@@ -53,7 +54,7 @@ replied l seat t reading call running follows moment none =
         logged : after_entry l (Replied seat reading call answer) ≡ fresh_log (state_of l.state (moment_of l.state reading) call)
         logged = rw (answers_no_fault l.state (moment_of l.state reading) call, none, running, not_stopping answer (answers_no_fault l.state (moment_of l.state reading) call)) refl
 
-module _ (seat : ℕ) (s : State) (reading : ℕ) (call : Call) (core : LastsCore s.space) where
+module _ (seat : ℕ) (s : State) (reading : ℕ) (call : Call) (core : LastsCore s.space) (early : s.now ≤ max_moment) where
   abbrev t : ℕ
   t = moment_of s reading
 
@@ -67,7 +68,7 @@ module _ (seat : ℕ) (s : State) (reading : ℕ) (call : Call) (core : LastsCor
   Calling = Replied seat reading call (answer_of s t call) ∷ []
 
   spent_goes : is_due t s.space ≡ true → is_spent s t ≡ true → Goes s Spent
-  spent_goes due spent = record { legal = ((tt, allowed), refl); faultless = (refl, tt); later = s; log = logged; core = core } where
+  spent_goes due spent = record { legal = ((tt, allowed), refl); faultless = (refl, tt); later = s; log = logged; core = core; early = early } where
     allowed : is_fault (Err Exhausted) ≡ false → IsAnswer s t call (Err Exhausted)
     allowed fine = rw due (spent, refl)
 
@@ -76,11 +77,12 @@ module _ (seat : ℕ) (s : State) (reading : ℕ) (call : Call) (core : LastsCor
 
   ticking_goes : is_due t s.space ≡ true → is_spent s t ≡ false → Goes s Ticking
   ticking_goes due room = record {
-    legal = ((refl, refl, (omega arith, due, room)), (next.0, refl));
+    legal = ((refl, refl, (omega arith, omega arith, due, room)), (next.0, refl));
     faultless = (answers_no_fault (advanced s t) t call, tt);
     later = state_of (advanced s t) t call;
     log = next.1;
     core = core_call (advanced s t) t call (core_tick lasts_travels lasts_sending lasts_lists t s.space core);
+    early = subst (λ (u : ℕ). (state_of (advanced s t) u call).now ≤ max_moment) (sym same) (keeps_time (advanced s t) reading call (omega arith)).1;
   } where
     behind : Log
     behind = after_entry (fresh_log s) (Ticked seat t)
@@ -95,7 +97,7 @@ module _ (seat : ℕ) (s : State) (reading : ℕ) (call : Call) (core : LastsCor
     next = replied (after_entry (fresh_log s) (Ticked seat t)) seat t reading call refl (refl, sym same) same none
 
   calling_goes : is_due t s.space ≡ false → Goes s Calling
-  calling_goes none = record { legal = (next.0, refl); faultless = (answers_no_fault s t call, tt); later = state_of s t call; log = next.1; core = core_call s t call core } where
+  calling_goes none = record { legal = (next.0, refl); faultless = (answers_no_fault s t call, tt); later = state_of s t call; log = next.1; core = core_call s t call core; early = (keeps_time s reading call early).1 } where
     next : IsAllowed (fresh_log s) (Replied seat reading call (answer_of s t call)) × (after_entry (fresh_log s) (Replied seat reading call (answer_of s t call)) ≡ fresh_log (state_of s t call))
     next = replied (fresh_log s) seat t reading call refl tt refl none
 
@@ -111,12 +113,12 @@ faultless_append [] fs h k = k
 faultless_append (Ticked seat moment ∷ es) fs h k = faultless_append es fs h k
 faultless_append (Replied seat reading call answer ∷ es) fs h k = (h.0, faultless_append es fs h.1 k)
 
-pub core_answers : (seat : ℕ) (s : State) (calls : List TimedCall) → LastsCore s.space → IsLegal s (entries_of seat s calls) × IsFaultless (entries_of seat s calls)
-core_answers seat s [] core = (refl, tt)
-core_answers seat s (a ∷ as') core =
-    let here = call_goes seat s a.reading a.call core in
+pub core_answers : (seat : ℕ) (s : State) (calls : List TimedCall) → LastsCore s.space → s.now ≤ max_moment → IsLegal s (entries_of seat s calls) × IsFaultless (entries_of seat s calls)
+core_answers seat s [] core early = (refl, tt)
+core_answers seat s (a ∷ as') core early =
+    let here = call_goes seat s a.reading a.call core early in
     let now : state_after s (entries_at seat s a.reading a.call) ≡ here.later = ap (λ (l : Log). l.state) here.log in
-    let rest = core_answers seat (state_after s (entries_at seat s a.reading a.call)) as' (subst (λ (x : State). LastsCore x.space) (sym now) here.core) in
+    let rest = core_answers seat (state_after s (entries_at seat s a.reading a.call)) as' (subst (λ (x : State). LastsCore x.space) (sym now) here.core) (subst (λ (x : State). x.now ≤ max_moment) (sym now) here.early) in
     let same : fresh_log (state_after s (entries_at seat s a.reading a.call)) ≡ after_entries (fresh_log s) (entries_at seat s a.reading a.call) = ap fresh_log now ∙ sym here.log in (
       goes_on (fresh_log s) (entries_at seat s a.reading a.call) (entries_of seat (state_after s (entries_at seat s a.reading a.call)) as') here.legal
           (subst (λ (l : Log). IsLegalFrom l (entries_of seat (state_after s (entries_at seat s a.reading a.call)) as')) same rest.0),

@@ -96,4 +96,4 @@ pub orderly_is_sweepable : (s : State) → IsOrderly s → IsSweepable s.space
 orderly_is_sweepable s h = core_sweepable s.space (orderly_lasts s h)
 
 pub answers_legally : (seat : ℕ) (s : State) (calls : List TimedCall) → IsOrderly s → IsLegal s (entries_of seat s calls) × IsFaultless (entries_of seat s calls)
-answers_legally seat s calls h = core_answers seat s calls (orderly_lasts s h)
+answers_legally seat s calls h = core_answers seat s calls (orderly_lasts s h) h.now
