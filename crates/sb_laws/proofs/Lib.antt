@@ -47,3 +47,9 @@ pub mod Ruling
 pub mod Claiming
 pub mod Ordering
 pub mod Orders
+pub mod Along
+pub mod Placed
+pub mod Numbers
+pub mod EndCounts
+pub mod Ending
+pub mod Ended

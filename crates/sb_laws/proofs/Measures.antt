@@ -75,13 +75,13 @@ made_at t key c s e there =
     let new = leaf_after (s.last_lock + 1) t c (leaf_of key.part e) in
     omega (arith, changed_sum made_in (is_entity key.entity) (λ d. moved key (s.last_lock + 1) t c d ∷ []) e s.entities there, sum_single made_in (moved key (s.last_lock + 1) t c e), made_with key.part new e, leaf_last (s.last_lock + 1) t c (leaf_of key.part e))
 
-live_at : (t : ℕ) (key : LeafKey) (c : LeafChange) (s : Space) (e : Entity) → entity_of key.entity s ≡ Some e
+pub live_at : (t : ℕ) (key : LeafKey) (c : LeafChange) (s : Space) (e : Entity) → entity_of key.entity s ≡ Some e
     → live (after t (InLeaf key c) s) + length (leaf_of key.part e).copies ≡ live s + length (leaf_after (s.last_lock + 1) t c (leaf_of key.part e)).copies
 live_at t key c s e there =
     let new = leaf_after (s.last_lock + 1) t c (leaf_of key.part e) in
     omega (arith, changed_sum live_in (is_entity key.entity) (λ d. moved key (s.last_lock + 1) t c d ∷ []) e s.entities there, sum_single live_in (moved key (s.last_lock + 1) t c e), live_with key.part new e)
 
-nowhere : (t : ℕ) (key : LeafKey) (c : LeafChange) (s : Space) → entity_of key.entity s ≡ None → (after t (InLeaf key c) s).entities ≡ s.entities
+pub nowhere : (t : ℕ) (key : LeafKey) (c : LeafChange) (s : Space) → entity_of key.entity s ≡ None → (after t (InLeaf key c) s).entities ≡ s.entities
 nowhere t key c s none = changed_none (is_entity key.entity) (λ d. moved key (s.last_lock + 1) t c d ∷ []) s.entities none
 
 -- a copy that is there and ends lives no more

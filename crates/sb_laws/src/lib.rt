@@ -6,9 +6,11 @@
 #![tactic(auto)]
 
 mod laws;
+mod once;
 
 pub use laws::{
     answers_legally, answers_no_fault, consistent_is_orderly, goes_on, is_due_exactly, keeps_time,
     moves_change, nothing_due_after, orderly_is_sweepable, same_act_exactly, starts_consistent,
     stays_orderly, ticks_orderly,
 };
+pub use once::{ends_once, once_numbers};
