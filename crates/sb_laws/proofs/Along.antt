@@ -6,6 +6,7 @@ use Rattle.sb_machine.specs.Accounts.{entry_changes, moment_in, over}
 use Rattle.sb_machine.specs.Answers.{changes_of, is_change, keeping, moment_of, state_in, state_of}
 use Rattle.sb_machine.specs.Changes.{after, after_all, along}
 use Rattle.sb_machine.specs.Due.{is_due}
+use Rattle.sb_machine.specs.Each.{Each}
 use Rattle.sb_machine.specs.History.{IsAllowed, IsLegalFrom, Log, after_entries, after_entry, is_fault}
 use Rattle.sb_machine.specs.Repeats.{Outcome, acted, client_of, outcome_of, refused, repeated}
 use Rattle.sb_machine.specs.declared.call.By.{By}
@@ -108,3 +109,19 @@ kept_in_time {X = X} f F later keeps (e ∷ es) l acc legal start =
         let whole : F l.state.now l.state.space (acc ++ []) = rw append-nil start in
         subst (λ (xs : List X). F (after_entry l e).state.now (after_entry l e).state.space (acc ++ xs)) (sym none)
         (subst (λ (p : Space). F (after_entry l e).state.now p (acc ++ [])) (sym same_space) (subst (λ (m : ℕ). F m l.state.space (acc ++ [])) (sym is.1) whole))
+
+-- the same of a fact that only such changes keep as the entries make
+pub kept_by : {X : Type 0} (f : ℕ → Change → Space → List X) (F : Space → List X → Type 0) (C : Change → Type 0) → ((t : ℕ) (c : Change) (s : Space) (acc : List X) → C c → F s acc → F (after t c s) (acc ++ f t c s)) → ((l : Log) (e : Entry) → Each C (entry_changes l e))
+    → (h : List Entry) (l : Log) (acc : List X) → F l.state.space acc → F (after_entries l h).state.space (acc ++ over f l h)
+kept_by f F C keeps such [] l acc start = rw append-nil start
+kept_by {X = X} f F C keeps such (e ∷ es) l acc start =
+    let t = moment_in l e in
+    let new = along f t (entry_changes l e) l.state.space in
+    let here : F (after_all t (entry_changes l e) l.state.space) (acc ++ new) = all (entry_changes l e) l.state.space acc (such l e) start in
+    let there : F (after_entry l e).state.space (acc ++ new) = subst (λ (p : Space). F p (acc ++ new)) (sym (space_after l e)) here in
+    let rest = kept_by f F C keeps such es (after_entry l e) (acc ++ new) there in
+    subst (λ (xs : List X). F (after_entries (after_entry l e) es).state.space xs) (append_assoc acc new (over f (after_entry l e) es)) rest
+  where
+    all : (cs : List Change) (s : Space) (acc : List X) → Each C cs → F s acc → F (after_all (moment_in l e) cs s) (acc ++ along f (moment_in l e) cs s)
+    all [] s acc of h = rw append-nil h
+    all (c ∷ cs) s acc of h = rw append_assoc at (all cs (after (moment_in l e) c s) (acc ++ f (moment_in l e) c s) of.1 (keeps (moment_in l e) c s acc of.0 h))

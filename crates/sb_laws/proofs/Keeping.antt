@@ -102,7 +102,7 @@ pub same_sums : {X : Type 0} (f g : X → ℕ) (xs : List X) → ((x : X) → f 
 same_sums f g [] same = refl
 same_sums f g (x ∷ xs) same = omega (arith, sum_by-cons f x xs, sum_by-cons g x xs, same x, same_sums f g xs same)
 
-copy_times : (k : ℕ) (c : StoredCopy) → times_in k (lock_in c.standing) ≡ copy_once k c
+pub copy_times : (k : ℕ) (c : StoredCopy) → times_in k (lock_in c.standing) ≡ copy_once k c
 copy_times k c = at c.standing where
   at : (standing : Standing) → times_in k (lock_in standing) ≡ one (has_lock k standing)
   at Ready = refl

@@ -53,3 +53,12 @@ pub mod Numbers
 pub mod EndCounts
 pub mod Ending
 pub mod Ended
+pub mod Calm
+pub mod Deeds
+pub mod SpentOnce
+pub mod FoundOn
+pub mod Anyone
+pub mod OnceIds
+pub mod Answered
+pub mod Handed
+pub mod Holding

@@ -63,7 +63,7 @@ changed_most {X = X} f p g more xs le = at (find p xs) refl where
   at (Some e) is = omega (arith, changed_sum f p g e xs is, le e)
 
 -- how often a change gives this number, where the next one is that
-abbrev newly : ℕ → ℕ → LeafChange → ℕ
+abbrev pub newly : ℕ → ℕ → LeafChange → ℕ
 newly k lock c = if locks_given c == 1 then one (lock == k) else 0
 
 prolonged_once : (k until : ℕ) (standing : Standing) → has_lock k (prolonged_standing until standing) ≡ has_lock k standing
@@ -107,7 +107,7 @@ FreesLock k (Stands n by_settlement count standing) = has_lock k standing ≡ fa
 FreesLock k (Enters fresh) = has_lock k fresh.standing ≡ false
 FreesLock k _ = Unit {0}
 
-leaf_locks : (k lock t : ℕ) (c : LeafChange) (leaf : Leaf) → FreesLock k c → held_in_leaf k (leaf_after lock t c leaf) ≤ held_in_leaf k leaf + newly k lock c
+pub leaf_locks : (k lock t : ℕ) (c : LeafChange) (leaf : Leaf) → FreesLock k c → held_in_leaf k (leaf_after lock t c leaf) ≤ held_in_leaf k leaf + newly k lock c
 leaf_locks k lock t (Enters fresh) leaf frees =
     let none : copy_once k (stored (leaf.last + 1) t fresh) ≡ 0 = ap one frees in
     omega (arith, sum_by-append (copy_once k) leaf.copies (stored (leaf.last + 1) t fresh ∷ []), sum_single (copy_once k) (stored (leaf.last + 1) t fresh), none)
@@ -129,7 +129,7 @@ leaf_locks k lock t (Prolongs l until) leaf frees =
     omega (arith, changed_most (session_once k) (is_held_under l) (λ x. record x { holder = prolonged_holder until x.holder } ∷ []) 0 leaf.sessions (λ x. omega (arith, sum_single (session_once k) (record x { holder = prolonged_holder until x.holder }), ap one (holder_once k until x.holder))))
 leaf_locks k lock t (Writes l state) leaf frees = omega (arith, changed_most (session_once k) (is_held_under l) (λ x. remembered (record x { state = state })) 0 leaf.sessions (λ x. omega (arith, remembered_once k (record x { state = state }))))
 
-held_with : (k : ℕ) (part : Part) (leaf : Leaf) (e : Entity) → held_in k (with_leaf part leaf e) + held_in_leaf k (leaf_of part e) ≡ held_in k e + held_in_leaf k leaf
+pub held_with : (k : ℕ) (part : Part) (leaf : Leaf) (e : Entity) → held_in k (with_leaf part leaf e) + held_in_leaf k (leaf_of part e) ≡ held_in k e + held_in_leaf k leaf
 held_with k Main leaf e = omega arith
 held_with k Dead leaf e = omega arith
 held_with k Transfer leaf e = omega arith
@@ -138,11 +138,11 @@ abbrev pub FreesLocks : ℕ → Change → Type 0
 FreesLocks k (InLeaf key c) = FreesLock k c
 FreesLocks k _ = Unit {0}
 
-abbrev newly_in : ℕ → Change → Space → ℕ
+abbrev pub newly_in : ℕ → Change → Space → ℕ
 newly_in k (InLeaf key c) s = newly k (s.last_lock + 1) c
 newly_in k _ s = 0
 
-locks_after : (k t : ℕ) (c : Change) (s : Space) → FreesLocks k c → times_held k (after t c s) ≤ times_held k s + newly_in k c s
+pub locks_after : (k t : ℕ) (c : Change) (s : Space) → FreesLocks k c → times_held k (after t c s) ≤ times_held k s + newly_in k c s
 locks_after k t (InLeaf key c) s frees = at (entity_of key.entity s) refl where
   g : Entity → Entity
   g e = with_leaf key.part (leaf_after (s.last_lock + 1) t c (leaf_of key.part e)) e

@@ -33,7 +33,7 @@ bad_key : (key : Key) (r : Refusal) → bad_call key ≡ Some r → NoFault r
 bad_key None r e = absurd cc
 bad_key (Some key) r e = let it : BadCall key ≡ r = cc in subst NoFault it refl
 
-no_key : (key : Key) → bad_call key ≡ None → key ≡ None
+pub no_key : (key : Key) → bad_call key ≡ None → key ≡ None
 no_key None e = refl
 no_key (Some key) e = absurd cc
 

@@ -6,3 +6,6 @@ pub mod Counting
 pub mod Acted
 pub mod Ended
 pub mod Spent
+pub mod Holders
+pub mod Handed
+pub mod Accepted

@@ -1,6 +1,9 @@
 // Laws over all legal histories from a consistent state: each a function without effect whose contract is the law.
+ghost use Rattle.sb_laws.specs.Accepted.{OnceIds};
 ghost use Rattle.sb_laws.specs.Acted.{OnceNumbers};
 ghost use Rattle.sb_laws.specs.Ended.{EndsOnce};
+ghost use Rattle.sb_laws.specs.Handed.{InOrder};
+ghost use Rattle.sb_laws.specs.Spent.{SpentOnce};
 
 /// No number of a client acts twice; a client's numbers rise from above the one that was kept.
 pub fn once_numbers()
@@ -11,4 +14,21 @@ pub fn once_numbers()
 /// live has grown by just what ended.
 pub fn ends_once()
     ensures { EndsOnce }
+{}
+
+/// No lock is settled twice.
+pub fn spent_once()
+    ensures { SpentOnce }
+{}
+
+/// An id that is accepted under a window lies the whole window behind each earlier one of its entity,
+/// those that were kept at the start among them.
+pub fn once_ids()
+    ensures { OnceIds }
+{}
+
+/// A receive under a session hands out the copy of least number among those of that session that may
+/// be received there.
+pub fn in_order()
+    ensures { InOrder }
 {}

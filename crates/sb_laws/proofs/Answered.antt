@@ -1,0 +1,117 @@
+-- What an entry that is answered anew says of its act's row.
+use Rattle.std.proofs.Common.{Bool, Err, List, None, Ok, Option, Result, Some, [], false, length, nat_lt, refl, subst, sym, true, ℕ, ◌==◌, ◌∙◌, ◌∷◌, ◌≡◌}
+use Rattle.std.specs.Prelude.{MatchBool, if◌then◌else◌}
+use Rattle.sb_laws.proofs.Outcomes.{no_key}
+use Rattle.sb_laws.proofs.Rows.{Of, answered_so, refused_so}
+use Rattle.sb_machine.specs.Acts.{act_row, bad_call, is_via_in, row_of}
+use Rattle.sb_machine.specs.Answers.{answer_in, answer_of, moment_of}
+use Rattle.sb_machine.specs.Changes.{is_numbered}
+use Rattle.sb_machine.specs.Due.{is_due}
+use Rattle.sb_machine.specs.Fields.{bad_field}
+use Rattle.sb_machine.specs.History.{IsAllowed, IsAnswer, Log, is_fault, is_spent, is_stopped}
+use Rattle.sb_machine.specs.Repeats.{Outcome, acted, by_number, client_of, for_client, kept_for, max_clients, of_row, outcome_of, refused, repeated}
+use Rattle.sb_machine.specs.Rows.{Row, answers, numbered, refused_by, refuses}
+use Rattle.sb_machine.specs.Same.{same_act}
+use Rattle.sb_machine.specs.declared.call.Act.{Act}
+use Rattle.sb_machine.specs.declared.call.By.{By}
+use Rattle.sb_machine.specs.declared.call.Call.{Call}
+use Rattle.sb_machine.specs.declared.change.Change.{Change}
+use Rattle.sb_machine.specs.declared.history.Entry.{Entry}
+use Rattle.sb_machine.specs.declared.history.Entry.TheVariants.{Answered as Replied}
+use Rattle.sb_machine.specs.declared.reply.Answered.{Answered}
+use Rattle.sb_machine.specs.declared.reply.Answered.TheVariants.{New}
+use Rattle.sb_machine.specs.declared.reply.Refusal.{Refusal}
+use Rattle.sb_machine.specs.declared.reply.Refusal.TheVariants.{ClientsFull, Exhausted, NumberReused, StaleNumber}
+use Rattle.sb_machine.specs.declared.reply.Reply.{Reply}
+use Rattle.sb_machine.specs.declared.state.Kept.{Kept}
+use Rattle.sb_machine.specs.declared.state.Space.{Space}
+use Rattle.sb_machine.specs.declared.state.State.{State}
+
+-- ---- from what a call came to, to its act's row
+
+acts_so : (q reply : Reply) (ds cs : List Change) → acted q ds ≡ acted reply cs → (q ≡ reply) × (ds ≡ cs)
+acts_so q reply ds cs e = (cc, cc)
+
+pub answers_so : (q reply : Reply) (ds cs : List Change) → answers q ds ≡ answers reply cs → (q ≡ reply) × (ds ≡ cs)
+answers_so q reply ds cs e = (cc, cc)
+
+answers_same : (q reply : Reply) (ds cs : List Change) → q ≡ reply → ds ≡ cs → answers q ds ≡ answers reply cs
+answers_same q reply ds cs a b = cc
+
+of_outcome : (row : Row) (reply : Reply) (cs : List Change) → of_row row ≡ acted reply cs → row ≡ answers reply cs
+of_outcome (refuses r) reply cs e = absurd cc
+of_outcome (answers q ds) reply cs e = let same = acts_so q reply ds cs e in answers_same q reply ds cs same.0 same.1
+
+pub acted_row : (s : State) (t : ℕ) (call : Call) (reply : Reply) (cs : List Change) → outcome_of s t call ≡ acted reply cs → row_of s.space t call.by call.act ≡ answers reply cs
+acted_row s t call reply cs is = at (client_of call) is where
+  at : (by : Option By) → for_client by call.act s.clients (of_row (row_of s.space t call.by call.act)) ≡ acted reply cs → row_of s.space t call.by call.act ≡ answers reply cs
+  at None is = of_outcome (row_of s.space t call.by call.act) reply cs is
+  at (Some by) is = on (kept_for by.client s.clients) is where
+    on : (o : Option Kept) → by_number by call.act s.clients o (of_row (row_of s.space t call.by call.act)) ≡ acted reply cs → row_of s.space t call.by call.act ≡ answers reply cs
+    on None is = room (nat_lt (length s.clients) max_clients) is where
+      room : (b : Bool) → (if b then of_row (row_of s.space t call.by call.act) else refused ClientsFull) ≡ acted reply cs → row_of s.space t call.by call.act ≡ answers reply cs
+      room true is = of_outcome (row_of s.space t call.by call.act) reply cs is
+      room false is = absurd cc
+    on (Some k) is = go (nat_lt by.number k.number) (by.number == k.number) (same_act k.act call.act) is where
+      go : (a b c : Bool) → (if a then refused (StaleNumber k.number) else (if b then (if c then repeated k.reply else refused NumberReused) else of_row (row_of s.space t call.by call.act))) ≡ acted reply cs → row_of s.space t call.by call.act ≡ answers reply cs
+      go true b c is = absurd cc
+      go false true true is = absurd cc
+      go false true false is = absurd cc
+      go false false c is = of_outcome (row_of s.space t call.by call.act) reply cs is
+
+numbered_so : (t : ℕ) (s : Space) (row : Row) (reply : Reply) (cs : List Change) → numbered t s row ≡ answers reply cs → (row ≡ answers reply cs) × (is_numbered t cs s ≡ true)
+numbered_so t s (refuses r) reply cs e = absurd cc
+numbered_so t s (answers q ds) reply cs e = at (is_numbered t ds s) refl e where
+  at : (b : Bool) → is_numbered t ds s ≡ b → (if b then answers q ds else refuses Exhausted) ≡ answers reply cs → (answers q ds ≡ answers reply cs) × (is_numbered t cs s ≡ true)
+  at true is e = (e, subst (λ (l : List Change). is_numbered t l s ≡ true) (answers_so q reply ds cs e).1 is)
+  at false is e = absurd cc
+
+unrefused : (o : Option Refusal) (row : Row) (reply : Reply) (cs : List Change) → refused_by o row ≡ answers reply cs → (o ≡ None) × (row ≡ answers reply cs)
+unrefused None row reply cs e = (refl, e)
+unrefused (Some r) row reply cs e = absurd cc
+
+-- its fields are in range, its numbers fit, and this is its act's row
+pub record Accepted (s : Space) (t : ℕ) (by : Option By) (act : Act) (reply : Reply) (cs : List Change) : Type 0 where
+  pub fields : bad_field (is_via_in s act) act by ≡ None
+  pub numbers : is_numbered t cs s ≡ true
+  pub row : act_row s t act ≡ answers reply cs
+
+pub accepted_so : (s : Space) (t : ℕ) (by : Option By) (act : Act) (reply : Reply) (cs : List Change) → row_of s t by act ≡ answers reply cs → Accepted s t by act reply cs
+accepted_so s t by act reply cs is =
+    let counted = numbered_so t s (refused_by (bad_call (bad_field (is_via_in s act) act by)) (act_row s t act)) reply cs is in
+    let judged = unrefused (bad_call (bad_field (is_via_in s act) act by)) (act_row s t act) reply cs counted.0 in
+    record { fields = no_key (bad_field (is_via_in s act) act by) judged.0; numbers = counted.1; row = judged.1 }
+
+-- what holds of what a row answers
+pub answered_in : (R : Refusal → Type 0) (P : Reply → List Change → Type 0) (row : Row) (reply : Reply) (cs : List Change) → Of R P row → row ≡ answers reply cs → P reply cs
+answered_in R P row reply cs h is = of (subst (Of R P) is h) where
+  of : Of R P (answers reply cs) → P reply cs
+  of (answered_so h) = h
+
+-- ---- from an entry to what its call came to
+
+pub record IsNew (l : Log) (reading : ℕ) (call : Call) (reply : Reply) : Type 0 where
+  pub quiet : is_due (moment_of l.state reading) l.state.space ≡ false
+  pub changes : List Change
+  pub acted_so : outcome_of l.state (moment_of l.state reading) call ≡ acted reply changes
+
+-- what was answered anew acted
+new_so : (o : Outcome) (reply : Reply) → answer_in o ≡ Ok (New reply) → (cs : List Change) × (o ≡ acted reply cs)
+new_so (refused r) reply e = absurd cc
+new_so (repeated q) reply e = absurd cc
+new_so (acted q cs) reply e = (cs, on q e) where
+  on : (q : Reply) → answer_in (acted q cs) ≡ Ok (New reply) → acted q cs ≡ acted reply cs
+  on q e = cc
+
+pub answered_new : (l : Log) (seat reading : ℕ) (call : Call) (answer : Result Answered Refusal) (reply : Reply) → IsAllowed l (Replied seat reading call answer) → answer ≡ Ok (New reply) → IsNew l reading call reply
+answered_new l seat reading call answer reply allowed said = at l.stopped allowed.1 where
+  fine : is_fault answer ≡ false
+  fine = rw said refl
+
+  machine : (b : Bool) → is_due (moment_of l.state reading) l.state.space ≡ b → MatchBool b ((is_spent l.state (moment_of l.state reading) ≡ true) × (answer ≡ Err Exhausted)) (answer ≡ answer_of l.state (moment_of l.state reading) call) → IsNew l reading call reply
+  machine true due is = let bad : Ok (New reply) ≡ Err Exhausted = sym said ∙ is.1 in absurd cc
+  machine false none is = let o = new_so (outcome_of l.state (moment_of l.state reading) call) reply (sym is ∙ said) in record { quiet = none; changes = o.0; acted_so = o.1 }
+
+  at : (b : Bool) → MatchBool b (is_stopped answer ≡ true) (is_fault answer ≡ false → IsAnswer l.state (moment_of l.state reading) call answer) → IsNew l reading call reply
+  at true stopped = let bad : false ≡ true = subst (λ (a : Result Answered Refusal). is_stopped a ≡ true) said stopped in absurd cc
+  at false may = machine (is_due (moment_of l.state reading) l.state.space) refl (may fine)
