@@ -21,7 +21,7 @@ use Rattle.sb_machine.specs.declared.history.Entry.TheVariants.{Answered as Repl
 use Rattle.sb_machine.specs.declared.reply.Answered.{Answered}
 use Rattle.sb_machine.specs.declared.reply.Answered.TheVariants.{New}
 use Rattle.sb_machine.specs.declared.reply.Refusal.{Refusal}
-use Rattle.sb_machine.specs.declared.reply.Refusal.TheVariants.{ClientsFull, Exhausted, NumberReused, StaleNumber}
+use Rattle.sb_machine.specs.declared.reply.Refusal.TheVariants.{ClientsFull, Exhausted, NumberReused, StaleNumber, Stopped}
 use Rattle.sb_machine.specs.declared.reply.Reply.{Reply}
 use Rattle.sb_machine.specs.declared.state.Kept.{Kept}
 use Rattle.sb_machine.specs.declared.state.Space.{Space}
@@ -114,4 +114,22 @@ answered_new l seat reading call answer reply allowed said = at l.stopped allowe
 
   at : (b : Bool) → MatchBool b (is_stopped answer ≡ true) (is_fault answer ≡ false → IsAnswer l.state (moment_of l.state reading) call answer) → IsNew l reading call reply
   at true stopped = let bad : false ≡ true = subst (λ (a : Result Answered Refusal). is_stopped a ≡ true) said stopped in absurd cc
+  at false may = machine (is_due (moment_of l.state reading) l.state.space) refl (may fine)
+
+stopped_fault : (a : Result Answered Refusal) → is_stopped a ≡ true → is_fault a ≡ true
+stopped_fault (Ok r) e = absurd cc
+stopped_fault (Err r) e = on r e where
+  on : (r : Refusal) → is_stopped (Err r) ≡ true → is_fault (Err r) ≡ true
+  on (Stopped n) e = refl
+  on _ e = absurd cc
+
+-- what is no fault where nothing is due is the machine's answer
+pub machine_answer : (l : Log) (seat reading : ℕ) (call : Call) (answer : Result Answered Refusal) → IsAllowed l (Replied seat reading call answer) → is_fault answer ≡ false → is_due (moment_of l.state reading) l.state.space ≡ false → answer ≡ answer_of l.state (moment_of l.state reading) call
+machine_answer l seat reading call answer allowed fine quiet = at l.stopped allowed.1 where
+  machine : (b : Bool) → is_due (moment_of l.state reading) l.state.space ≡ b → MatchBool b ((is_spent l.state (moment_of l.state reading) ≡ true) × (answer ≡ Err Exhausted)) (answer ≡ answer_of l.state (moment_of l.state reading) call) → answer ≡ answer_of l.state (moment_of l.state reading) call
+  machine true due is = let bad : true ≡ false = sym due ∙ quiet in absurd cc
+  machine false none is = is
+
+  at : (b : Bool) → MatchBool b (is_stopped answer ≡ true) (is_fault answer ≡ false → IsAnswer l.state (moment_of l.state reading) call answer) → answer ≡ answer_of l.state (moment_of l.state reading) call
+  at true stopped = let bad : true ≡ false = sym (stopped_fault answer stopped) ∙ fine in absurd cc
   at false may = machine (is_due (moment_of l.state reading) l.state.space) refl (may fine)

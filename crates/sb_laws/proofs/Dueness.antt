@@ -19,7 +19,7 @@ use Rattle.sb_machine.specs.declared.state.StoredCopy.{StoredCopy}
 use Rattle.sb_machine.specs.declared.change.Cause.TheVariants.{Expired as ByTime}
 use Rattle.sb_machine.specs.declared.reason.DeadReason.TheVariants.{Expired, TooOften}
 
-found_none : {X : Type 0} (xs : List X) → is_none_in xs ≡ true → xs ≡ []
+pub found_none : {X : Type 0} (xs : List X) → is_none_in xs ≡ true → xs ≡ []
 found_none [] e = refl
 found_none (x ∷ xs) e = absurd cc
 

@@ -62,3 +62,5 @@ pub mod OnceIds
 pub mod Answered
 pub mod Handed
 pub mod Holding
+pub mod Opening
+pub mod OneHolder

@@ -53,6 +53,7 @@ use Rattle.sb_machine.specs.declared.state.Entity.{Entity}
 use Rattle.sb_machine.specs.declared.state.EntityKind.{EntityKind}
 use Rattle.sb_machine.specs.declared.state.EntityKind.TheVariants.{Queue, Subscription, Topic}
 use Rattle.sb_machine.specs.declared.state.Holder.{Holder}
+use Rattle.sb_machine.specs.declared.state.Leaf.{Leaf}
 use Rattle.sb_machine.specs.declared.state.Operation.{Operation}
 use Rattle.sb_machine.specs.declared.state.Session.{Session}
 use Rattle.sb_machine.specs.declared.state.Space.{Space}
@@ -132,6 +133,25 @@ either_second : (a b : Bool) → b ≡ true → (a || b) ≡ true
 either_second true b e = refl
 either_second false b e = e
 
+-- nobody holds the session of a copy that may be accepted
+nobody : (leaf : Leaf) (id : List ℕ) (c : StoredCopy) → free_session leaf c ≡ Some id → holder_in id leaf ≡ None
+nobody leaf id c free = by (is_ready c.standing) (text_of SessionId c.message) free where
+  by : (b : Bool) (o : Option (List ℕ)) → (if b then elim o [ Some own ↦ elim (holder_in own leaf) [ Some h ↦ None | None ↦ Some own ] | None ↦ None ] else None) ≡ Some id → holder_in id leaf ≡ None
+  by false o so = absurd cc
+  by true None so = absurd cc
+  by true (Some own) so = on (holder_in own leaf) refl so where
+    on : (h : Option Holder) → holder_in own leaf ≡ h → ◌≡◌ {A = Option (List ℕ)} (elim h [ Some x ↦ None | None ↦ Some own ]) (Some id) → holder_in id leaf ≡ None
+    on (Some x) is so = absurd cc
+    on None is so = let own_is : own ≡ id = cc in subst (λ (i : List ℕ). holder_in i leaf ≡ None) own_is is
+
+pub free_one : (leaf : Leaf) (id : List ℕ) (cs : List StoredCopy) → next_session leaf cs ≡ Some id → holder_in id leaf ≡ None
+free_one leaf id [] so = absurd cc
+free_one leaf id (c ∷ cs) so = on (free_session leaf c) refl so (free_one leaf id cs) where
+  on : (o : Option (List ℕ)) → free_session leaf c ≡ o → ◌≡◌ {A = Option (List ℕ)} (elim o [ Some own ↦ Some own | None ↦ next_session leaf cs ]) (Some id)
+      → (next_session leaf cs ≡ Some id → holder_in id leaf ≡ None) → holder_in id leaf ≡ None
+  on (Some own) is so ih = nobody leaf id c (is ∙ so)
+  on None is so ih = ih so
+
 module _ (s : Space) (t : ℕ) where
   abbrev pub Accepts : Act → Row → Type 0
   Accepts act row = Of NoFault (Way s t act) row
@@ -199,27 +219,9 @@ module _ (s : Space) (t : ℕ) where
     at (Some until) free = refused_so refl
     at None free = answered_so (opens from id e there is free)
   row_accepting from None e there is = at (next_session (leaf_of from.part e) (leaf_of from.part e).copies) refl where
-    nobody : (id : List ℕ) (c : StoredCopy) → free_session (leaf_of from.part e) c ≡ Some id → holder_in id (leaf_of from.part e) ≡ None
-    nobody id c free = by (is_ready c.standing) (text_of SessionId c.message) free where
-      by : (b : Bool) (o : Option (List ℕ)) → (if b then elim o [ Some own ↦ elim (holder_in own (leaf_of from.part e)) [ Some h ↦ None | None ↦ Some own ] | None ↦ None ] else None) ≡ Some id → holder_in id (leaf_of from.part e) ≡ None
-      by false o so = absurd cc
-      by true None so = absurd cc
-      by true (Some own) so = on (holder_in own (leaf_of from.part e)) refl so where
-        on : (h : Option Holder) → holder_in own (leaf_of from.part e) ≡ h → ◌≡◌ {A = Option (List ℕ)} (elim h [ Some x ↦ None | None ↦ Some own ]) (Some id) → holder_in id (leaf_of from.part e) ≡ None
-        on (Some x) is so = absurd cc
-        on None is so = let own_is : own ≡ id = cc in subst (λ (i : List ℕ). holder_in i (leaf_of from.part e) ≡ None) own_is is
-
-    free_one : (id : List ℕ) (cs : List StoredCopy) → next_session (leaf_of from.part e) cs ≡ Some id → holder_in id (leaf_of from.part e) ≡ None
-    free_one id [] so = absurd cc
-    free_one id (c ∷ cs) so = on (free_session (leaf_of from.part e) c) refl so (free_one id cs) where
-      on : (o : Option (List ℕ)) → free_session (leaf_of from.part e) c ≡ o → ◌≡◌ {A = Option (List ℕ)} (elim o [ Some own ↦ Some own | None ↦ next_session (leaf_of from.part e) cs ]) (Some id)
-          → (next_session (leaf_of from.part e) cs ≡ Some id → holder_in id (leaf_of from.part e) ≡ None) → holder_in id (leaf_of from.part e) ≡ None
-      on (Some own) is so ih = nobody id c (is ∙ so)
-      on None is so ih = ih so
-
     at : (o : Option (List ℕ)) → next_session (leaf_of from.part e) (leaf_of from.part e).copies ≡ o → Accepts (Accept from None) (accepted_next s t e from.part o)
     at None free = answered_so (tells (λ numbered. tt))
-    at (Some id) free = answered_so (opens from id e there is (ap (held_until t) (free_one id (leaf_of from.part e).copies free)))
+    at (Some id) free = answered_so (opens from id e there is (ap (held_until t) (free_one (leaf_of from.part e) id (leaf_of from.part e).copies free)))
 
   row_sends : (to : Path) (messages : List Message) (txn : Option ℕ) → Accepts (Send to messages txn) (send_row s t to messages txn)
   row_sends to messages None =

@@ -3,6 +3,7 @@ ghost use Rattle.sb_laws.specs.Accepted.{OnceIds};
 ghost use Rattle.sb_laws.specs.Acted.{OnceNumbers};
 ghost use Rattle.sb_laws.specs.Ended.{EndsOnce};
 ghost use Rattle.sb_laws.specs.Handed.{InOrder};
+ghost use Rattle.sb_laws.specs.Holders.{OneHolder};
 ghost use Rattle.sb_laws.specs.Spent.{SpentOnce};
 
 /// No number of a client acts twice; a client's numbers rise from above the one that was kept.
@@ -31,4 +32,10 @@ pub fn once_ids()
 /// be received there.
 pub fn in_order()
     ensures { InOrder }
+{}
+
+/// Once a session is accepted, nobody accepts it until the lock has ended: by a close of its holder, at
+/// a tick not before the lock's moment, or as the entity was deleted, by itself or with its topic.
+pub fn one_holder()
+    ensures { OneHolder }
 {}
