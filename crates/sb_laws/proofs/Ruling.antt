@@ -42,7 +42,7 @@ act_ruled t _ now (act_notes n id) h = entities_keep (λ e. IsRuled e.about) t (
 act_ruled t _ now (act_drops n) h = h
 
 pub rule_added_fits : (rule : Rule) (e : Entity) → rule_in rule.name e ≡ None → is_rule_name rule.name ≡ true → has_rules e.about.kind ≡ true → IsRuled e.about → IsRuled (with_rules (rule_added rule) e).about
-pub rule_added_fits rule e fresh named has h = record {
+rule_added_fits rule e fresh named has h = record {
   order = sorted_placed (λ a b. is_before a.name b.name) (λ a b. bytes_eq a.name b.name) rule (λ y z p q. before_later rule.name y.name z.name p q) (λ y p q. before_other y.name rule.name p q) e.about.rules (none_same (λ r. bytes_eq r.name rule.name) e.about.rules fresh) h.order;
   names = each_inserted (λ r. is_rule_name r.name ≡ true) (λ x. is_before x.name rule.name) rule e.about.rules named h.names;
   none = λ bare. absurd (clash (has_rules e.about.kind) has bare);
@@ -51,7 +51,7 @@ pub rule_added_fits rule e fresh named has h = record {
   clash b on off = cc
 
 pub rule_dropped_fits : (name : List ℕ) (e : Entity) → IsRuled e.about → IsRuled (with_rules (rule_dropped name) e).about
-pub rule_dropped_fits name e h = record {
+rule_dropped_fits name e h = record {
   order = pairs_filter (λ a b. is_before a.name b.name ≡ true) (λ x. not (bytes_eq x.name name)) e.about.rules h.order;
   names = each_filter (λ r. is_rule_name r.name ≡ true) (λ x. not (bytes_eq x.name name)) e.about.rules h.names;
   none = λ bare. ap (rule_dropped name) (h.none bare);
