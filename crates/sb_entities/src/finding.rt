@@ -1,0 +1,125 @@
+// Finding an entity by its address, its number or its name.
+ghost use Rattle.std.specs.Prelude.{◌≡◌, ◌≤◌, find, length, map, IfOk};
+ghost use Rattle.std.specs.List.{prefix_len};
+ghost use Rattle.std.specs.Option.{option_map};
+ghost use Rattle.std.specs.Ordering.{nat_cmp, is_lt};
+ghost use Rattle.std.specs.Cmp.Lexicographic.{slice_cmp};
+ghost use Rattle.sb_machine.specs.Names as names;
+ghost use Rattle.sb_machine.specs.Namespace.{is_entity};
+ghost use Rattle.sb_machine.specs.Visits as visits;
+ghost use Rattle.sb_entities.specs.Stores.{entities_in, entity_in};
+
+use crate::entity::EntityStore;
+use sb_machine::{Listed, Path};
+use sb_model::Name;
+use std::alloc::{AllocError, Global};
+
+fn is_same_option(a: &Option<Name>, b: &Option<Name>) -> bool
+    ensures { result ≡ names.is_same_option a.now b.now }
+{
+    match (a, b) {
+        (None, None) => true,
+        (Some(a), Some(b)) => a.as_str() == b.as_str(),
+        _ => false,
+    }
+}
+
+fn is_same_entity(a: &Path, b: &Path) -> bool
+    ensures { result ≡ names.is_same_entity a.now b.now }
+{
+    a.name.as_str() == b.name.as_str() && is_same_option(&a.subscription, &b.subscription)
+}
+
+/// The entity that an address names.
+pub fn entity_at<'a>(rows: &'a [EntityStore], path: &Path) -> Option<&'a EntityStore>
+    ensures { option_map (λ e. entity_in e.now) result ≡ find (λ e. names.is_same_entity e.about.path path.now) (entities_in rows.now) }
+{
+    for entity in rows {
+        if is_same_entity(&entity.about().path, path) {
+            return Some(entity);
+        }
+    }
+    None
+}
+
+/// The entity of a number.
+pub fn entity_of(rows: &[EntityStore], number: u64) -> Option<&EntityStore>
+    ensures { option_map (λ e. entity_in e.now) result ≡ find (is_entity number) (entities_in rows.now) }
+{
+    for entity in rows {
+        if entity.about().number == number {
+            return Some(entity);
+        }
+    }
+    None
+}
+
+// ---- by name
+
+fn is_named(entity: &Listed, name: &str) -> bool
+    ensures { result ≡ visits.is_named name.now entity.now }
+{
+    entity.path.subscription.is_none() && entity.path.name.as_str() == name
+}
+
+/// What is listed of the queue or topic of this name.
+pub fn destination<'a>(rows: &'a [EntityStore], name: &str) -> Option<&'a Listed>
+    ensures { option_map (λ e. e.now) result ≡ visits.destination (map (λ e. e.about) (entities_in rows.now)) name.now }
+{
+    for entity in rows {
+        if is_named(entity.about(), name) {
+            return Some(entity.about());
+        }
+    }
+    None
+}
+
+fn is_under(entity: &Listed, topic: &str) -> bool
+    ensures { result ≡ visits.is_under topic.now entity.now }
+{
+    entity.path.subscription.is_some() && entity.path.name.as_str() == topic
+}
+
+fn own_name(entity: &Listed) -> &str
+    ensures { result.now ≡ visits.own_name entity.now }
+{
+    match &entity.path.subscription {
+        Some(name) => name.as_str(),
+        None => "",
+    }
+}
+
+// How many of them stand before this one by name.
+fn place_by_name(found: &[&Listed], entity: &Listed) -> usize
+    ensures value { result ≡ prefix_len (λ q. names.is_before (visits.own_name q.now) (visits.own_name entity.now)) found.now }
+    ensures within { result ≤ length found.now }
+{
+    let name = own_name(entity);
+    found.iter().take_while(|q| own_name(q) < name).count()
+}
+
+fn with_next<'a>(found: Vec<&'a Listed>, entity: &'a Listed) -> Result<Vec<&'a Listed>, AllocError>
+    ensures { IfOk result (λ v. map (λ e. e.now) v.items ≡ visits.with_next (map (λ e. e.now) found.entry.items) entity.now) }
+{
+    let place = place_by_name(&found, entity);
+    let mut found = found;
+    found.insert(place, entity)?;
+    Ok(found)
+}
+
+/// What is listed of a topic's subscriptions, in order of name.
+pub fn subscriptions_of<'a>(
+    alloc: Global,
+    rows: &'a [EntityStore],
+    topic: &str,
+) -> Result<Vec<&'a Listed>, AllocError>
+    ensures { IfOk result (λ v. map (λ e. e.now) v.items ≡ visits.subscriptions_of (map (λ e. e.about) (entities_in rows.now)) topic.now) }
+{
+    let mut found = Vec::new(alloc);
+    'rows: for entity in rows {
+        if is_under(entity.about(), topic) {
+            found = with_next(found, entity.about())?;
+        }
+    }
+    Ok(found)
+}

@@ -1,0 +1,27 @@
+//! The whole namespace in memory: its entities with what lies in them, and its open transactions.
+//!
+//! Contracts see a [`SpaceStore`] as the model's `Space`, by the words of `specs/Stores`. Its
+//! finders are the model's words on that space, and it is the `Directory` that delivery reads. A
+//! list of changes is carried out in two steps: `reserve` takes all memory that they need, and
+//! `carry_out` makes the space the model's `after_all` of them, takes no memory, and so can't fail.
+//!
+//! ```text
+//! let mut space = SpaceStore::new(alloc, salt);
+//! space.reserve(moment, &changes)?;                // where memory is wanting, the space stays
+//! space.carry_out(moment, changes);                // this can't fail
+//! if let Some(entity) = space.at(&path) {
+//!     let first = entity.part(path.part).copies().first_ready();
+//! }
+//! ```
+#![tactic(auto)]
+
+mod directory;
+mod entity;
+mod finding;
+mod listing;
+mod part;
+mod space;
+
+pub use entity::EntityStore;
+pub use part::PartStore;
+pub use space::SpaceStore;

@@ -1,0 +1,110 @@
+// The whole namespace.
+ghost use Rattle.std.specs.Prelude.{◌≡◌, map};
+ghost use Rattle.std.specs.Option.{option_map};
+ghost use Rattle.sb_machine.specs.Namespace as spec;
+ghost use Rattle.sb_txn.specs.Txns.{transactions_of};
+ghost use Rattle.sb_entities.specs.Stores.{space_in, entity_in, entities_in};
+
+use crate::entity::EntityStore;
+use crate::finding;
+use sb_machine::Path;
+use sb_txn::Txns;
+use std::alloc::Global;
+
+/// A namespace in memory.
+#[derive(Drop)]
+pub struct SpaceStore {
+    alloc: Global,
+    salt: u64,
+    last_entity: u64,
+    last_lock: u64,
+    last_txn: u64,
+    removed: u64,
+    entities: Vec<EntityStore>,
+    txns: Txns,
+}
+
+impl SpaceStore {
+    /// With nothing in it; takes no memory.
+    pub fn new(alloc: Global, salt: u64) -> SpaceStore
+        ensures { space_in result ≡ spec.empty_space salt }
+    {
+        SpaceStore {
+            alloc,
+            salt,
+            last_entity: 0,
+            last_lock: 0,
+            last_txn: 0,
+            removed: 0,
+            entities: Vec::new(alloc),
+            txns: Txns::new(alloc),
+        }
+    }
+
+    // ---- numbers
+
+    /// The upper half of each lock token.
+    pub fn salt(&self) -> u64
+        ensures { result ≡ (space_in self.now).salt }
+    {
+        self.salt
+    }
+
+    /// The last entity number given.
+    pub fn last_entity(&self) -> u64
+        ensures { result ≡ (space_in self.now).last_entity }
+    {
+        self.last_entity
+    }
+
+    /// The last lock number given.
+    pub fn last_lock(&self) -> u64
+        ensures { result ≡ (space_in self.now).last_lock }
+    {
+        self.last_lock
+    }
+
+    /// The last transaction number given.
+    pub fn last_txn(&self) -> u64
+        ensures { result ≡ (space_in self.now).last_txn }
+    {
+        self.last_txn
+    }
+
+    /// The sum of the last numbers of the parts that were removed.
+    pub fn removed(&self) -> u64
+        ensures { result ≡ (space_in self.now).removed }
+    {
+        self.removed
+    }
+
+    // ---- what is in it
+
+    /// In order of number.
+    pub fn entities(&self) -> &[EntityStore]
+        ensures { map entity_in result.now ≡ (space_in self.now).entities }
+    {
+        self.entities.as_slice()
+    }
+
+    /// The entity that an address names, whatever its part.
+    pub fn at(&self, path: &Path) -> Option<&EntityStore>
+        ensures { option_map (λ e. entity_in e.now) result ≡ spec.entity_at path.now (space_in self.now) }
+    {
+        finding::entity_at(&self.entities, path)
+    }
+
+    /// The entity of this number.
+    pub fn entity(&self, number: u64) -> Option<&EntityStore>
+        ensures { option_map (λ e. entity_in e.now) result ≡ spec.entity_of number (space_in self.now) }
+    {
+        finding::entity_of(&self.entities, number)
+    }
+
+    /// The open transactions.
+    pub fn txns(&self) -> &Txns
+        ensures { transactions_of result.now.rows ≡ (space_in self.now).transactions }
+    {
+        &self.txns
+    }
+}
