@@ -1,1 +1,12 @@
 pub mod References
+pub mod Seen
+pub mod Lists
+pub mod Roomy
+pub mod Filling
+pub mod Promised
+pub mod Rising
+pub mod Numbering
+pub mod Stocking
+pub mod Carried
+pub mod Steps
+pub mod Opened

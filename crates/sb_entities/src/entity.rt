@@ -1,13 +1,22 @@
 // One entity with its three parts.
-ghost use Rattle.std.specs.Prelude.{◌≡◌};
-ghost use Rattle.sb_machine.specs.Namespace.{leaf_of, new_entity};
-ghost use Rattle.sb_entities.specs.Stores.{leaf_in, entity_in};
+ghost use Rattle.std.specs.Prelude.{◌≡◌, ◌+◌, ◌≤◌, OnOk, OnErr};
+ghost use Rattle.sb_machine.specs.Changes.{max_number};
+ghost use Rattle.sb_machine.specs.Leaves.{copies_given};
+ghost use Rattle.sb_machine.specs.Namespace.{leaf_of, made_in};
+ghost use Rattle.sb_entities.specs.Rooms.{HasPartRoom, part_room};
+ghost use Rattle.sb_entities.specs.Stocks.{new_entry, entry_after, entry_grown, IsReady};
+ghost use Rattle.sb_entities.specs.Stores.{leaf_in, entity_in, room_in, entry_in};
+ghost use Rattle.sb_entities.specs.declared.change.EntityChange.TheVariants.{InPart};
+ghost use Rattle.sb_entities.specs.declared.place.EntityPlace.TheVariants.{OfPart};
 
+use crate::change::EntityChange;
 use crate::listing::Listing;
 use crate::part::PartStore;
-use sb_machine::{Listed, Part};
+use crate::place::{EntityPlace, PartPlace};
+use crate::slots::one_more;
+use sb_machine::{LeafChange, Listed, Part};
 use sb_repeats::Window;
-use std::alloc::Global;
+use std::alloc::{AllocError, Global};
 
 /// An entity.
 #[derive(Drop)]
@@ -47,7 +56,7 @@ impl EntityStore {
     // ---- within this crate
 
     pub(crate) fn new(alloc: Global, about: Listed) -> EntityStore
-        ensures { entity_in result ≡ new_entity about }
+        ensures { entry_in result ≡ new_entry about }
     {
         EntityStore {
             listing: Listing::new(alloc, about),
@@ -57,4 +66,74 @@ impl EntityStore {
             transfer: PartStore::new(alloc),
         }
     }
+
+    // The copy numbers given in its parts.
+    pub(crate) fn numbers(&self) -> u64
+        requires { made_in (entity_in self.now) ≤ max_number }
+        ensures { result ≡ made_in (entity_in self.now) }
+    {
+        self.main.last() + self.dead.last() + self.transfer.last()
+    }
+
+    // Promises one slot more; where memory is wanting, all stays.
+    pub(crate) fn reserve(&mut self, place: EntityPlace) -> Result<(), AllocError>
+        ensures ok { OnOk result (entry_in self.new ≡ entry_grown place (entry_in self.old)) }
+        ensures err { OnErr result (entry_in self.new ≡ entry_in self.old) }
+    {
+        match place {
+            EntityPlace::OfPart(part, place) => self.reserve_in_part(part, place),
+            EntityPlace::Ids => promise_id(&mut self.ids),
+            EntityPlace::Rules => self.listing.reserve(),
+        }
+    }
+
+    fn reserve_in_part(&mut self, part: Part, place: PartPlace) -> Result<(), AllocError>
+        ensures ok { OnOk result (entry_in self.new ≡ entry_grown (OfPart part place) (entry_in self.old)) }
+        ensures err { OnErr result (entry_in self.new ≡ entry_in self.old) }
+    {
+        match part {
+            Part::Main => self.main.reserve(place),
+            Part::Dead => self.dead.reserve(place),
+            Part::Transfer => self.transfer.reserve(place),
+        }
+    }
+
+    // `moment` is in ms since 1970.
+    pub(crate) fn change(&mut self, moment: u64, change: EntityChange)
+        requires { IsReady change (entry_in self.old) }
+        ensures { entry_in self.new ≡ entry_after moment change (entry_in self.old) }
+    {
+        match change {
+            EntityChange::InPart { part, lock, change } => {
+                self.change_part(part, lock, moment, change);
+            }
+            EntityChange::NotesId(id) => {
+                let window = self.listing.about().description.window;
+                self.ids.note(window, id, moment);
+            }
+            EntityChange::GainsRule(rule) => self.listing.add(rule),
+            EntityChange::LosesRule(name) => self.listing.drop_rule(&name),
+        }
+    }
+
+    fn change_part(&mut self, part: Part, lock: u64, moment: u64, change: LeafChange)
+        requires room { HasPartRoom change (part_room part (room_in self.old)) }
+        requires fits { (leaf_of part (entity_in self.old)).last + copies_given change ≤ max_number }
+        ensures { entry_in self.new ≡ entry_after moment (InPart part lock change) (entry_in self.old) }
+    {
+        match part {
+            Part::Main => self.main.change(lock, moment, change),
+            Part::Dead => self.dead.change(lock, moment, change),
+            Part::Transfer => self.transfer.change(lock, moment, change),
+        }
+    }
+}
+
+fn promise_id(ids: &mut Window) -> Result<(), AllocError>
+    ensures ids { ids.new.ids ≡ ids.old.ids }
+    ensures ok { OnOk result (ids.new.spare ≡ ids.old.spare + 1) }
+    ensures err { OnErr result (ids.new.spare ≡ ids.old.spare) }
+{
+    let count = one_more(ids.spare())?;
+    ids.reserve(count)
 }

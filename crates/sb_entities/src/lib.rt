@@ -15,11 +15,18 @@
 //! ```
 #![tactic(auto)]
 
+mod carrying;
+mod change;
 mod directory;
+mod entities;
 mod entity;
 mod finding;
 mod listing;
 mod part;
+mod place;
+mod reserving;
+mod rows;
+mod slots;
 mod space;
 
 pub use entity::EntityStore;

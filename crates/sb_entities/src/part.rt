@@ -1,11 +1,17 @@
 // One part of an entity: its last number, its copies, its sessions.
-ghost use Rattle.std.specs.Prelude.{◌≡◌};
+ghost use Rattle.std.specs.Prelude.{◌≡◌, ◌+◌, ◌-◌, ◌≤◌, ◌++◌, ◌∷◌, [], OnOk, OnErr};
+ghost use Rattle.sb_machine.specs.Changes.{max_number};
+ghost use Rattle.sb_machine.specs.Leaves as leaves;
 ghost use Rattle.sb_machine.specs.Namespace.{empty_leaf};
-ghost use Rattle.sb_entities.specs.Stores.{leaf_in};
+ghost use Rattle.sb_entities.specs.Rooms.{part_grown, part_used, HasPartRoom};
+ghost use Rattle.sb_entities.specs.Stores.{leaf_in, part_room_in};
 
+use crate::place::PartPlace;
+use crate::slots::one_more;
 use sb_copies::Shelf;
+use sb_machine::{Fresh, LeafChange, StoredCopy};
 use sb_sessions::Sessions;
-use std::alloc::Global;
+use std::alloc::{AllocError, Global};
 
 /// One of an entity's three queues of copies.
 #[derive(Drop)]
@@ -38,7 +44,8 @@ impl PartStore {
     // ---- within this crate
 
     pub(crate) fn new(alloc: Global) -> PartStore
-        ensures { leaf_in result ≡ empty_leaf }
+        ensures leaf { leaf_in result ≡ empty_leaf }
+        ensures room { part_room_in result ≡ record { copies = 0; sessions = 0 } }
     {
         PartStore {
             last: 0,
@@ -46,4 +53,94 @@ impl PartStore {
             sessions: Sessions::new(alloc),
         }
     }
+
+    // Promises one slot more; where memory is wanting, all stays.
+    pub(crate) fn reserve(&mut self, place: PartPlace) -> Result<(), AllocError>
+        ensures leaf { leaf_in self.new ≡ leaf_in self.old }
+        ensures ok { OnOk result (part_room_in self.new ≡ part_grown place (part_room_in self.old)) }
+        ensures err { OnErr result (part_room_in self.new ≡ part_room_in self.old) }
+    {
+        match place {
+            PartPlace::Copies => promise_copy(&mut self.copies),
+            PartPlace::Sessions => promise_session(&mut self.sessions),
+        }
+    }
+
+    // `lock` is the next lock number, `moment` in ms since 1970.
+    pub(crate) fn change(&mut self, lock: u64, moment: u64, change: LeafChange)
+        requires room { HasPartRoom change (part_room_in self.old) }
+        requires fits { (leaf_in self.old).last + leaves.copies_given change ≤ max_number }
+        ensures leaf { leaf_in self.new ≡ leaves.leaf_after lock moment change (leaf_in self.old) }
+        ensures room { part_room_in self.new ≡ part_used change (part_room_in self.old) }
+    {
+        match change {
+            LeafChange::Enters(fresh) => self.enter(moment, fresh),
+            LeafChange::Passes(_) => self.last += 1,
+            LeafChange::Ends { number, .. } => {
+                let _ = self.copies.take(number);
+            }
+            LeafChange::Holds { number, hold } => self.copies.hold(number, lock, hold),
+            LeafChange::Stands {
+                number,
+                count,
+                standing,
+                ..
+            } => self.copies.stand(number, count, standing),
+            LeafChange::Renews { number, until } => self.copies.renew(number, until),
+            LeafChange::Opens { id, until } => self.sessions.open(id, lock, until),
+            LeafChange::Closes { lock: held } => self.sessions.close(held),
+            LeafChange::Prolongs { lock: held, until } => self.sessions.prolong(held, until),
+            LeafChange::Writes { lock: held, state } => self.sessions.write(held, state),
+        }
+    }
+
+    fn enter(&mut self, moment: u64, fresh: Fresh)
+        requires room { 1 ≤ (part_room_in self.old).copies }
+        requires fits { (leaf_in self.old).last + 1 ≤ max_number }
+        ensures leaf { let leaf = leaf_in self.old in leaf_in self.new ≡ record leaf { last = leaf.last + 1; copies = leaf.copies ++ leaves.stored (leaf.last + 1) moment fresh ∷ [] } }
+        ensures room { let room = part_room_in self.old in part_room_in self.new ≡ record room { copies = room.copies - 1 } }
+    {
+        let number = self.last + 1;
+        self.copies.push(stored(number, moment, fresh));
+        self.last = number;
+    }
+}
+
+// A copy that gets its number at a moment.
+fn stored(number: u64, moment: u64, fresh: Fresh) -> StoredCopy
+    ensures { result ≡ leaves.stored number moment fresh }
+{
+    let Fresh {
+        seq,
+        hops,
+        standing,
+        message,
+    } = fresh;
+    StoredCopy {
+        number,
+        enqueued_seq: seq.unwrap_or(number),
+        enqueued: moment,
+        count: 0,
+        hops,
+        standing,
+        message,
+    }
+}
+
+fn promise_copy(copies: &mut Shelf) -> Result<(), AllocError>
+    ensures copies { copies.new.copies ≡ copies.old.copies }
+    ensures ok { OnOk result (copies.new.spare ≡ copies.old.spare + 1) }
+    ensures err { OnErr result (copies.new.spare ≡ copies.old.spare) }
+{
+    let count = one_more(copies.spare())?;
+    copies.reserve(count)
+}
+
+fn promise_session(sessions: &mut Sessions) -> Result<(), AllocError>
+    ensures sessions { sessions.new.sessions ≡ sessions.old.sessions }
+    ensures ok { OnOk result (sessions.new.spare ≡ sessions.old.spare + 1) }
+    ensures err { OnErr result (sessions.new.spare ≡ sessions.old.spare) }
+{
+    let count = one_more(sessions.spare())?;
+    sessions.reserve(count)
 }

@@ -1,10 +1,7 @@
 // The whole namespace.
-ghost use Rattle.std.specs.Prelude.{◌≡◌, map};
-ghost use Rattle.std.specs.Option.{option_map};
-ghost use Rattle.sb_machine.specs.Namespace as spec;
-ghost use Rattle.sb_txn.specs.Txns.{transactions_of};
-ghost use Rattle.sb_entities.specs.Stores.{space_in, entity_in, entities_in};
+ghost use Rattle.sb_entities.specs.Transactions.{AreOpened};
 
+use crate::entities::Entities;
 use crate::entity::EntityStore;
 use crate::finding;
 use sb_machine::Path;
@@ -14,17 +11,24 @@ use std::alloc::Global;
 /// A namespace in memory.
 #[derive(Drop)]
 pub struct SpaceStore {
-    alloc: Global,
-    salt: u64,
-    last_entity: u64,
-    last_lock: u64,
-    last_txn: u64,
-    removed: u64,
-    entities: Vec<EntityStore>,
-    txns: Txns,
+    pub(crate) alloc: Global,
+    pub(crate) salt: u64,
+    pub(crate) last_entity: u64,
+    pub(crate) last_lock: u64,
+    pub(crate) last_txn: u64,
+    pub(crate) removed: u64,
+    pub(crate) entities: Entities,
+    pub(crate) txns: Txns,
+    ghost opened: { AreOpened last_txn txns.rows },
 }
 
 impl SpaceStore {
+    ghost use Rattle.std.specs.Prelude.{◌≡◌, map};
+    ghost use Rattle.std.specs.Option.{option_map};
+    ghost use Rattle.sb_machine.specs.Namespace as spec;
+    ghost use Rattle.sb_txn.specs.Txns.{transactions_of};
+    ghost use Rattle.sb_entities.specs.Stores.{space_in, entity_in};
+
     /// With nothing in it; takes no memory.
     pub fn new(alloc: Global, salt: u64) -> SpaceStore
         ensures { space_in result ≡ spec.empty_space salt }
@@ -36,7 +40,7 @@ impl SpaceStore {
             last_lock: 0,
             last_txn: 0,
             removed: 0,
-            entities: Vec::new(alloc),
+            entities: Entities::new(alloc),
             txns: Txns::new(alloc),
         }
     }
@@ -91,14 +95,14 @@ impl SpaceStore {
     pub fn at(&self, path: &Path) -> Option<&EntityStore>
         ensures { option_map (λ e. entity_in e.now) result ≡ spec.entity_at path.now (space_in self.now) }
     {
-        finding::entity_at(&self.entities, path)
+        finding::entity_at(self.entities.as_slice(), path)
     }
 
     /// The entity of this number.
     pub fn entity(&self, number: u64) -> Option<&EntityStore>
         ensures { option_map (λ e. entity_in e.now) result ≡ spec.entity_of number (space_in self.now) }
     {
-        finding::entity_of(&self.entities, number)
+        finding::entity_of(self.entities.as_slice(), number)
     }
 
     /// The open transactions.

@@ -1,0 +1,82 @@
+-- At which place a change needs a slot.
+use Rattle.std.specs.Prelude.{ℕ, ◌==◌, ◌&&◌, Bool, true, false, List, if◌then◌else◌, sum_by, Option, Some, None, option_map}
+use Rattle.sb_machine.specs.Names.{is_same_part}
+use Rattle.sb_machine.specs.declared.call.Part.{Part}
+use Rattle.sb_machine.specs.declared.change.Change.{Change}
+use Rattle.sb_machine.specs.declared.change.Change.TheVariants.{InLeaf, Notes, Makes, AddsRule, Begins, Queues}
+use Rattle.sb_machine.specs.declared.change.LeafChange.{LeafChange}
+use Rattle.sb_machine.specs.declared.change.LeafChange.TheVariants.{Enters, Opens}
+use Rattle.sb_entities.specs.declared.change.EntityChange.{EntityChange}
+use Rattle.sb_entities.specs.declared.change.EntityChange.TheVariants.{InPart, NotesId, GainsRule, LosesRule}
+use Rattle.sb_entities.specs.declared.place.EntityPlace.{EntityPlace}
+use Rattle.sb_entities.specs.declared.place.EntityPlace.TheVariants.{OfPart, Ids, Rules}
+use Rattle.sb_entities.specs.declared.place.PartPlace.{PartPlace}
+use Rattle.sb_entities.specs.declared.place.PartPlace.TheVariants.{Copies, Sessions}
+use Rattle.sb_entities.specs.declared.place.Place.{Place}
+use Rattle.sb_entities.specs.declared.place.Place.TheVariants.{Entities, Transactions, InEntity, InTransaction}
+
+-- ---- where a change needs a slot
+
+abbrev pub part_place : LeafChange → Option PartPlace
+part_place (Enters fresh) = Some Copies
+part_place (Opens id until) = Some Sessions
+part_place _ = None
+
+abbrev pub entity_place : EntityChange → Option EntityPlace
+entity_place (InPart part lock c) = option_map (OfPart part) (part_place c)
+entity_place (NotesId id) = Some Ids
+entity_place (GainsRule rule) = Some Rules
+entity_place (LosesRule name) = None
+
+abbrev pub place_in_part : ℕ → Part → LeafChange → Option Place
+place_in_part n part c = option_map (λ x. InEntity n (OfPart part x)) (part_place c)
+
+abbrev pub place_of : Change → Option Place
+place_of (InLeaf key c) = place_in_part key.entity key.part c
+place_of (Notes n id) = Some (InEntity n Ids)
+place_of (AddsRule n rule) = Some (InEntity n Rules)
+place_of (Makes kind path description rules) = Some Entities
+place_of (Begins n deadline) = Some Transactions
+place_of (Queues n deadline operation) = Some (InTransaction n)
+place_of _ = None
+
+-- ---- how many slots are needed at a place
+
+abbrev pub is_same_part_place : PartPlace → PartPlace → Bool
+is_same_part_place Copies Copies = true
+is_same_part_place Sessions Sessions = true
+is_same_part_place _ _ = false
+
+abbrev pub is_same_entity_place : EntityPlace → EntityPlace → Bool
+is_same_entity_place (OfPart a x) (OfPart b y) = is_same_part a b && is_same_part_place x y
+is_same_entity_place Ids Ids = true
+is_same_entity_place Rules Rules = true
+is_same_entity_place _ _ = false
+
+abbrev pub is_same_place : Place → Place → Bool
+is_same_place Entities Entities = true
+is_same_place Transactions Transactions = true
+is_same_place (InEntity m p) (InEntity n q) = (m == n) && is_same_entity_place p q
+is_same_place (InTransaction m) (InTransaction n) = m == n
+is_same_place _ _ = false
+
+abbrev pub one_if : Bool → ℕ
+one_if true = 1
+one_if false = 0
+
+-- one, where this is the place
+abbrev pub one_at : {X : Type 0} → (X → Bool) → Option X → ℕ
+one_at is None = 0
+one_at is (Some place) = one_if (is place)
+
+abbrev pub taken_in_part : PartPlace → LeafChange → ℕ
+taken_in_part p c = one_at (is_same_part_place p) (part_place c)
+
+abbrev pub taken_in : EntityPlace → EntityChange → ℕ
+taken_in p c = one_at (is_same_entity_place p) (entity_place c)
+
+abbrev pub taken : Place → Change → ℕ
+taken p c = one_at (is_same_place p) (place_of c)
+
+abbrev pub asked : Place → List Change → ℕ
+asked p cs = sum_by (taken p) cs

@@ -1,0 +1,102 @@
+// The entities of a namespace, in the order in which they were made.
+ghost use Rattle.std.specs.Prelude.{◌≡◌, ◌+◌, ◌-◌, ◌≤◌, ◌++◌, ◌∷◌, [], not, filter, OnOk, OnErr};
+ghost use Rattle.sb_entities.specs.Stocks.{has_number, entry_after, entry_grown, on_entry, IsReadyAt};
+ghost use Rattle.sb_entities.specs.Stores.{entries_in, entities_in};
+
+use crate::change::EntityChange;
+use crate::entity::EntityStore;
+use crate::place::EntityPlace;
+use crate::rows;
+use crate::slots::one_more;
+use std::alloc::{AllocError, Global};
+use std::marker::Model;
+
+/// The entities of a namespace.
+#[derive(Drop)]
+pub struct Entities {
+    rows: Vec<EntityStore>,
+    spare: usize,
+}
+
+impl Model for Entities {
+    ghost use Rattle.std.specs.Prelude.{◌+◌, ◌≤◌, vec_len, vec_capacity};
+    ghost use Rattle.sb_entities.specs.Tables.{Tabled};
+
+    ghost Value = { Tabled };
+
+    ghost view = { λ s. record { rows = s.rows.items; spare = s.spare } };
+
+    ghost invariant = { λ s. vec_len s.rows + s.spare ≤ vec_capacity s.rows };
+}
+
+impl Entities {
+    /// None yet; takes no memory.
+    pub fn new(alloc: Global) -> Entities
+        ensures rows { result.rows ≡ [] }
+        ensures spare { result.spare ≡ 0 }
+    {
+        Entities {
+            rows: Vec::new(alloc),
+            spare: 0,
+        }
+    }
+
+    pub fn as_slice(&self) -> &[EntityStore]
+        ensures { result.now ≡ self.now.rows }
+    {
+        self.rows.as_slice()
+    }
+
+    // ---- room
+
+    /// Promises a slot to one entity more; where memory is wanting, all stays.
+    pub fn reserve(&mut self) -> Result<(), AllocError>
+        ensures rows { self.new.rows ≡ self.old.rows }
+        ensures ok { OnOk result (self.new.spare ≡ self.old.spare + 1) }
+        ensures err { OnErr result (self.new.spare ≡ self.old.spare) }
+    {
+        let count = one_more(self.spare)?;
+        self.rows.reserve(count)?;
+        self.spare = count;
+        Ok(())
+    }
+
+    /// Promises one slot more in the entity of this number; where memory is wanting, all stays.
+    pub fn reserve_in(&mut self, number: u64, place: EntityPlace) -> Result<(), AllocError>
+        ensures ok { OnOk result (entries_in self.new.rows ≡ on_entry number (entry_grown place) (entries_in self.old.rows)) }
+        ensures err { OnErr result (entries_in self.new.rows ≡ entries_in self.old.rows) }
+        ensures entities { entities_in self.new.rows ≡ entities_in self.old.rows }
+        ensures spare { self.new.spare ≡ self.old.spare }
+    {
+        rows::reserve_row(&mut self.rows, number, place)
+    }
+
+    // ---- changes
+
+    /// Puts an entity behind all others, in a slot that was promised.
+    pub fn push(&mut self, entity: EntityStore)
+        requires { 1 ≤ self.old.spare }
+        ensures rows { self.new.rows ≡ self.old.rows ++ entity ∷ [] }
+        ensures spare { self.new.spare ≡ self.old.spare - 1 }
+    {
+        self.rows.push_reserved(entity);
+        self.spare -= 1;
+    }
+
+    /// Takes out those of this number.
+    pub fn remove(&mut self, number: u64)
+        ensures rows { entries_in self.new.rows ≡ filter (λ x. not (has_number number x)) (entries_in self.old.rows) }
+        ensures spare { self.new.spare ≡ self.old.spare }
+    {
+        rows::remove_rows(&mut self.rows, number);
+    }
+
+    /// Changes the entity of this number at `moment`, in ms since 1970.
+    pub fn change(&mut self, number: u64, moment: u64, change: EntityChange)
+        requires { IsReadyAt number change (entries_in self.old.rows) }
+        ensures rows { entries_in self.new.rows ≡ on_entry number (entry_after moment change) (entries_in self.old.rows) }
+        ensures spare { self.new.spare ≡ self.old.spare }
+    {
+        rows::change_row(&mut self.rows, number, moment, change);
+    }
+}
