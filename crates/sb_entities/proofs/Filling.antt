@@ -1,10 +1,10 @@
 -- A slot more at a place, and one that a change takes.
-use Rattle.std.proofs.Common.{◌≡◌, ℕ, ◌+◌, ◌≤◌, Bool, true, false, Option, Some, None, option_map, refl, arith}
+use Rattle.std.proofs.Common.{◌≡◌, ℕ, ◌+◌, ◌≤◌, Option, Some, None, option_map, refl, arith}
 use Rattle.sb_machine.specs.declared.call.Part.{Part}
 use Rattle.sb_machine.specs.declared.call.Part.TheVariants.{Main, Dead, Transfer}
 use Rattle.sb_machine.specs.declared.change.LeafChange.{LeafChange}
 use Rattle.sb_machine.specs.declared.change.LeafChange.TheVariants.{Enters, Passes, Ends, Holds, Stands, Renews, Opens, Closes, Prolongs, Writes}
-use Rattle.sb_entities.specs.Places.{part_place, entity_place, is_same_part_place, is_same_entity_place, one_if, one_at, taken_in_part, taken_in}
+use Rattle.sb_entities.specs.Places.{part_place, is_same_part_place, is_same_entity_place, one_if, one_at, taken_in_part, taken_in}
 use Rattle.sb_entities.specs.Rooms.{PartRoom, Room, spare_in_part, part_grown, part_used, spare_in, grown, used}
 use Rattle.sb_entities.specs.declared.change.EntityChange.{EntityChange}
 use Rattle.sb_entities.specs.declared.change.EntityChange.TheVariants.{InPart, NotesId, GainsRule, LosesRule}

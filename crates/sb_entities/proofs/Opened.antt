@@ -3,7 +3,7 @@ use Rattle.std.proofs.Common.{◌≡◌, ℕ, ◌+◌, ◌<◌, ◌≤◌, ◌&&
 use Rattle.std.proofs.lemmas.Bool.Decides.{nat_tests}
 use Rattle.sb_machine.specs.Keyed.{AreRising, changed}
 use Rattle.sb_machine.specs.declared.state.Operation.{Operation}
-use Rattle.sb_txn.specs.Txns.{Opened, has_txn, begun, with_queued, with_room, is_elsewhere}
+use Rattle.sb_txn.specs.Txns.{Opened, has_txn, begun, with_queued, is_elsewhere}
 use Rattle.sb_entities.specs.Stocks.{on_txn}
 use Rattle.sb_entities.specs.Transactions.{txn_number, are_rising, AreOpened}
 use Rattle.sb_entities.proofs.Rising.{rising_dropped, rising_changed, rising_append, rising_filter}

@@ -1,25 +1,23 @@
 -- What is promised as one slot more is, and as a change takes its own.
-use Rattle.std.proofs.Common.{◌≡◌, ℕ, zero, suc, ◌+◌, ◌-◌, ◌<◌, ◌≤◌, ◌==◌, ◌&&◌, Bool, true, false, List, [], ◌∷◌, ◌++◌, length, take, get_or, find, filter, not, Option, Some, None, option_map, refl, sym, ap, ◌∙◌, subst, arith}
+use Rattle.std.proofs.Common.{◌≡◌, ℕ, zero, suc, ◌+◌, ◌-◌, ◌<◌, ◌≤◌, ◌==◌, ◌&&◌, Bool, true, false, List, [], ◌∷◌, ◌++◌, length, take, find, Option, Some, None, option_map, refl, sym, ap, ◌∙◌, subst, arith}
 use Rattle.std.proofs.lemmas.List.{take_more, take_all}
 use Rattle.std.proofs.lemmas.List.Sums.{sum_by-cons, sum_by_push}
 use Rattle.std.proofs.lemmas.Option.{slice_get_within, get_or_from_slice_get}
 use Rattle.std.specs.List.{slice_get}
 use Rattle.std.specs.Prelude.{IfSome}
 use Rattle.sb_machine.specs.Each.{Each}
-use Rattle.sb_machine.specs.Keyed.{AreRising, changed}
+use Rattle.sb_machine.specs.Keyed.{AreRising}
 use Rattle.sb_machine.specs.Names.{is_same_part}
 use Rattle.sb_machine.specs.declared.call.Part.{Part}
 use Rattle.sb_machine.specs.declared.call.Part.TheVariants.{Main, Dead, Transfer}
 use Rattle.sb_machine.specs.declared.change.Change.{Change}
 use Rattle.sb_machine.specs.declared.change.Change.TheVariants.{InLeaf, Notes, Makes, Removes, AddsRule, DropsRule, Begins, Queues, Drops}
-use Rattle.sb_machine.specs.declared.change.LeafChange.{LeafChange}
 use Rattle.sb_machine.specs.declared.change.LeafChange.TheVariants.{Enters, Passes, Ends, Holds, Stands, Renews, Opens, Closes, Prolongs, Writes}
-use Rattle.sb_machine.specs.declared.change.LeafKey.{LeafKey}
 use Rattle.sb_machine.specs.declared.state.Entity.{Entity}
 use Rattle.sb_txn.specs.Txns.{Opened, has_txn, begun, with_queued, is_elsewhere}
 use Rattle.sb_entities.specs.Places.{place_of, part_place, is_same_place, is_same_entity_place, one_if, one_at, taken, taken_in, asked}
 use Rattle.sb_entities.specs.Rooms.{Room, spare_in, HasRoom}
-use Rattle.sb_entities.specs.Stocks.{Entry, Stock, has_number, no_room, new_entry, entity_after, entry_after, entry_grown, on_entry, on_txn, txn_grown, stock_after, stock_grown, stock_grown_at, Promises, PromisesAll, IsReached, HasRoomFor}
+use Rattle.sb_entities.specs.Stocks.{Entry, Stock, has_number, new_entry, entity_after, entry_after, entry_grown, on_entry, on_txn, txn_grown, stock_after, stock_grown, stock_grown_at, Promises, PromisesAll, IsReached, HasRoomFor}
 use Rattle.sb_entities.specs.Transactions.{txn_number, AreOpened}
 use Rattle.sb_entities.specs.declared.change.EntityChange.{EntityChange}
 use Rattle.sb_entities.specs.declared.change.EntityChange.TheVariants.{InPart, NotesId, GainsRule, LosesRule}

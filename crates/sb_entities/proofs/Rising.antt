@@ -1,5 +1,5 @@
 -- Open transactions stay in rising number.
-use Rattle.std.proofs.Common.{◌≡◌, ℕ, ◌+◌, ◌<◌, ◌≤◌, ◌==◌, Bool, true, false, List, [], ◌∷◌, ◌++◌, filter, refl, arith}
+use Rattle.std.proofs.Common.{◌≡◌, ℕ, ◌+◌, ◌≤◌, Bool, true, false, List, [], ◌∷◌, ◌++◌, filter, refl, arith}
 use Rattle.sb_machine.specs.Each.{Each}
 use Rattle.sb_machine.specs.Keyed.{AreRising, changed}
 

@@ -1,5 +1,5 @@
 -- The lists that an entity has for further rules.
-use Rattle.std.proofs.Common.{◌≡◌, ℕ, ◌+◌, ◌<◌, ◌≤◌, List, [], ◌∷◌, ◌++◌, length, arith, vec_capacity, Global, subst}
+use Rattle.std.proofs.Common.{◌≡◌, ℕ, ◌+◌, ◌<◌, ◌≤◌, List, [], ◌∷◌, ◌++◌, length, arith, vec_capacity, Global}
 use Rattle.std.specs.Prelude.{Vec}
 use Rattle.sb_machine.specs.declared.rule.Rule.{Rule}
 use Rattle.sb_entities.specs.Listings.{AreRoomy}

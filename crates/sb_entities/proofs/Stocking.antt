@@ -1,5 +1,5 @@
 -- What a store holds is a namespace, which changes as the model's does.
-use Rattle.std.proofs.Common.{◌≡◌, ℕ, ◌+◌, ◌==◌, List, [], ◌∷◌, ◌++◌, not, filter, map, refl, ap, sym, ◌∙◌}
+use Rattle.std.proofs.Common.{◌≡◌, ℕ, ◌+◌, List, [], ◌∷◌, not, filter, map, refl, ap, sym, ◌∙◌}
 use Rattle.std.proofs.lemmas.List.{map-append}
 use Rattle.std.specs.Prelude.{sum_by}
 use Rattle.sb_machine.specs.Changes.{after, is_transaction, with_operation}
@@ -12,7 +12,7 @@ use Rattle.sb_machine.specs.declared.state.Space.{Space}
 use Rattle.sb_machine.specs.declared.state.Transaction.{Transaction}
 use Rattle.sb_txn.specs.Txns.{Opened, begun, with_queued, is_elsewhere}
 use Rattle.sb_entities.specs.Stocks.{Entry, Stock, new_entry, has_number, entity_after, entry_after, on_entry, space_of, stock_after}
-use Rattle.sb_entities.specs.Stores.{entity_in, entry_in, entities_in, entries_in, space_in, stock_in}
+use Rattle.sb_entities.specs.Stores.{entry_in, entities_in, entries_in, space_in, stock_in}
 use Rattle.sb_entities.specs.declared.change.EntityChange.{EntityChange}
 use Rattle.sb_entities.specs.declared.change.EntityChange.TheVariants.{InPart, NotesId, GainsRule, LosesRule}
 use Rattle.sb_entities.specs.declared.entity.EntityStore.{EntityStore}

@@ -1,5 +1,5 @@
 -- At which place a change needs a slot.
-use Rattle.std.specs.Prelude.{ℕ, ◌==◌, ◌&&◌, Bool, true, false, List, if◌then◌else◌, sum_by, Option, Some, None, option_map}
+use Rattle.std.specs.Prelude.{ℕ, ◌==◌, ◌&&◌, Bool, true, false, List, sum_by, Option, Some, None, option_map}
 use Rattle.sb_machine.specs.Names.{is_same_part}
 use Rattle.sb_machine.specs.declared.call.Part.{Part}
 use Rattle.sb_machine.specs.declared.change.Change.{Change}

@@ -1,5 +1,5 @@
 -- A namespace with the slots that it promises, and what changes there.
-use Rattle.std.specs.Prelude.{◌≡◌, ℕ, ◌+◌, ◌-◌, ◌≤◌, ◌<◌, ◌==◌, not, Bool, List, [], ◌∷◌, ◌++◌, find, filter, map, sum_by, IfSome, Option, Some, None}
+use Rattle.std.specs.Prelude.{◌≡◌, ℕ, ◌+◌, ◌-◌, ◌≤◌, ◌<◌, not, Bool, List, [], ◌∷◌, ◌++◌, find, filter, map, sum_by, IfSome, Option, Some, None}
 use Rattle.sb_machine.specs.Changes.{noted, with_rules, rule_added, rule_dropped, max_number}
 use Rattle.sb_machine.specs.Each.{Each}
 use Rattle.sb_machine.specs.Keyed.{changed}

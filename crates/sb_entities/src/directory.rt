@@ -1,6 +1,4 @@
 // The namespace as delivery reads it.
-ghost use Rattle.std.specs.Prelude.{◌≡◌};
-
 use crate::finding;
 use crate::space::SpaceStore;
 use sb_machine::{Directory, LeafKey, Listed};

@@ -1,8 +1,6 @@
 // What is listed of an entity, with room for further rules.
 ghost use Rattle.std.specs.Prelude.{◌≡◌, ◌+◌, ◌-◌, ◌≤◌, ◌<◌, [], length, OnOk, OnErr, IfOk, vec_capacity};
 ghost use Rattle.std.specs.List.{prefix_len};
-ghost use Rattle.std.specs.Ordering.{nat_cmp, is_lt};
-ghost use Rattle.std.specs.Cmp.Lexicographic.{slice_cmp};
 ghost use Rattle.sb_machine.specs.Changes.{rule_added, rule_dropped};
 ghost use Rattle.sb_machine.specs.Names.{is_before};
 

@@ -1,12 +1,11 @@
 // Taking the memory that changes need.
-ghost use Rattle.std.specs.Prelude.{◌≡◌, ◌+◌, ◌≤◌, [], ◌∷◌, false, is_some, find, OnOk, OnErr};
+ghost use Rattle.std.specs.Prelude.{◌≡◌, ◌+◌, false, is_some, OnOk, OnErr, Some};
 ghost use Rattle.std.specs.Result.{IsOk};
 ghost use Rattle.std.specs.List.{list_any};
 ghost use Rattle.sb_entities.specs.Places as places;
 ghost use Rattle.sb_entities.specs.Stocks.{stock_grown, stock_grown_at, on_txn, txn_grown, IsReached};
 ghost use Rattle.sb_entities.specs.Stores.{space_in, stock_in, IsRoomFor};
 ghost use Rattle.sb_txn.specs.Txns.{transactions_of};
-ghost use Rattle.std.specs.Prelude.{Some};
 
 use crate::place::{Place, place_of};
 use crate::slots::one_more;
@@ -16,9 +15,9 @@ use sb_txn::Txns;
 use std::alloc::AllocError;
 
 impl SpaceStore {
-    /// Takes the memory that carrying out these changes needs; where it is wanting, or where a
-    /// change needs room in an entity or a transaction that these changes themselves make, the
-    /// space stays. Changes that add nothing take none.
+    /// Takes the memory that carrying out these changes needs; where it is wanting, the space
+    /// stays. It counts as wanting, too, where a change adds to an entity or a transaction whose
+    /// number is still to be given. Changes that add nothing take none.
     pub fn reserve(&mut self, moment: u64, changes: &Changes) -> Result<(), AllocError>
         ensures space { space_in self.new ≡ space_in self.old }
         ensures room { OnOk result (IsRoomFor moment changes.now self.new) }

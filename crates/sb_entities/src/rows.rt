@@ -1,5 +1,5 @@
 // Entities as rows: where one stands, and what changes there.
-ghost use Rattle.std.specs.Prelude.{◌≡◌, ◌≤◌, ◌<◌, ℕ, not, filter, find, length, map, position, slice_set, sum_by, IfSome, OnOk, OnErr, vec_len, vec_capacity};
+ghost use Rattle.std.specs.Prelude.{◌≡◌, ◌≤◌, ◌<◌, not, filter, length, position, slice_set, sum_by, IfSome, OnOk, OnErr, vec_len, vec_capacity};
 ghost use Rattle.std.specs.List.{slice_get};
 ghost use Rattle.sb_machine.specs.Changes.{max_number};
 ghost use Rattle.sb_machine.specs.Namespace.{made_in};

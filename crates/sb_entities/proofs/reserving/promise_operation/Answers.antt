@@ -1,4 +1,4 @@
-use Rattle.std.proofs.Common.{[], ◌∷◌, ◌+◌, ◌≡◌, ap, ◌∙◌, arith}
+use Rattle.std.proofs.Common.{[], ◌∷◌, ◌+◌, ◌≡◌, arith}
 use Rattle.sb_txn.specs.Txns.{has_txn}
 use Rattle.sb_entities.specs.Stocks.{txn_grown}
 use Rattle.sb_entities.proofs.Steps.{on_ok, changed_none, one_room}

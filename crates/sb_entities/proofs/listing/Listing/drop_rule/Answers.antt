@@ -1,4 +1,4 @@
-use Rattle.std.proofs.Common.{◌≡◌, ◌≤◌, arith, not, bytes_eq, ap, length, refl}
+use Rattle.std.proofs.Common.{arith, not, bytes_eq, ap, length, refl}
 use Rattle.std.proofs.lemmas.List.Filters.{length-filter_both}
 use Rattle.sb_machine.specs.declared.rule.Rule.{Rule}
 use Rattle.sb_machine.specs.declared.state.Listed.{Listed}

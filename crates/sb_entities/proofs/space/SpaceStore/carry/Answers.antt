@@ -1,5 +1,4 @@
-use Rattle.std.proofs.Common.{◌≡◌, ◌+◌, ◌≤◌, arith, sym, subst}
-use Rattle.sb_machine.specs.Changes.{max_number}
+use Rattle.std.proofs.Common.{◌≡◌, arith, sym, subst}
 use Rattle.sb_machine.specs.Namespace.{made}
 use Rattle.sb_machine.specs.declared.change.Change.{Change}
 use Rattle.sb_entities.specs.Stocks.{space_of, stock_after, HasRoomFor}

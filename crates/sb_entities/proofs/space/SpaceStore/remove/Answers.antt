@@ -1,10 +1,9 @@
-use Rattle.std.proofs.Common.{◌≡◌, ◌+◌, ◌≤◌, arith, filter, not, sum_by, sym, subst, refl, ap, ◌∙◌}
+use Rattle.std.proofs.Common.{◌≡◌, arith, filter, not, sum_by, sym, subst, refl, ap, ◌∙◌}
 use Rattle.std.proofs.lemmas.List.Filters.{sum_by-filter_both}
 use Rattle.sb_machine.specs.Namespace.{made_in}
 use Rattle.sb_entities.specs.Stocks.{Entry, has_number}
 use Rattle.sb_entities.specs.Stores.{entries_in}
 use Rattle.sb_entities.specs.Transactions.{AreOpened}
-use Rattle.sb_entities.specs.declared.entity.EntityStore.{EntityStore}
 use Rattle.sb_entities.proofs.Opened.{opened_elsewhere}
 use Rattle.sb_entities.proofs.Seen.{sum_seen}
 use Rattle.sb_entities.proofs.Stocking.{entity_of}

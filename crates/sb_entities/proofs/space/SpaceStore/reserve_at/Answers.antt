@@ -1,5 +1,4 @@
 use Rattle.std.proofs.Common.{sym, subst, refl}
-use Rattle.sb_txn.specs.Txns.{Opened}
 use Rattle.sb_entities.specs.Stocks.{txn_grown}
 use Rattle.sb_entities.specs.Transactions.{AreOpened}
 use Rattle.sb_entities.proofs.Opened.{opened_more}
