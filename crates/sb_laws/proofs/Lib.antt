@@ -64,3 +64,6 @@ pub mod Handed
 pub mod Holding
 pub mod Opening
 pub mod OneHolder
+pub mod Thinning
+pub mod KeptAlike
+pub mod ThinSame

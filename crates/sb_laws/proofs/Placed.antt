@@ -5,6 +5,12 @@ use Rattle.sb_laws.proofs.Lists.{found_behind}
 use Rattle.sb_machine.specs.Keyed.{with_sorted}
 
 module _ {X : Type 0} where
+  pub placed_behind : (before : X → Bool) (x y : X) (ys : List X) → before y ≡ true → with_sorted before x (y ∷ ys) ≡ y ∷ with_sorted before x ys
+  placed_behind before x y ys is = rw (is, one-add) refl
+
+  pub placed_here : (before : X → Bool) (x y : X) (ys : List X) → before y ≡ false → with_sorted before x (y ∷ ys) ≡ x ∷ y ∷ ys
+  placed_here before x y ys is = rw is refl
+
   -- another is found as before
   pub found_past : (p before : X → Bool) (x : X) (xs : List X) → p x ≡ false → find p (with_sorted before x xs) ≡ find p xs
   found_past p before x [] off = rw off refl

@@ -9,3 +9,4 @@ pub mod Spent
 pub mod Holders
 pub mod Handed
 pub mod Accepted
+pub mod Thin

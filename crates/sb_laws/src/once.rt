@@ -5,6 +5,7 @@ ghost use Rattle.sb_laws.specs.Ended.{EndsOnce};
 ghost use Rattle.sb_laws.specs.Handed.{InOrder};
 ghost use Rattle.sb_laws.specs.Holders.{OneHolder};
 ghost use Rattle.sb_laws.specs.Spent.{SpentOnce};
+ghost use Rattle.sb_laws.specs.Thin.{ThinSame};
 
 /// No number of a client acts twice; a client's numbers rise from above the one that was kept.
 pub fn once_numbers()
@@ -38,4 +39,10 @@ pub fn in_order()
 /// a tick not before the lock's moment, or as the entity was deleted, by itself or with its topic.
 pub fn one_holder()
     ensures { OneHolder }
+{}
+
+/// The events of a history, without the messages that were answered as duplicates, lead to the same
+/// state, but for the acts and replies that are kept for clients.
+pub fn thin_same()
+    ensures { ThinSame }
 {}
