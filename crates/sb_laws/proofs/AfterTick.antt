@@ -32,7 +32,7 @@ use Rattle.sb_machine.specs.declared.state.Hold.TheVariants.{Until, Session as U
 
 -- ---- what holds of each number, part and lock holds of all
 
-swapped : {X : Type 0} {K : Type 0} (R : K → X → Type 0) (xs : List X) → ((k : K) → Each (R k) xs) → Each (λ x. (k : K) → R k x) xs
+pub swapped : {X : Type 0} {K : Type 0} (R : K → X → Type 0) (xs : List X) → ((k : K) → Each (R k) xs) → Each (λ x. (k : K) → R k x) xs
 swapped R [] h = tt
 swapped R (x ∷ xs) h = ((λ k. (h k).0), swapped R xs (λ k. (h k).1))
 

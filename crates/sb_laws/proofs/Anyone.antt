@@ -1,5 +1,6 @@
 -- Whether one of a list passes, where the list is changed.
 use Rattle.std.proofs.Common.{Bool, List, Some, [], ap, false, filter, inl, inr, one-add, refl, sym, true, ◌++◌, ◌||◌, ◌∙◌, ◌∷◌, ◌≡◌}
+use Rattle.std.proofs.lemmas.List.Folds.{list_any-append}
 use Rattle.std.specs.List.{list_any}
 use Rattle.std.specs.Prelude.{find, ◌⊎◌}
 use Rattle.sb_laws.proofs.Eachs.{each_implied}
@@ -81,3 +82,21 @@ module _ {X : Type 0} (p : X → Bool) where
     at : (b : Bool) → q x ≡ b → (list_any p (filter q xs) ≡ true → list_any p xs ≡ true) → list_any p (x ∷ xs) ≡ true
     at true is ih = or_map (p x) (list_any p (filter q xs)) (p x) (list_any p xs) (λ h. h) ih (rw is at e)
     at false is ih = or_right (p x) (list_any p xs) (ih (rw is at e))
+
+  -- one that passed passes still
+  pub any_front : (xs ys : List X) → list_any p xs ≡ true → list_any p (xs ++ ys) ≡ true
+  any_front xs ys e = list_any-append p xs ys ∙ or_left (list_any p xs) (list_any p ys) e
+
+  pub any_back : (xs ys : List X) → list_any p ys ≡ true → list_any p (xs ++ ys) ≡ true
+  any_back xs ys e = list_any-append p xs ys ∙ or_right (list_any p xs) (list_any p ys) e
+
+  pub any_kept : (q : X → Bool) (g : X → List X) (xs : List X) → ((x : X) → q x ≡ true → p x ≡ true → list_any p (g x) ≡ true) → list_any p xs ≡ true → list_any p (changed q g xs) ≡ true
+  any_kept q g [] keeps e = absurd cc
+  any_kept q g (x ∷ xs) keeps e = at (q x) refl (λ h. any_kept q g xs keeps h) where
+    on : (p x ≡ true) ⊎ (list_any p xs ≡ true) → q x ≡ true → list_any p (g x ++ xs) ≡ true
+    on (inl here) is = any_front (g x) xs (keeps x is here)
+    on (inr later) is = any_back (g x) xs later
+
+    at : (b : Bool) → q x ≡ b → (list_any p xs ≡ true → list_any p (changed q g xs) ≡ true) → list_any p (changed q g (x ∷ xs)) ≡ true
+    at true is ih = rw is (on (either (p x) (list_any p xs) e) is)
+    at false is ih = rw is (or_map (p x) (list_any p xs) (p x) (list_any p (changed q g xs)) (λ h. h) ih e)

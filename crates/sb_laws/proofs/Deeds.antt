@@ -19,6 +19,7 @@ use Rattle.sb_machine.specs.Leases.{is_under_session}
 use Rattle.sb_machine.specs.Namespace.{entity_at, key_of, leaf_of, listed}
 use Rattle.sb_machine.specs.Repeats.{Outcome, acted, outcome_of, refused, repeated}
 use Rattle.sb_machine.specs.SendRow.{queued_send}
+use Rattle.sb_machine.specs.Sessions.{closed}
 use Rattle.sb_machine.specs.declared.call.Act.{Act}
 use Rattle.sb_machine.specs.declared.call.Act.TheVariants.{Delete, SessionClose}
 use Rattle.sb_machine.specs.declared.call.Call.{Call}
@@ -66,12 +67,12 @@ pub record IsSteady (c : Change) : Type 0 where
 pub data Deed (s : Space) (t : ℕ) (act : Act) (reply : Reply) (cs : List Change) : Type 0 where
   steadies : Each IsSteady cs → Deed s t act reply cs
   settles : Each (IsCalm true) cs → Deed s t act reply cs
-  shuts : (from : Path) (token : Token) (key : LeafKey) (rest : List Change) → act ≡ SessionClose from token → reply ≡ Done → cs ≡ InLeaf key (Closes token.lock) ∷ rest → Each IsSteady rest → Deed s t act reply cs
+  shuts : (from : Path) (token : Token) (e : Entity) → act ≡ SessionClose from token → reply ≡ Done → entity_at from s ≡ Some e → cs ≡ closed s t e from.part token.lock → Deed s t act reply cs
   deletes : (path : Path) (e : Entity) → act ≡ Delete path → reply ≡ Done → entity_at path s ≡ Some e → cs ≡ map (λ x. Removes x.about.number) (e ∷ going_with s e) → Deed s t act reply cs
 
 -- ---- calm changes
 
-unheld_lock : (k : ℕ) (standing : Standing) → is_unheld standing ≡ true → has_lock k standing ≡ false
+pub unheld_lock : (k : ℕ) (standing : Standing) → is_unheld standing ≡ true → has_lock k standing ≡ false
 unheld_lock k Ready free = refl
 unheld_lock k Deferred free = refl
 unheld_lock k (Held lock hold deferred) free = absurd cc
@@ -99,7 +100,7 @@ calm_quiet b _ k n (calm_frees key m count standing free) = tt
 calm_quiet b _ k n (calm_notes m id) = tt
 calm_quiet b _ k n (calm_drops m) = tt
 
-calm_unspent : (c : Change) → IsCalm false c → IsUnspent c
+pub calm_unspent : (c : Change) → IsCalm false c → IsUnspent c
 calm_unspent _ (calm_enters key fresh unheld) = tt
 calm_unspent _ (calm_passes key cause) = tt
 calm_unspent _ (calm_ends key m cause) = refl
@@ -112,6 +113,10 @@ calm_steady c is = record { frees = λ k. calm_frees_locks false c k is; unspent
 
 all_steady : (cs : List Change) → Each (IsCalm false) cs → Each IsSteady cs
 all_steady cs h = each_implied (IsCalm false) IsSteady calm_steady cs h
+
+-- what is released as a session is closed
+pub closed_steady : (s : Space) (t : ℕ) (e : Entity) (part : Part) (lock : ℕ) → Each IsSteady (flat_map (λ c. released (listed s) t e part c false false) (filter (λ c. is_under_session lock c.standing) (leaf_of part e).copies))
+closed_steady s t e part lock = all_steady _ (flat_all (IsCalm false) (λ c. released (listed s) t e part c false false) (λ c. released_calm false (listed s) t e part c false) (filter (λ c. is_under_session lock c.standing) (leaf_of part e).copies))
 
 -- ---- each way in which an act is accepted
 
@@ -137,8 +142,7 @@ deed s t _ _ _ (settles_later e c x there goes on own is none room) = steadies (
 deed s t _ _ _ (renews e c there free is other) = steadies (record { frees = λ k. tt; unspent = tt; quiet = λ k n. tt }, tt)
 deed s t _ _ _ (opens from id e there has free) = steadies (record { frees = λ k. tt; unspent = tt; quiet = λ k n. tt }, tt)
 deed s t _ _ _ (prolongs e x there has held other) = steadies (record { frees = λ k. tt; unspent = tt; quiet = λ k n. tt }, tt)
-deed s t _ _ _ (closes {from = from} {token = token} e x there has held) =
-    shuts from token (key_of from.part e) _ refl refl refl (all_steady _ (flat_all (IsCalm false) (λ c. released (listed s) t e from.part c false false) (λ c. released_calm false (listed s) t e from.part c false) (filter (λ c. is_under_session token.lock c.standing) (leaf_of from.part e).copies)))
+deed s t _ _ _ (closes {from = from} {token = token} e x there has held) = shuts from token e refl refl there refl
 deed s t _ _ _ (writes e x there has held small other) = steadies (record { frees = λ k. tt; unspent = tt; quiet = λ k n. tt }, tt)
 deed s t _ _ _ (begins e there few) = steadies (record { frees = λ k. tt; unspent = tt; quiet = λ k n. tt }, tt)
 deed s t _ _ _ (commits {n = n} x e there on none) = settles (commit_calm t e x s)
@@ -180,7 +184,7 @@ sessions_each C t s closes_so = flat_all C (λ e. closes_in t e Main ++ closes_i
 frees_of_deed : (s : Space) (t : ℕ) (act : Act) (reply : Reply) (cs : List Change) → Deed s t act reply cs → Each (λ c. (k : ℕ) → FreesLocks k c) cs
 frees_of_deed s t act reply cs (steadies h) = each_implied IsSteady (λ c. (k : ℕ) → FreesLocks k c) (λ c is. is.frees) cs h
 frees_of_deed s t act reply cs (settles h) = each_implied (IsCalm true) (λ c. (k : ℕ) → FreesLocks k c) (λ c is k. calm_frees_locks true c k is) cs h
-frees_of_deed s t act reply cs (shuts from token key rest same done is h) = subst (Each (λ c. (k : ℕ) → FreesLocks k c)) (sym is) ((λ k. tt), each_implied IsSteady (λ c. (k : ℕ) → FreesLocks k c) (λ c so. so.frees) rest h)
+frees_of_deed s t act reply cs (shuts from token e same done there is) = subst (Each (λ c. (k : ℕ) → FreesLocks k c)) (sym is) ((λ k. tt), each_implied IsSteady (λ c. (k : ℕ) → FreesLocks k c) (λ c so. so.frees) (flat_map (λ c. released (listed s) t e from.part c false false) (filter (λ c. is_under_session token.lock c.standing) (leaf_of from.part e).copies)) (closed_steady s t e from.part token.lock))
 frees_of_deed s t act reply cs (deletes path e same done there is) = subst (Each (λ c. (k : ℕ) → FreesLocks k c)) (sym is) (all (e ∷ going_with s e)) where
   all : (es : List Entity) → Each (λ c. (k : ℕ) → FreesLocks k c) (map (λ x. Removes x.about.number) es)
   all [] = tt

@@ -110,7 +110,7 @@ in_itself key x t c s e there =
     let stands_later : stands key x (after t (InLeaf key c) s) ≡ given x new.last = ap (stand key x s.last_entity) found_later ∙ ap (λ (leaf : Leaf). given x leaf.last) back in
     omega (arith, sum_single (live_here key x) (moved key lock t c e), changed_sum (live_here key x) (is_entity key.entity) (λ d. moved key lock t c d ∷ []) e s.entities there, live_there key x e is, behind, leaf_counts lock t x key c old, stood, stands_later)
 
-one_key : (a b : LeafKey) → is_leaf a b ≡ true → a ≡ b
+pub one_key : (a b : LeafKey) → is_leaf a b ≡ true → a ≡ b
 one_key a b is = let parts = two (a.entity == b.entity) (is_same_part a.part b.part) is in joined a.entity b.entity a.part b.part (is_equal a.entity b.entity parts.0) (same_part a.part b.part parts.1) where
   joined : (m n : ℕ) (p q : Part) → m ≡ n → p ≡ q → ◌≡◌ {A = LeafKey} (record { entity = m; part = p }) (record { entity = n; part = q })
   joined m n p q a b = cc

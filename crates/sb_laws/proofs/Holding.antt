@@ -76,23 +76,23 @@ remembered_other id x e = at (is_some x.holder) (is_some x.state) where
   at false true = alone id x e
   at false false = refl
 
-has_holder : (k : ℕ) (o : Option Holder) → ◌≡◌ {A = Bool} (elim o [ Some h ↦ h.lock == k | None ↦ false ]) true → is_some o ≡ true
+pub has_holder : (k : ℕ) (o : Option Holder) → ◌≡◌ {A = Bool} (elim o [ Some h ↦ h.lock == k | None ↦ false ]) true → is_some o ≡ true
 has_holder k None e = absurd cc
 has_holder k (Some h) e = refl
 
-taken_under : (k lock until : ℕ) (x : Session) → is_held_under k x ≡ true → is_held_under k (taken lock until x) ≡ true
+pub taken_under : (k lock until : ℕ) (x : Session) → is_held_under k x ≡ true → is_held_under k (taken lock until x) ≡ true
 taken_under k lock until x e = at x.holder e where
   at : (o : Option Holder) → ◌≡◌ {A = Bool} (elim o [ Some h ↦ h.lock == k | None ↦ false ]) true → ◌≡◌ {A = Bool} (elim (elim o as (λ _. Option Holder) [ Some h ↦ Some h | None ↦ Some (holder_new lock until) ]) [ Some h ↦ h.lock == k | None ↦ false ]) true
   at None e = absurd cc
   at (Some h) e = e
 
-prolonged_under : (k until : ℕ) (x : Session) → is_held_under k x ≡ true → is_held_under k (record x { holder = prolonged_holder until x.holder }) ≡ true
+pub prolonged_under : (k until : ℕ) (x : Session) → is_held_under k x ≡ true → is_held_under k (record x { holder = prolonged_holder until x.holder }) ≡ true
 prolonged_under k until x e = at x.holder e where
   at : (o : Option Holder) → ◌≡◌ {A = Bool} (elim o [ Some h ↦ h.lock == k | None ↦ false ]) true → ◌≡◌ {A = Bool} (elim (prolonged_holder until o) [ Some h ↦ h.lock == k | None ↦ false ]) true
   at None e = absurd cc
   at (Some h) e = e
 
-one_lock : (k l : ℕ) (x : Session) → is_held_under k x ≡ true → is_held_under l x ≡ true → (l == k) ≡ true
+pub one_lock : (k l : ℕ) (x : Session) → is_held_under k x ≡ true → is_held_under l x ≡ true → (l == k) ≡ true
 one_lock k l x a b = at x.holder a b where
   both : (m : ℕ) → (m == k) ≡ true → (m == l) ≡ true → (l == k) ≡ true
   both m p q = grind (arith, nat_tests)

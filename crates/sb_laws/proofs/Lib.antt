@@ -67,3 +67,8 @@ pub mod OneHolder
 pub mod Thinning
 pub mod KeptAlike
 pub mod ThinSame
+pub mod Loose
+pub mod Freed
+pub mod Named
+pub mod Living
+pub mod SpentLived

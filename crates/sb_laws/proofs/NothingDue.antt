@@ -4,7 +4,7 @@ use Rattle.std.proofs.lemmas.Bool.Decides.{nat_tests}
 use Rattle.std.specs.List.{flat_map, list_any}
 use Rattle.sb_laws.proofs.Carrying.{Carries, each_mapped, flat_each, item, mapped_each}
 use Rattle.sb_laws.proofs.Closing.{AreHeldOn, HeldApart, SessionsApart, closes_lock, has_run_out, is_false}
-use Rattle.sb_laws.proofs.Eachs.{each_back, each_front, each_implied, each_of_all, is_equal, pairs_back, pairs_between}
+use Rattle.sb_laws.proofs.Eachs.{each_back, each_both, each_front, each_implied, each_of_all, is_equal, pairs_back, pairs_between}
 use Rattle.sb_laws.proofs.Entities.{EachLeaf, IsOrdered, LeafRises, each_leaf}
 use Rattle.sb_laws.proofs.Mild.{IsCarried, expired_settles, is_at, released_settles}
 use Rattle.sb_laws.proofs.Swept.{AreFine, IsSafe, Test, settles_copy}
@@ -133,7 +133,7 @@ sessions_apart s h = each_implied IsSweepableEntity (EachLeaf SessionsApart) (λ
 
 -- ---- changes of a tick are safe
 
-safe_of : (q : Test) (t : ℕ) (first_one : Bool) (c : Change) → ((key : LeafKey) (seq : Option ℕ) (hops n : ℕ) (m : Message) → Lasts m → q key.part (stored n t (record { seq = seq; hops = hops; standing = Ready; message = m })) ≡ true)
+pub safe_of : (q : Test) (t : ℕ) (first_one : Bool) (c : Change) → ((key : LeafKey) (seq : Option ℕ) (hops n : ℕ) (m : Message) → Lasts m → q key.part (stored n t (record { seq = seq; hops = hops; standing = Ready; message = m })) ≡ true)
     → (first_one ≡ true → (part : Part) (c : StoredCopy) (count : ℕ) (standing : Standing) → is_free standing ≡ true → q part (record c { count = count; standing = standing }) ≡ true) → IsOfTick Lasts first_one c → IsSafe q t c
 safe_of q t _ _ enters frees (tick_enters key seq hops m few p) = λ n. enters key seq hops n m p
 safe_of q t _ _ enters frees (tick_passes key cause) = tt
@@ -169,16 +169,16 @@ come_safe t c is = safe_of (not_come t) t false c (λ key seq hops n m p. refl) 
 -- ---- each sweep takes up all that is due as it begins
 
 module _ (key : LeafKey) (n : ℕ) where
-  abbrev IsOther : Entity → Part → StoredCopy → Type 0
+  abbrev pub IsOther : Entity → Part → StoredCopy → Type 0
   IsOther e part c = is_at key n e part c.number ≡ false
 
-  none_of : (c d : List Change) → list_any (settles_copy key n) (c ++ d) ≡ false → (list_any (settles_copy key n) c ≡ false) × (list_any (settles_copy key n) d ≡ false)
+  pub none_of : (c d : List Change) → list_any (settles_copy key n) (c ++ d) ≡ false → (list_any (settles_copy key n) c ≡ false) × (list_any (settles_copy key n) d ≡ false)
   none_of c d none = at (list_any (settles_copy key n) c) (list_any (settles_copy key n) d) (sym (list_any-append (settles_copy key n) c d) ∙ none) where
     at : (a b : Bool) → (a || b) ≡ false → (a ≡ false) × (b ≡ false)
     at false b e = (refl, e)
     at true b e = absurd cc
 
-  others_in : (f : Item → List Change) (F : Item → Type 0) (items : List Item) → ((i : Item) → list_any (settles_copy key n) (f i) ≡ false → F i) → list_any (settles_copy key n) (flat_map f items) ≡ false → Each F items
+  pub others_in : {X : Type 0} (f : X → List Change) (F : X → Type 0) (items : List X) → ((i : X) → list_any (settles_copy key n) (f i) ≡ false → F i) → list_any (settles_copy key n) (flat_map f items) ≡ false → Each F items
   others_in f F [] more none = tt
   others_in f F (i ∷ items) more none = let parts = none_of (f i) (flat_map f items) none in (more i parts.0, others_in f F items more parts.1)
 
@@ -186,14 +186,14 @@ module _ (key : LeafKey) (n : ℕ) where
   others_in_turn f F t [] s more none = tt
   others_in_turn f F t (i ∷ items) s more none = let parts = none_of (f i s) (in_turn f t items (after_all t (f i s) s)) none in (more i s parts.0, others_in_turn f F t items (after_all t (f i s) s) more parts.1)
 
-  not_at : (b : Bool) → (b ≡ true → ⊥) → b ≡ false
+  pub not_at : (b : Bool) → (b ≡ true → ⊥) → b ≡ false
   not_at b h = is_false b h
 
-  clash : (b : Bool) → b ≡ true → b ≡ false → ⊥
+  pub clash : (b : Bool) → b ≡ true → b ≡ false → ⊥
   clash b on off = cc
 
   -- an item that isn't the one of this part and number
-  here_fine : (q : Test) (p : Leaf → StoredCopy → Bool) (e : Entity) → ((c : StoredCopy) → p (leaf_of key.part e) c ≡ false → q key.part c ≡ true) → Each (λ i. IsOther i.entity i.part i.copy) (items_in p e key.part) → e.about.number ≡ key.entity
+  pub here_fine : (q : Test) (p : Leaf → StoredCopy → Bool) (e : Entity) → ((c : StoredCopy) → p (leaf_of key.part e) c ≡ false → q key.part c ≡ true) → Each (λ i. IsOther i.entity i.part i.copy) (items_in p e key.part) → e.about.number ≡ key.entity
       → Each (λ c. c.number ≡ n → q key.part c ≡ true) (leaf_of key.part e).copies
   here_fine q p e fine others own = from (leaf_of key.part e).copies (mapped_each (λ i. IsOther i.entity i.part i.copy) (item e key.part) (filter (p (leaf_of key.part e)) (leaf_of key.part e).copies) others) where
     same : (part : Part) → is_same_part part part ≡ true
@@ -214,29 +214,33 @@ module _ (key : LeafKey) (n : ℕ) where
       at true is ih = let both_of : (IsOther e key.part c) × Each (λ c. IsOther e key.part c) (filter (p (leaf_of key.part e)) cs) = rw is at h in ((λ same'. absurd (clash (is_at key n e key.part c.number) (hit c same') both_of.0)), ih both_of.1)
       at false is ih = let rest : Each (λ c. IsOther e key.part c) (filter (p (leaf_of key.part e)) cs) = rw is at h in ((λ same'. fine c is), ih rest)
 
-  all_fine : (q : Test) (p : Leaf → StoredCopy → Bool) (es : List Entity) → ((e : Entity) (c : StoredCopy) → p (leaf_of key.part e) c ≡ false → q key.part c ≡ true) → Each (λ i. IsOther i.entity i.part i.copy) (flat_map (items_of p) es)
+  all_fine : (q : Test) (p : Leaf → StoredCopy → Bool) (es : List Entity) → Each (λ e. e.about.number ≡ key.entity → (c : StoredCopy) → p (leaf_of key.part e) c ≡ false → q key.part c ≡ true) es → Each (λ i. IsOther i.entity i.part i.copy) (flat_map (items_of p) es)
       → Each (λ e. e.about.number ≡ key.entity → Each (λ c. c.number ≡ n → q key.part c ≡ true) (leaf_of key.part e).copies) es
-  all_fine q p es fine others = each_implied (λ e. Each (λ i. IsOther i.entity i.part i.copy) (items_of p e)) (λ e. e.about.number ≡ key.entity → Each (λ c. c.number ≡ n → q key.part c ≡ true) (leaf_of key.part e).copies)
-      (λ e h. here_fine q p e (fine e) (at key.part e h)) es (flat_each (λ i. IsOther i.entity i.part i.copy) (items_of p) es others) where
+  all_fine q p es fine others = each_implied (λ e. (e.about.number ≡ key.entity → (c : StoredCopy) → p (leaf_of key.part e) c ≡ false → q key.part c ≡ true) × Each (λ i. IsOther i.entity i.part i.copy) (items_of p e)) (λ e. e.about.number ≡ key.entity → Each (λ c. c.number ≡ n → q key.part c ≡ true) (leaf_of key.part e).copies)
+      (λ e h own. here_fine q p e (h.0 own) (at key.part e h.1) own) es (each_both (λ e. e.about.number ≡ key.entity → (c : StoredCopy) → p (leaf_of key.part e) c ≡ false → q key.part c ≡ true) (λ e. Each (λ i. IsOther i.entity i.part i.copy) (items_of p e)) es fine (flat_each (λ i. IsOther i.entity i.part i.copy) (items_of p) es others)) where
         at : (part : Part) (e : Entity) → Each (λ i. IsOther i.entity i.part i.copy) (items_of p e) → Each (λ i. IsOther i.entity i.part i.copy) (items_in p e part)
         at Main e h = each_front (λ i. IsOther i.entity i.part i.copy) (items_in p e Main) (items_in p e Dead) (each_front (λ i. IsOther i.entity i.part i.copy) (items_in p e Main ++ items_in p e Dead) (items_in p e Transfer) h)
         at Dead e h = each_back (λ i. IsOther i.entity i.part i.copy) (items_in p e Main) (items_in p e Dead) (each_front (λ i. IsOther i.entity i.part i.copy) (items_in p e Main ++ items_in p e Dead) (items_in p e Transfer) h)
         at Transfer e h = each_back (λ i. IsOther i.entity i.part i.copy) (items_in p e Main ++ items_in p e Dead) (items_in p e Transfer) h
 
-  pub locks_fine : (t : ℕ) (s : Space) → list_any (settles_copy key n) (sweep_locks t s) ≡ false → AreFine (under_no_ended t) key n s
-  locks_fine t s none = all_fine (under_no_ended t) (λ leaf c. has_ended t leaf.sessions c.standing) s.entities (λ e c. fine (leaf_of key.part e).sessions c.standing)
+  -- a copy that the first sweep doesn't settle is under no lock that has ended
+  pub locks_settled : (q : Test) (t : ℕ) (s : Space) → Each (λ e. e.about.number ≡ key.entity → (c : StoredCopy) → has_ended t (leaf_of key.part e).sessions c.standing ≡ false → q key.part c ≡ true) s.entities → list_any (settles_copy key n) (sweep_locks t s) ≡ false → AreFine q key n s
+  locks_settled q t s fine none = all_fine q (λ leaf c. has_ended t leaf.sessions c.standing) s.entities fine
       (others_in (λ i. released (listed s) t i.entity i.part i.copy true false) (λ i. IsOther i.entity i.part i.copy) (due_locks t s)
       (λ i off. not_at (is_at key n i.entity i.part i.copy.number) (λ hit. clash (list_any (settles_copy key n) (released (listed s) t i.entity i.part i.copy true false)) (released_settles key n (listed s) t i.entity i.part i.copy true false hit) off))
-      (none_of (due_sessions t s) (flat_map (λ i. released (listed s) t i.entity i.part i.copy true false) (due_locks t s)) none).1) where
-        fine : (sessions : List Session) (standing : Standing) → has_ended t sessions standing ≡ false → not (until_over t standing) ≡ true
-        fine sessions (Held lock (Until u) deferred) e = ap not e
-        fine sessions (Held lock (UnderSession l) deferred) e = refl
-        fine sessions Ready e = refl
-        fine sessions Deferred e = refl
-        fine sessions (Scheduled moment) e = refl
+      (none_of (due_sessions t s) (flat_map (λ i. released (listed s) t i.entity i.part i.copy true false) (due_locks t s)) none).1)
+
+  pub locks_fine : (t : ℕ) (s : Space) → list_any (settles_copy key n) (sweep_locks t s) ≡ false → AreFine (under_no_ended t) key n s
+  locks_fine t s none = locks_settled (under_no_ended t) t s (each_of_all (λ e. e.about.number ≡ key.entity → (c : StoredCopy) → has_ended t (leaf_of key.part e).sessions c.standing ≡ false → under_no_ended t key.part c ≡ true) (λ e own c off. fine (leaf_of key.part e).sessions c.standing off) s.entities) none where
+    fine : (sessions : List Session) (standing : Standing) → has_ended t sessions standing ≡ false → not (until_over t standing) ≡ true
+    fine sessions (Held lock (Until u) deferred) e = ap not e
+    fine sessions (Held lock (UnderSession l) deferred) e = refl
+    fine sessions Ready e = refl
+    fine sessions Deferred e = refl
+    fine sessions (Scheduled moment) e = refl
 
   pub scheduled_fine : (t : ℕ) (s : Space) → list_any (settles_copy key n) (sweep_scheduled t s) ≡ false → AreFine (not_come t) key n s
-  scheduled_fine t s none = all_fine (not_come t) (λ leaf c. has_come t c.standing) s.entities (λ e c off. ap not off)
+  scheduled_fine t s none = all_fine (not_come t) (λ leaf c. has_come t c.standing) s.entities (each_of_all (λ e. e.about.number ≡ key.entity → (c : StoredCopy) → has_come t c.standing ≡ false → not_come t key.part c ≡ true) (λ e own c off. ap not off) s.entities)
       (others_in_turn activated (λ i. IsOther i.entity i.part i.copy) t (due_scheduled t s) s
       (λ i now off. not_at (is_at key n i.entity i.part i.copy.number) (λ hit. clash (list_any (settles_copy key n) (activated i now)) (rw hit refl) off)) none)
 

@@ -250,7 +250,7 @@ apart_later kept low t s acc le h = record { ordered = h.ordered; safe = each_im
 
 -- ---- at the start all kept ids stand where they are kept
 
-each_itself : (above last : ℕ) (es : List Entity) → AreRising entity_number above last es → Each (λ e. find (is_entity e.about.number) es ≡ Some e) es
+pub each_itself : (above last : ℕ) (es : List Entity) → AreRising entity_number above last es → Each (λ e. find (is_entity e.about.number) es ≡ Some e) es
 each_itself above last [] h = tt
 each_itself above last (x ∷ xs) h = (
   rw (numbers_equal x.about.number) refl,

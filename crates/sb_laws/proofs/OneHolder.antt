@@ -1,13 +1,13 @@
 -- Until its lock has ended, a session is accepted by nobody else.
-use Rattle.std.proofs.Common.{Bool, List, None, Ok, Option, Result, Some, [], ap, false, inl, inr, map, not, refl, subst, sym, true, ℕ, ◌&&◌, ◌+◌, ◌==◌, ◌∙◌, ◌∷◌, ◌≡◌}
-use Rattle.std.specs.List.{list_any}
+use Rattle.std.proofs.Common.{Bool, List, None, Ok, Option, Result, Some, [], ap, false, filter, inl, inr, map, not, refl, subst, sym, true, ℕ, ◌&&◌, ◌+◌, ◌==◌, ◌∙◌, ◌∷◌, ◌≡◌}
+use Rattle.std.specs.List.{flat_map, list_any}
 use Rattle.std.specs.Prelude.{bytes_eq, find, if◌then◌else◌, ◌⊎◌}
 use Rattle.sb_laws.proofs.Along.{space_after}
 use Rattle.sb_laws.proofs.Answered.{machine_answer}
 use Rattle.sb_laws.proofs.Calm.{IsCalm}
 use Rattle.sb_laws.proofs.Carrying.{kept_by_all}
 use Rattle.sb_laws.proofs.Consistency.{consistent_is_sweepable}
-use Rattle.sb_laws.proofs.Deeds.{Deed, IsQuiet, IsSteady, calm_quiet, deed_of, deletes, settles, shuts, steadies}
+use Rattle.sb_laws.proofs.Deeds.{Deed, IsQuiet, IsSteady, calm_quiet, closed_steady, deed_of, deletes, settles, shuts, steadies}
 use Rattle.sb_laws.proofs.Eachs.{each_implied, is_equal}
 use Rattle.sb_laws.proofs.Entities.{IsOrdered, about_with_leaf}
 use Rattle.sb_laws.proofs.FoundOn.{found_on, put_in}
@@ -26,13 +26,15 @@ use Rattle.sb_machine.specs.Administration.{going_with}
 use Rattle.sb_machine.specs.Answers.{answer_in, changes_of, moment_of}
 use Rattle.sb_machine.specs.Changes.{after, after_all}
 use Rattle.sb_machine.specs.Consistent.{IsConsistent}
+use Rattle.sb_machine.specs.Delivery.{released}
 use Rattle.sb_machine.specs.Due.{closes_due, is_due}
 use Rattle.sb_machine.specs.Each.{Each}
 use Rattle.sb_machine.specs.History.{IsAllowed, IsLegal, IsLegalFrom, Log, after_entry, fresh_log, is_fault}
+use Rattle.sb_machine.specs.Leases.{is_under_session}
 use Rattle.sb_machine.specs.Keyed.{changed, with_sorted}
 use Rattle.sb_machine.specs.Leaves.{has_id, holder_new, is_held_under, leaf_after, session_in, taken}
 use Rattle.sb_machine.specs.Names.{is_before, is_same_entity}
-use Rattle.sb_machine.specs.Namespace.{entity_of, is_entity, key_of, leaf_of, with_leaf}
+use Rattle.sb_machine.specs.Namespace.{entity_of, is_entity, key_of, leaf_of, listed, with_leaf}
 use Rattle.sb_machine.specs.Repeats.{Outcome, acted, outcome_of, refused, repeated}
 use Rattle.sb_machine.specs.Sessions.{held_until, holder_in}
 use Rattle.sb_machine.specs.declared.call.Act.{Act}
@@ -164,11 +166,15 @@ module _ (key : SessionKey) where
       deed_ends : (reply : Reply) (cs : List Change) → answer ≡ Ok (New reply) → Deed l.state.space (moment_of l.state reading) call.act reply cs → EndsOrQuiet cs
       deed_ends reply cs said (steadies h) = inr (each_implied IsSteady (IsQuiet k key.leaf.entity) (λ c so. so.quiet k key.leaf.entity) cs h)
       deed_ends reply cs said (settles h) = inr (each_implied (IsCalm true) (IsQuiet k key.leaf.entity) (λ c so. calm_quiet true c k key.leaf.entity so) cs h)
-      deed_ends reply cs said (shuts from token leaf rest same done is h) = at (token.lock == k) refl where
+      deed_ends reply cs said (shuts from token e same done there is) = at (token.lock == k) refl where
         at : (b : Bool) → (token.lock == k) ≡ b → EndsOrQuiet cs
         at true own = inl (subst (λ (a : Result Answered Refusal). Frees key k l.state.space (Replied seat reading call a)) (sym (said ∙ ap (λ (r : Reply). Ok (New r)) done))
             (subst (λ (a : Act). Frees key k l.state.space (Replied seat reading (record { by = call.by; act = a }) (Ok (New Done)))) (sym same) (by_close (is_equal token.lock k own))))
-        at false other = inr (subst (Each (IsQuiet k key.leaf.entity)) (sym is) (other, each_implied IsSteady (IsQuiet k key.leaf.entity) (λ c so. so.quiet k key.leaf.entity) rest h))
+        at false other = inr (subst (Each (IsQuiet k key.leaf.entity)) (sym is) (
+          other,
+          each_implied IsSteady (IsQuiet k key.leaf.entity) (λ c so. so.quiet k key.leaf.entity)
+              (flat_map (λ c. released (listed l.state.space) (moment_of l.state reading) e from.part c false false) (filter (λ c. is_under_session token.lock c.standing) (leaf_of from.part e).copies)) (closed_steady l.state.space (moment_of l.state reading) e from.part token.lock),
+        ))
       deed_ends reply cs said (deletes path e same done there is) = at (list_any (is_entity key.leaf.entity) (e ∷ going_with l.state.space e)) refl where
         at : (b : Bool) → list_any (is_entity key.leaf.entity) (e ∷ going_with l.state.space e) ≡ b → EndsOrQuiet cs
         at true own = inl (subst (λ (a : Result Answered Refusal). Frees key k l.state.space (Replied seat reading call a)) (sym (said ∙ ap (λ (r : Reply). Ok (New r)) done))

@@ -121,7 +121,7 @@ first_none : (a b c d e : Bool) → not (a && b && c && d && e) ≡ false → a 
 first_none true b c d e so = refl
 first_none false b c d e so = absurd cc
 
-nothing_left : {X : Type 0} (xs ys : List X) → xs ++ ys ≡ [] → (xs ≡ []) × (ys ≡ [])
+pub nothing_left : {X : Type 0} (xs ys : List X) → xs ++ ys ≡ [] → (xs ≡ []) × (ys ≡ [])
 nothing_left [] ys e = (refl, e)
 nothing_left (x ∷ xs) ys e = absurd cc
 

@@ -243,7 +243,7 @@ tick_acts t s core =
 
 -- ---- calls and ticks
 
-fields_of : (s : Space) (t : ℕ) (by : Option By) (act : Act) (reply : Reply) (cs : List Change) → Fits s t by act reply cs → Fields Arrives IsPlain Lasts s act
+pub fields_of : (s : Space) (t : ℕ) (by : Option By) (act : Act) (reply : Reply) (cs : List Change) → Fits s t by act reply cs → Fields Arrives IsPlain Lasts s act
 fields_of s t by act reply cs fits = plain_fields s (is_via_in s act) act (first_none (bad_in_act (is_via_in s act) act) (bad_in_by act by) fits.fields).0
 
 acted_points : (s : State) (t : ℕ) (by : Option By) (act : Act) (reply : Reply) (cs : List Change) → IsOrderly s → s.now ≤ t → Fits s.space t by act reply cs → HasPoints t (after_all t cs s.space)

@@ -1,13 +1,13 @@
 -- A tick's four sweeps, each on what those before it leave.
 use Rattle.std.proofs.Common.{Bool, List, [], false, filter, nat_le, refl, subst, sym, true, ℕ, ◌&&◌, ◌++◌, ◌∙◌, ◌∷◌, ◌≡◌}
-use Rattle.std.specs.List.{flat_map}
+use Rattle.std.specs.List.{flat_map, list_any}
 use Rattle.sb_laws.proofs.AfterTick.{AreRunning, all_copies, all_sessions, both_each, flat_none, is_off, no_items, no_items_in, no_sessions, no_transactions, running_at, running_behind, transactions_rise_all}
 use Rattle.sb_laws.proofs.Carrying.{Carries, kept_by_all}
 use Rattle.sb_laws.proofs.Closing.{AreHeldOn, SessionsApart, has_run_out, held_behind, tick_apart}
 use Rattle.sb_laws.proofs.Eachs.{each_implied}
 use Rattle.sb_laws.proofs.Entities.{EachLeaf, IsOrdered, stays_ordered_all}
 use Rattle.sb_laws.proofs.NothingDue.{Lasts, LastsIn, carries, come_safe, expired_fine, expired_safe, lasts_travels, lock_safe, locks_fine, none_closed, not_come, not_expired, ordered, scheduled_fine, sessions_apart, sessions_on, under_no_ended}
-use Rattle.sb_laws.proofs.Swept.{AreFine, IsSafe, Test, fine_behind}
+use Rattle.sb_laws.proofs.Swept.{AreFine, IsSafe, Test, fine_behind, settles_copy}
 use Rattle.sb_laws.proofs.Tick.{IsOfTick, expired_of_tick, kept_by_tick, locks_of_tick, scheduled_of_tick, transactions_of_tick}
 use Rattle.sb_laws.specs.Sweepable.{IsSweepable}
 use Rattle.sb_machine.specs.Changes.{after, after_all}
@@ -30,19 +30,19 @@ after_append t (c ∷ cs) ds s = after_append t cs ds (after t c s)
 
 module _ (t : ℕ) (s : Space) (may : IsSweepable s) where
   -- the namespace behind each sweep
-  abbrev s1 : Space
+  abbrev pub s1 : Space
   s1 = after_all t (sweep_locks t s) s
 
-  abbrev s2 : Space
+  abbrev pub s2 : Space
   s2 = after_all t (sweep_expired t s1) s1
 
-  abbrev s3 : Space
+  abbrev pub s3 : Space
   s3 = after_all t (sweep_scheduled t s2) s2
 
-  abbrev s4 : Space
+  abbrev pub s4 : Space
   s4 = after_all t (due_transactions t s3) s3
 
-  behind_tick : after_all t (tick_changes t s) s ≡ s4
+  pub behind_tick : after_all t (tick_changes t s) s ≡ s4
   behind_tick =
       after_append t (sweep_locks t s) (then_also t (sweep_expired t) (then_also t (sweep_scheduled t) (due_transactions t)) s1) s
       ∙ after_append t (sweep_expired t s1) (then_also t (sweep_scheduled t) (due_transactions t) s2) s1
@@ -103,12 +103,17 @@ module _ (t : ℕ) (s : Space) (may : IsSweepable s) where
   fine_on : (q : Test) → ((c : Change) → IsOfTick Lasts false c → IsSafe q t c) → (key : LeafKey) (n : ℕ) (cs : List Change) (now : Space) → IsOrdered now → Each (IsOfTick Lasts false) cs → AreFine q key n now → AreFine q key n (after_all t cs now)
   fine_on q safe key n cs now o h fine = fine_behind q t key n cs now o (each_implied (IsOfTick Lasts false) (IsSafe q t) safe cs h) (λ none. fine)
 
+  -- so is what is fine where the first sweep settles nothing of it
+  pub fine_tick : (q : Test) → ((first_one : Bool) (c : Change) → IsOfTick Lasts first_one c → IsSafe q t c) → (key : LeafKey) (n : ℕ) → (list_any (settles_copy key n) (sweep_locks t s) ≡ false → AreFine q key n s) → AreFine q key n (after_all t (tick_changes t s) s)
+  fine_tick q safe key n fine =
+      let first_one = fine_behind q t key n (sweep_locks t s) s o0 (each_implied (IsOfTick Lasts true) (IsSafe q t) (safe true) (sweep_locks t s) of0) fine in
+      subst (λ (now : Space). AreFine q key n now) (sym behind_tick)
+      (fine_on q (safe false) key n (due_transactions t s3) s3 o3 of3
+      (fine_on q (safe false) key n (sweep_scheduled t s2) s2 o2 of2
+      (fine_on q (safe false) key n (sweep_expired t s1) s1 o1 of1 first_one)))
+
   locks4 : (key : LeafKey) (n : ℕ) → AreFine (under_no_ended t) key n s4
-  locks4 key n =
-      let first_one = fine_behind (under_no_ended t) t key n (sweep_locks t s) s o0 (each_implied (IsOfTick Lasts true) (IsSafe (under_no_ended t) t) (lock_safe t true) (sweep_locks t s) of0) (locks_fine key n t s) in
-      fine_on (under_no_ended t) (lock_safe t false) key n (due_transactions t s3) s3 o3 of3
-      (fine_on (under_no_ended t) (lock_safe t false) key n (sweep_scheduled t s2) s2 o2 of2
-      (fine_on (under_no_ended t) (lock_safe t false) key n (sweep_expired t s1) s1 o1 of1 first_one))
+  locks4 key n = subst (λ (now : Space). AreFine (under_no_ended t) key n now) behind_tick (fine_tick (under_no_ended t) (lock_safe t) key n (locks_fine key n t s))
 
   expired4 : (key : LeafKey) (n : ℕ) → AreFine (not_expired t) key n s4
   expired4 key n =

@@ -13,4 +13,6 @@ pub use laws::{
     moves_change, nothing_due_after, orderly_is_sweepable, same_act_exactly, starts_consistent,
     stays_orderly, ticks_orderly,
 };
-pub use once::{ends_once, in_order, once_ids, once_numbers, one_holder, spent_once, thin_same};
+pub use once::{
+    ends_once, in_order, once_ids, once_numbers, one_holder, spent_lived, spent_once, thin_same,
+};
