@@ -1,8 +1,8 @@
 -- What an entry that is answered anew says of its act's row.
-use Rattle.std.proofs.Common.{Bool, Err, List, None, Ok, Option, Result, Some, [], false, length, nat_lt, refl, subst, sym, true, ℕ, ◌==◌, ◌∙◌, ◌∷◌, ◌≡◌}
+use Rattle.std.proofs.Common.{Bool, Err, List, None, Ok, Option, Result, Some, false, length, nat_lt, refl, subst, sym, true, ℕ, ◌==◌, ◌∙◌, ◌≡◌}
 use Rattle.std.specs.Prelude.{MatchBool, if◌then◌else◌}
 use Rattle.sb_laws.proofs.Outcomes.{no_key}
-use Rattle.sb_laws.proofs.Rows.{Of, answered_so, refused_so}
+use Rattle.sb_laws.proofs.Rows.{Of, answered_so}
 use Rattle.sb_machine.specs.Acts.{act_row, bad_call, is_via_in, row_of}
 use Rattle.sb_machine.specs.Answers.{answer_in, answer_of, moment_of}
 use Rattle.sb_machine.specs.Changes.{is_numbered}
@@ -16,7 +16,6 @@ use Rattle.sb_machine.specs.declared.call.Act.{Act}
 use Rattle.sb_machine.specs.declared.call.By.{By}
 use Rattle.sb_machine.specs.declared.call.Call.{Call}
 use Rattle.sb_machine.specs.declared.change.Change.{Change}
-use Rattle.sb_machine.specs.declared.history.Entry.{Entry}
 use Rattle.sb_machine.specs.declared.history.Entry.TheVariants.{Answered as Replied}
 use Rattle.sb_machine.specs.declared.reply.Answered.{Answered}
 use Rattle.sb_machine.specs.declared.reply.Answered.TheVariants.{New}

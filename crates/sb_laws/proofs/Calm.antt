@@ -1,18 +1,18 @@
 -- The changes that deliver messages, and end and free copies, by settlements or not.
 use Rattle.std.proofs.Common.{Bool, List, None, Option, Some, [], false, filter, map, nat_le, nat_lt, not, refl, true, ℕ, ◌&&◌, ◌++◌, ◌+◌, ◌∷◌, ◌≡◌}
 use Rattle.std.specs.List.{flat_map}
-use Rattle.std.specs.Prelude.{find, if◌then◌else◌}
+use Rattle.std.specs.Prelude.{if◌then◌else◌}
 use Rattle.sb_laws.proofs.Eachs.{each_append, each_implied}
 use Rattle.sb_laws.proofs.Tick.{back_is_free, is_free}
 use Rattle.sb_machine.specs.Changes.{after, after_all, in_turn}
-use Rattle.sb_machine.specs.Delivery.{back_to, carried, dead_for, dead_lettered, delivered, expired, in_part, is_expired, landing, raised, released, visit_change, visit_key}
+use Rattle.sb_machine.specs.Delivery.{back_to, dead_for, dead_lettered, delivered, expired, in_part, is_expired, landing, raised, released, visit_change, visit_key}
 use Rattle.sb_machine.specs.Due.{Item, activated, due_expired, due_locks, due_scheduled, due_sessions, due_transactions, sweep_expired, sweep_locks, sweep_scheduled, then_also, tick_changes}
 use Rattle.sb_machine.specs.Each.{Each}
-use Rattle.sb_machine.specs.Leases.{is_under_session, was_deferred}
+use Rattle.sb_machine.specs.Leases.{was_deferred}
 use Rattle.sb_machine.specs.Leaves.{seq_or}
 use Rattle.sb_machine.specs.Messages.{text_of}
 use Rattle.sb_machine.specs.Names.{is_main, is_same_entity}
-use Rattle.sb_machine.specs.Namespace.{entity_of, key_of, last_at, leaf_of, listed}
+use Rattle.sb_machine.specs.Namespace.{entity_of, key_of, last_at, listed}
 use Rattle.sb_machine.specs.Reasons.{for_reason, with_reason}
 use Rattle.sb_machine.specs.Sending.{coming, entering, is_repeat, message_changes, noting, send_changes, unscheduled, waiting}
 use Rattle.sb_machine.specs.Settlement.{settled}
@@ -29,7 +29,6 @@ use Rattle.sb_machine.specs.declared.change.Change.TheVariants.{Drops, InLeaf, N
 use Rattle.sb_machine.specs.declared.change.Fresh.{Fresh}
 use Rattle.sb_machine.specs.declared.change.LeafChange.TheVariants.{Ends, Enters, Passes, Stands}
 use Rattle.sb_machine.specs.declared.change.LeafKey.{LeafKey}
-use Rattle.sb_machine.specs.declared.reason.DeadReason.{DeadReason}
 use Rattle.sb_machine.specs.declared.reason.DeadReason.TheVariants.{Expired, TooOften}
 use Rattle.sb_machine.specs.declared.state.Entity.{Entity}
 use Rattle.sb_machine.specs.declared.state.Listed.{Listed}

@@ -12,7 +12,7 @@ use Rattle.sb_machine.specs.Accounts.{entry_changes}
 use Rattle.sb_machine.specs.Administration.{going_with}
 use Rattle.sb_machine.specs.Answers.{changes_of, moment_of}
 use Rattle.sb_machine.specs.Delivery.{in_part, released}
-use Rattle.sb_machine.specs.Due.{closes_due, closes_in, due_sessions, is_due, tick_changes}
+use Rattle.sb_machine.specs.Due.{closes_due, closes_in, due_sessions, is_due}
 use Rattle.sb_machine.specs.Each.{Each, has_lock}
 use Rattle.sb_machine.specs.History.{Log, is_fault}
 use Rattle.sb_machine.specs.Leases.{is_under_session}

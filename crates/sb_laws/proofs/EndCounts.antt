@@ -1,14 +1,14 @@
 -- In one part: what a change makes live, ends and gives.
-use Rattle.std.proofs.Common.{List, None, Option, Some, [], ap, arith, false, length, nat_le, refl, true, ℕ, ◌&&◌, ◌++◌, ◌+◌, ◌==◌, ◌∙◌, ◌∷◌, ◌≡◌, ◌≤◌, Bool}
+use Rattle.std.proofs.Common.{List, None, Option, Some, [], ap, arith, false, length, nat_le, refl, true, ℕ, ◌&&◌, ◌+◌, ◌==◌, ◌∙◌, ◌∷◌, ◌≡◌, ◌≤◌, Bool}
 use Rattle.std.proofs.lemmas.Bool.Decides.{nat_tests}
 use Rattle.std.proofs.lemmas.List.{length-append}
 use Rattle.std.proofs.lemmas.List.Sums.{sum_by-append}
-use Rattle.std.specs.Prelude.{find, sum_by}
+use Rattle.std.specs.Prelude.{find}
 use Rattle.sb_laws.proofs.Lists.{changed_none, changed_sum, found_behind, found_here, sum_single}
 use Rattle.sb_laws.proofs.Sameness.{numbers_equal, part_same}
 use Rattle.sb_laws.specs.Counting.{one, times}
 use Rattle.sb_laws.specs.Ended.{is_end, is_leaf, times_ended}
-use Rattle.sb_machine.specs.Ends.{End, ended, ended_copy, leaf_ends}
+use Rattle.sb_machine.specs.Ends.{ended, ended_copy, leaf_ends}
 use Rattle.sb_machine.specs.Keyed.{changed}
 use Rattle.sb_machine.specs.Leaves.{copies_given, copy_in, has_number, is_deferred, leaf_after, prolonged_standing, stored}
 use Rattle.sb_machine.specs.declared.change.Cause.{Cause}

@@ -1,11 +1,11 @@
 -- A number is given once and ends once.
-use Rattle.std.proofs.Common.{Bool, List, None, Option, Some, [], ap, arith, false, filter, length, map, nat_le, not, refl, rules, subst, sym, true, ℕ, ◌++◌, ◌+◌, ◌<◌, ◌==◌, ◌∙◌, ◌∷◌, ◌≡◌, ◌≤◌}
+use Rattle.std.proofs.Common.{Bool, List, None, Option, Some, [], ap, arith, false, filter, length, nat_le, not, refl, true, ℕ, ◌++◌, ◌+◌, ◌==◌, ◌∷◌, ◌≡◌, ◌≤◌}
 use Rattle.std.proofs.lemmas.Bool.Decides.{nat_tests}
 use Rattle.std.proofs.lemmas.List.{length-append, length-map}
 use Rattle.std.proofs.lemmas.List.Filters.{sum_by-filter_both}
 use Rattle.std.proofs.lemmas.List.Sums.{sum_by-append, sum_by-cons}
 use Rattle.std.specs.List.{flat_map}
-use Rattle.std.specs.Prelude.{find, if◌then◌else◌, sum_by}
+use Rattle.std.specs.Prelude.{find, sum_by}
 use Rattle.sb_laws.proofs.Along.{kept_over}
 use Rattle.sb_laws.proofs.Consistency.{consistent_is_sweepable}
 use Rattle.sb_laws.proofs.Eachs.{is_equal, rising_bound}
@@ -24,7 +24,6 @@ use Rattle.sb_machine.specs.Each.{Each}
 use Rattle.sb_machine.specs.Ends.{End, ends_in, leaf_ends, removed_in, removed_with}
 use Rattle.sb_machine.specs.History.{fresh_log, state_after}
 use Rattle.sb_machine.specs.Keyed.{AreRising}
-use Rattle.sb_machine.specs.Leaves.{leaf_after}
 use Rattle.sb_machine.specs.Namespace.{entity_of, is_entity, leaf_of, live, live_in, made, made_in, new_entity}
 use Rattle.sb_machine.specs.declared.call.Part.TheVariants.{Dead, Main, Transfer}
 use Rattle.sb_machine.specs.declared.change.Change.{Change}

@@ -4,11 +4,11 @@ use Rattle.std.proofs.lemmas.Bool.Decides.{nat_tests}
 use Rattle.std.proofs.lemmas.List.Sums.{sum_by-append, sum_by-cons}
 use Rattle.std.specs.List.{flat_map}
 use Rattle.std.specs.Prelude.{find, if◌then◌else◌, sum_by}
-use Rattle.sb_laws.proofs.EndCounts.{ended_elsewhere, given, itself, leaf_counts, live_number}
+use Rattle.sb_laws.proofs.EndCounts.{ended_elsewhere, given, leaf_counts, live_number}
 use Rattle.sb_laws.proofs.Eachs.{each_found, is_equal, rising_above}
 use Rattle.sb_laws.proofs.Entities.{IsOrdered, about_with_leaf, entity_number}
 use Rattle.sb_laws.proofs.Lists.{changed_none, changed_sum, found_append, found_changed, found_first, found_passes, sum_single}
-use Rattle.sb_laws.proofs.Sameness.{numbers_equal, two}
+use Rattle.sb_laws.proofs.Sameness.{two}
 use Rattle.sb_laws.proofs.Swept.{leaf_of_own, leaf_of_with, same_part}
 use Rattle.sb_laws.specs.Counting.{one, times}
 use Rattle.sb_laws.specs.Ended.{is_end, is_leaf, live_here, times_ended, times_live}

@@ -1,16 +1,16 @@
 -- Behind a tick, and behind the close of a session, each copy under a session's lock names its holder again.
-use Rattle.std.proofs.Common.{Bool, List, None, Option, Some, [], ap, arith, false, filter, inl, inr, nat_le, not, refl, subst, sym, true, ℕ, ◌&&◌, ◌++◌, ◌+◌, ◌==◌, ◌||◌, ◌∙◌, ◌∷◌, ◌≡◌, ◌≤◌}
+use Rattle.std.proofs.Common.{Bool, List, None, Option, Some, [], ap, false, filter, inl, inr, nat_le, not, refl, subst, sym, true, ℕ, ◌&&◌, ◌++◌, ◌==◌, ◌||◌, ◌∙◌, ◌∷◌, ◌≡◌, ◌≤◌}
 use Rattle.std.specs.List.{flat_map, list_any}
-use Rattle.std.specs.Prelude.{find, if◌then◌else◌, ◌⊎◌}
+use Rattle.std.specs.Prelude.{find, if◌then◌else◌}
 use Rattle.sb_laws.proofs.AfterTick.{swapped}
 use Rattle.sb_laws.proofs.Anyone.{each_any}
 use Rattle.sb_laws.proofs.Calm.{IsCalm, calm_drops, calm_ends, calm_enters, calm_frees, calm_notes, calm_passes, flat_all, is_unheld, released_calm, tick_each}
-use Rattle.sb_laws.proofs.Carrying.{Carries, each_flat, each_mapped, item, kept_by_all, listed_carried}
+use Rattle.sb_laws.proofs.Carrying.{each_flat, each_mapped, item, kept_by_all, listed_carried}
 use Rattle.sb_laws.proofs.Deeds.{free_unheld}
-use Rattle.sb_laws.proofs.Eachs.{each_append, each_both, each_by_key, each_filter, each_found, each_implied, each_of_all, is_equal}
+use Rattle.sb_laws.proofs.Eachs.{each_append, each_both, each_by_key, each_filter, each_found, each_implied, each_of_all}
 use Rattle.sb_laws.proofs.EndCounts.{itself}
 use Rattle.sb_laws.proofs.Ending.{one_key}
-use Rattle.sb_laws.proofs.Entities.{EachLeaf, IsOrdered, copy_number, entity_number, leaf_each}
+use Rattle.sb_laws.proofs.Entities.{EachLeaf, copy_number, entity_number, leaf_each}
 use Rattle.sb_laws.proofs.Loose.{Exempt, HoldsFit, IsHeldOr, Loose, LooseIn, loose_change, loose_later, under_exempt}
 use Rattle.sb_laws.proofs.Mild.{IsCarried, raised_most, released_mild, released_settles}
 use Rattle.sb_laws.proofs.NothingDue.{IsOther, Lasts, LastsIn, carries, clash, here_fine, lasts_travels, locks_settled, not_at, ordered, others_in, safe_of}
@@ -21,24 +21,21 @@ use Rattle.sb_laws.proofs.Swept.{AreFine, IsSafe, Test, fine_behind, settles_cop
 use Rattle.sb_laws.proofs.Tick.{IsOfTick, back_is_free, tick_closes, tick_frees, tick_mild}
 use Rattle.sb_laws.specs.Ended.{is_leaf}
 use Rattle.sb_laws.specs.Sweepable.{IsSweepable}
-use Rattle.sb_machine.specs.Changes.{after, after_all}
+use Rattle.sb_machine.specs.Changes.{after_all}
 use Rattle.sb_machine.specs.Delivery.{back_to, in_part, raised, released}
-use Rattle.sb_machine.specs.Due.{closes_due, closes_in, due_sessions, items_in, sweep_locks, tick_changes}
+use Rattle.sb_machine.specs.Due.{closes_due, closes_in, due_sessions, items_in, tick_changes}
 use Rattle.sb_machine.specs.Each.{Each}
-use Rattle.sb_machine.specs.Fit.{IsHold}
 use Rattle.sb_machine.specs.Leases.{has_ended, is_ended_holder, is_under_session}
 use Rattle.sb_machine.specs.Namespace.{entity_of, key_of, leaf_of, listed}
 use Rattle.sb_machine.specs.Sessions.{closed}
 use Rattle.sb_machine.specs.declared.call.Part.{Part}
 use Rattle.sb_machine.specs.declared.call.Part.TheVariants.{Dead, Main, Transfer}
 use Rattle.sb_machine.specs.declared.change.Change.{Change}
-use Rattle.sb_machine.specs.declared.change.Change.TheVariants.{InLeaf}
 use Rattle.sb_machine.specs.declared.change.LeafChange.TheVariants.{Closes}
 use Rattle.sb_machine.specs.declared.change.LeafKey.{LeafKey}
 use Rattle.sb_machine.specs.declared.state.Entity.{Entity}
 use Rattle.sb_machine.specs.declared.state.Hold.TheVariants.{Until, Session as UnderSession}
 use Rattle.sb_machine.specs.declared.state.Holder.{Holder}
-use Rattle.sb_machine.specs.declared.state.Leaf.{Leaf}
 use Rattle.sb_machine.specs.declared.state.Session.{Session}
 use Rattle.sb_machine.specs.declared.state.Space.{Space}
 use Rattle.sb_machine.specs.declared.state.Standing.{Standing}

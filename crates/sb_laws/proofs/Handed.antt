@@ -9,11 +9,11 @@ use Rattle.sb_laws.proofs.Entities.{EachLeaf, IsOrdered, LeafRises, copy_number,
 use Rattle.sb_laws.proofs.Lists.{found_behind, found_here}
 use Rattle.sb_laws.proofs.NothingDue.{ordered}
 use Rattle.sb_laws.proofs.Rows.{Of, answered_so, asked, refused_so, with_receivable}
-use Rattle.sb_laws.specs.Handed.{AreHandedInOrder, IsFirst, IsHandedInOrder, is_ready_of}
+use Rattle.sb_laws.specs.Handed.{AreHandedInOrder, IsFirst, IsHandedInOrder}
 use Rattle.sb_machine.specs.Accounts.{entry_changes, moment_in}
 use Rattle.sb_machine.specs.Acts.{act_row}
 use Rattle.sb_machine.specs.Answers.{moment_of}
-use Rattle.sb_machine.specs.Claims.{Claim, asks_holder, asks_session, claim_of, claiming, has_sessions}
+use Rattle.sb_machine.specs.Claims.{claim_of, claiming, has_sessions}
 use Rattle.sb_machine.specs.Consistent.{IsConsistent}
 use Rattle.sb_machine.specs.Each.{Each}
 use Rattle.sb_machine.specs.History.{IsAllowed, IsLegal, IsLegalFrom, Log, after_entry, fresh_log}
@@ -32,7 +32,6 @@ use Rattle.sb_machine.specs.declared.change.Change.{Change}
 use Rattle.sb_machine.specs.declared.history.Entry.{Entry}
 use Rattle.sb_machine.specs.declared.history.Entry.TheVariants.{Ticked, Answered as Replied}
 use Rattle.sb_machine.specs.declared.reply.CopyShown.{CopyShown}
-use Rattle.sb_machine.specs.declared.reply.Refusal.{Refusal}
 use Rattle.sb_machine.specs.declared.reply.Refusal.TheVariants.{SessionNotAllowed}
 use Rattle.sb_machine.specs.declared.reply.Reply.{Reply}
 use Rattle.sb_machine.specs.declared.reply.Reply.TheVariants.{Message as Given}

@@ -1,12 +1,12 @@
 -- A session keeps its holder through each change that doesn't close it or remove its entity.
-use Rattle.std.proofs.Common.{Bool, List, None, Option, Some, [], ap, arith, false, filter, not, refl, subst, sym, true, ℕ, ◌++◌, ◌+◌, ◌==◌, ◌∙◌, ◌∷◌, ◌≡◌}
+use Rattle.std.proofs.Common.{Bool, List, None, Option, Some, [], ap, arith, false, refl, subst, sym, true, ℕ, ◌++◌, ◌+◌, ◌==◌, ◌∙◌, ◌∷◌, ◌≡◌}
 use Rattle.std.proofs.lemmas.Bool.Decides.{nat_tests}
 use Rattle.std.specs.Prelude.{bytes_eq, find, if◌then◌else◌, is_some}
 use Rattle.sb_laws.proofs.Deeds.{IsQuiet}
 use Rattle.sb_laws.proofs.Ending.{other_stays}
 use Rattle.sb_laws.proofs.Entities.{about_with_leaf}
 use Rattle.sb_laws.proofs.FoundOn.{found_on, put_in}
-use Rattle.sb_laws.proofs.Lists.{found_append, found_behind, found_first, found_here, found_passes}
+use Rattle.sb_laws.proofs.Lists.{found_append, found_behind, found_first, found_here}
 use Rattle.sb_laws.proofs.Placed.{found_past}
 use Rattle.sb_laws.proofs.Sameness.{same_bytes}
 use Rattle.sb_laws.proofs.Swept.{leaf_of_own, leaf_of_with, same_part}

@@ -1,5 +1,5 @@
 -- Clients' numbers, without the acts and replies that are kept with them.
-use Rattle.std.proofs.Common.{Bool, List, None, Option, Some, [], ap, arith, false, length, map, nat_lt, refl, subst, sym, true, ℕ, ◌<◌, ◌==◌, ◌∙◌, ◌∷◌, ◌≡◌}
+use Rattle.std.proofs.Common.{Bool, List, None, Option, Some, [], ap, arith, false, length, nat_lt, refl, subst, sym, true, ℕ, ◌<◌, ◌==◌, ◌∙◌, ◌∷◌, ◌≡◌}
 use Rattle.std.proofs.lemmas.Bool.Decides.{nat_tests}
 use Rattle.std.proofs.lemmas.List.{length-map}
 use Rattle.std.specs.Prelude.{bytes_eq, find, if◌then◌else◌, is_some}
@@ -10,7 +10,7 @@ use Rattle.sb_machine.specs.Accounts.{Numbered}
 use Rattle.sb_machine.specs.Answers.{keeping, kept_as, with_kept}
 use Rattle.sb_machine.specs.Keyed.{changed, with_sorted}
 use Rattle.sb_machine.specs.Names.{is_before}
-use Rattle.sb_machine.specs.Repeats.{Outcome, against, by_number, for_client, is_client, kept_for, max_clients, refused, repeated}
+use Rattle.sb_machine.specs.Repeats.{Outcome, by_number, for_client, is_client, kept_for, max_clients, refused, repeated}
 use Rattle.sb_machine.specs.Same.{same_act}
 use Rattle.sb_machine.specs.declared.call.Act.{Act}
 use Rattle.sb_machine.specs.declared.call.By.{By}

@@ -2,10 +2,9 @@
 use Rattle.std.proofs.Common.{Bool, List, None, Option, Some, [], ap, arith, false, filter, inl, inr, map, nat_le, nat_lt, not, refl, subst, sym, true, ℕ, ◌&&◌, ◌++◌, ◌+◌, ◌==◌, ◌||◌, ◌∙◌, ◌∷◌, ◌≡◌}
 use Rattle.std.proofs.lemmas.Bool.Decides.{nat_tests}
 use Rattle.std.specs.List.{flat_map, list_any}
-use Rattle.std.specs.Prelude.{find, if◌then◌else◌, ◌⊎◌}
-use Rattle.sb_laws.proofs.Anyone.{any_append, any_changed, any_found, any_gone, or_left, or_map, or_right}
-use Rattle.sb_laws.proofs.Calm.{IsCalm, calm_drops, calm_ends, calm_enters, calm_frees, calm_notes, calm_passes, is_unheld}
-use Rattle.sb_laws.proofs.Carrying.{flat_each}
+use Rattle.std.specs.Prelude.{if◌then◌else◌}
+use Rattle.sb_laws.proofs.Anyone.{any_append, any_changed, any_found, any_gone, or_left, or_map}
+use Rattle.sb_laws.proofs.Calm.{IsCalm, calm_drops, calm_ends, calm_enters, calm_frees, calm_notes, calm_passes}
 use Rattle.sb_laws.proofs.Deeds.{IsUnspent, free_unheld, unheld_lock}
 use Rattle.sb_laws.proofs.Dueness.{found_none}
 use Rattle.sb_laws.proofs.Eachs.{each_append, each_both, each_implied}
@@ -13,14 +12,13 @@ use Rattle.sb_laws.proofs.Freed.{AreNamed, none_exempt}
 use Rattle.sb_laws.proofs.Loose.{IsHeldOr, LooseIn, under_exempt}
 use Rattle.sb_laws.proofs.Opening.{nothing_left}
 use Rattle.sb_laws.proofs.Sameness.{two}
-use Rattle.sb_machine.specs.Changes.{after, after_all, along, noted}
+use Rattle.sb_machine.specs.Changes.{after, along, noted}
 use Rattle.sb_machine.specs.Delivery.{in_part}
-use Rattle.sb_machine.specs.Due.{Item, closes_due, closes_in, due_expired, due_locks, due_scheduled, due_sessions, due_transactions, is_due, is_none_in, items_in, items_of}
+use Rattle.sb_machine.specs.Due.{closes_due, closes_in, due_expired, due_locks, due_scheduled, due_sessions, due_transactions, is_due, is_none_in, items_in, items_of}
 use Rattle.sb_machine.specs.Each.{Each, has_lock, is_text_of}
 use Rattle.sb_machine.specs.Ends.{leaf_spends, lock_in, lock_of, spends_in}
 use Rattle.sb_machine.specs.Fit.{IsHold}
-use Rattle.sb_machine.specs.Keyed.{changed}
-use Rattle.sb_machine.specs.Leases.{has_ended, is_living, is_living_holder, lasts, lives, lives_in_leaf}
+use Rattle.sb_machine.specs.Leases.{has_ended, is_living, is_living_holder, lives, lives_in_leaf}
 use Rattle.sb_machine.specs.Leaves.{copy_in, has_number, is_held_under, leaf_after, stored}
 use Rattle.sb_machine.specs.Messages.{text_of}
 use Rattle.sb_machine.specs.Namespace.{entity_of, is_entity, key_of, leaf_of, with_leaf}
@@ -32,7 +30,6 @@ use Rattle.sb_machine.specs.declared.change.LeafChange.{LeafChange}
 use Rattle.sb_machine.specs.declared.change.LeafChange.TheVariants.{Closes, Ends, Enters, Holds, Opens, Passes, Prolongs, Renews, Stands, Writes}
 use Rattle.sb_machine.specs.declared.change.LeafKey.{LeafKey}
 use Rattle.sb_machine.specs.declared.state.Entity.{Entity}
-use Rattle.sb_machine.specs.declared.state.Hold.{Hold}
 use Rattle.sb_machine.specs.declared.state.Hold.TheVariants.{Until, Session as UnderSession}
 use Rattle.sb_machine.specs.declared.state.Holder.{Holder}
 use Rattle.sb_machine.specs.declared.state.Leaf.{Leaf}

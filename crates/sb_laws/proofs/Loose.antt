@@ -1,7 +1,7 @@
 -- Copies under the locks of sessions, as each change keeps them: each names its session's holder, but for those that are exempt.
-use Rattle.std.proofs.Common.{Bool, List, None, Option, Some, [], ap, arith, false, inl, inr, refl, rules, subst, sym, true, ℕ, ◌&&◌, ◌+◌, ◌==◌, ◌∙◌, ◌∷◌, ◌≡◌, ◌≤◌, ◌||◌}
+use Rattle.std.proofs.Common.{Bool, List, None, Option, Some, [], arith, false, inl, inr, refl, subst, sym, true, ℕ, ◌&&◌, ◌+◌, ◌==◌, ◌∙◌, ◌∷◌, ◌≡◌, ◌≤◌}
 use Rattle.std.specs.List.{list_any}
-use Rattle.std.specs.Prelude.{find, is_some, ◌⊎◌}
+use Rattle.std.specs.Prelude.{is_some, ◌⊎◌}
 use Rattle.sb_laws.proofs.Anyone.{any_kept, any_placed, or_left}
 use Rattle.sb_laws.proofs.Calm.{is_unheld}
 use Rattle.sb_laws.proofs.Eachs.{each_append, each_changed, each_implied, is_equal}
@@ -26,7 +26,6 @@ use Rattle.sb_machine.specs.declared.change.LeafChange.{LeafChange}
 use Rattle.sb_machine.specs.declared.change.LeafChange.TheVariants.{Closes, Ends, Enters, Holds, Opens, Passes, Prolongs, Renews, Stands, Writes}
 use Rattle.sb_machine.specs.declared.change.LeafKey.{LeafKey}
 use Rattle.sb_machine.specs.declared.state.Entity.{Entity}
-use Rattle.sb_machine.specs.declared.state.Hold.{Hold}
 use Rattle.sb_machine.specs.declared.state.Hold.TheVariants.{Until, Session as UnderSession}
 use Rattle.sb_machine.specs.declared.state.Leaf.{Leaf}
 use Rattle.sb_machine.specs.declared.state.Listed.{Listed}

@@ -1,5 +1,5 @@
 -- In every state of a legal history each copy under a session's lock names that session's holder.
-use Rattle.std.proofs.Common.{Bool, List, None, Option, Some, [], arith, false, inl, map, not, refl, subst, sym, true, ℕ, ◌+◌, ◌==◌, ◌∙◌, ◌∷◌, ◌≡◌, ◌≤◌}
+use Rattle.std.proofs.Common.{Bool, List, Option, Some, [], arith, false, inl, map, refl, subst, sym, true, ℕ, ◌+◌, ◌∙◌, ◌∷◌, ◌≡◌, ◌≤◌}
 use Rattle.std.specs.Prelude.{if◌then◌else◌}
 use Rattle.sb_laws.proofs.Calm.{IsCalm}
 use Rattle.sb_laws.proofs.Carried.{IsOfAct, act_closes, act_drops, act_ends, act_enters, act_frees, act_notes, act_passes, act_waits}
@@ -20,13 +20,13 @@ use Rattle.sb_machine.specs.Administration.{going_with}
 use Rattle.sb_machine.specs.Answers.{is_change, keeping, moment_of, state_in, state_of}
 use Rattle.sb_machine.specs.Changes.{after_all}
 use Rattle.sb_machine.specs.Consistent.{IsConsistent}
-use Rattle.sb_machine.specs.Due.{is_due, tick_changes}
+use Rattle.sb_machine.specs.Due.{is_due}
 use Rattle.sb_machine.specs.Each.{Each}
 use Rattle.sb_machine.specs.Fit.{IsCopy, IsEntity, IsHold}
 use Rattle.sb_machine.specs.History.{IsAllowed, Log, after_entry, is_fault}
 use Rattle.sb_machine.specs.Leaves.{copy_in}
 use Rattle.sb_machine.specs.Names.{is_same_entity}
-use Rattle.sb_machine.specs.Namespace.{entity_of, key_of, leaf_of}
+use Rattle.sb_machine.specs.Namespace.{key_of, leaf_of}
 use Rattle.sb_machine.specs.Queueing.{deadline_with, txn_life}
 use Rattle.sb_machine.specs.Repeats.{Outcome, acted, client_of, outcome_of, refused, repeated}
 use Rattle.sb_machine.specs.declared.call.Act.{Act}
@@ -40,7 +40,6 @@ use Rattle.sb_machine.specs.declared.history.Entry.{Entry}
 use Rattle.sb_machine.specs.declared.history.Entry.TheVariants.{Ticked, Answered as Replied}
 use Rattle.sb_machine.specs.declared.reply.Reply.{Reply}
 use Rattle.sb_machine.specs.declared.state.Entity.{Entity}
-use Rattle.sb_machine.specs.declared.state.Leaf.{Leaf}
 use Rattle.sb_machine.specs.declared.state.Space.{Space}
 use Rattle.sb_machine.specs.declared.state.Standing.TheVariants.{Held}
 use Rattle.sb_machine.specs.declared.state.State.{State}

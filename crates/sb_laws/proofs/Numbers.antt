@@ -1,8 +1,7 @@
 -- A client's numbers rise.
 use Rattle.std.proofs.Common.{Bool, List, None, Option, Some, [], ap, arith, false, not, refl, subst, sym, true, ℕ, ◌&&◌, ◌++◌, ◌+◌, ◌<◌, ◌==◌, ◌∙◌, ◌∷◌, ◌≡◌, ◌≤◌}
-use Rattle.std.proofs.lemmas.Bool.Decides.{nat_tests}
 use Rattle.std.proofs.lemmas.List.Sums.{sum_by-cons}
-use Rattle.std.specs.Prelude.{bytes_eq, find, if◌then◌else◌, is_some, sum_by}
+use Rattle.std.specs.Prelude.{bytes_eq, if◌then◌else◌}
 use Rattle.sb_laws.proofs.Eachs.{is_equal}
 use Rattle.sb_laws.proofs.Lists.{found_changed, found_other}
 use Rattle.sb_laws.proofs.Outcomes.{Comes, IsNewer, comes, comes_acted, first_of, later_of}

@@ -1,7 +1,7 @@
 -- Until its lock has ended, a session is accepted by nobody else.
 use Rattle.std.proofs.Common.{Bool, List, None, Ok, Option, Result, Some, [], ap, false, filter, inl, inr, map, not, refl, subst, sym, true, ℕ, ◌&&◌, ◌+◌, ◌==◌, ◌∙◌, ◌∷◌, ◌≡◌}
 use Rattle.std.specs.List.{flat_map, list_any}
-use Rattle.std.specs.Prelude.{bytes_eq, find, if◌then◌else◌, ◌⊎◌}
+use Rattle.std.specs.Prelude.{find, if◌then◌else◌, ◌⊎◌}
 use Rattle.sb_laws.proofs.Along.{space_after}
 use Rattle.sb_laws.proofs.Answered.{machine_answer}
 use Rattle.sb_laws.proofs.Calm.{IsCalm}
@@ -32,7 +32,7 @@ use Rattle.sb_machine.specs.Each.{Each}
 use Rattle.sb_machine.specs.History.{IsAllowed, IsLegal, IsLegalFrom, Log, after_entry, fresh_log, is_fault}
 use Rattle.sb_machine.specs.Leases.{is_under_session}
 use Rattle.sb_machine.specs.Keyed.{changed, with_sorted}
-use Rattle.sb_machine.specs.Leaves.{has_id, holder_new, is_held_under, leaf_after, session_in, taken}
+use Rattle.sb_machine.specs.Leaves.{has_id, holder_new, leaf_after, session_in, taken}
 use Rattle.sb_machine.specs.Names.{is_before, is_same_entity}
 use Rattle.sb_machine.specs.Namespace.{entity_of, is_entity, key_of, leaf_of, listed, with_leaf}
 use Rattle.sb_machine.specs.Repeats.{Outcome, acted, outcome_of, refused, repeated}
@@ -42,7 +42,7 @@ use Rattle.sb_machine.specs.declared.call.Call.{Call}
 use Rattle.sb_machine.specs.declared.call.Part.{Part}
 use Rattle.sb_machine.specs.declared.change.Change.{Change}
 use Rattle.sb_machine.specs.declared.change.Change.TheVariants.{InLeaf, Removes}
-use Rattle.sb_machine.specs.declared.change.LeafChange.TheVariants.{Closes, Opens}
+use Rattle.sb_machine.specs.declared.change.LeafChange.TheVariants.{Opens}
 use Rattle.sb_machine.specs.declared.change.LeafKey.{LeafKey}
 use Rattle.sb_machine.specs.declared.history.Entry.{Entry}
 use Rattle.sb_machine.specs.declared.history.Entry.TheVariants.{Ticked, Answered as Replied}

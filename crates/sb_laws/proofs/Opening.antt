@@ -1,76 +1,49 @@
 -- Ticks at which a lock hasn't run out, and sessions that are accepted where nothing is due.
-use Rattle.std.proofs.Common.{Bool, List, None, Ok, Option, Result, Some, [], ap, arith, false, inl, inr, map, nat_le, nat_lt, not, refl, subst, sym, true, ℕ, ◌&&◌, ◌++◌, ◌+◌, ◌==◌, ◌||◌, ◌∙◌, ◌∷◌, ◌≡◌}
+use Rattle.std.proofs.Common.{Bool, List, None, Option, Result, Some, [], ap, arith, false, nat_le, nat_lt, not, refl, subst, sym, true, ℕ, ◌&&◌, ◌++◌, ◌+◌, ◌==◌, ◌||◌, ◌∙◌, ◌∷◌, ◌≡◌}
 use Rattle.std.proofs.lemmas.Bool.Decides.{nat_tests}
 use Rattle.std.specs.List.{flat_map, list_any}
-use Rattle.std.specs.Prelude.{MatchBool, bytes_eq, find, if◌then◌else◌, ◌⊎◌}
-use Rattle.sb_laws.proofs.Along.{space_after}
+use Rattle.std.specs.Prelude.{find, if◌then◌else◌}
 use Rattle.sb_laws.proofs.Answered.{accepted_so, acted_row, answered_in, answered_new}
 use Rattle.sb_laws.proofs.Anyone.{neither}
-use Rattle.sb_laws.proofs.Calm.{IsCalm, tick_each}
-use Rattle.sb_laws.proofs.Carrying.{kept_by_all}
-use Rattle.sb_laws.proofs.Consistency.{consistent_is_sweepable}
-use Rattle.sb_laws.proofs.Deeds.{Deed, IsQuiet, IsSteady, calm_quiet, deed_of, deletes, settles, shuts, steadies}
+use Rattle.sb_laws.proofs.Calm.{tick_each}
+use Rattle.sb_laws.proofs.Deeds.{IsQuiet, calm_quiet}
 use Rattle.sb_laws.proofs.Dueness.{found_none}
-use Rattle.sb_laws.proofs.Eachs.{each_append, each_implied}
-use Rattle.sb_laws.proofs.Entities.{IsOrdered}
-use Rattle.sb_laws.proofs.FoundOn.{found_on, put_in}
-use Rattle.sb_laws.proofs.Handed.{ordered_after}
-use Rattle.sb_laws.proofs.Holding.{HeldBy, HeldIn, held_after}
-use Rattle.sb_laws.proofs.Lists.{found_behind, found_changed, found_here, found_passes}
-use Rattle.sb_laws.proofs.Moves.{by_number}
-use Rattle.sb_laws.proofs.NothingDue.{ordered}
-use Rattle.sb_laws.proofs.Placed.{found_placed}
+use Rattle.sb_laws.proofs.Eachs.{each_append}
+use Rattle.sb_laws.proofs.Lists.{found_behind, found_here}
 use Rattle.sb_laws.proofs.Rows.{Of, answered_so, asked, refused_so, with_receivable}
-use Rattle.sb_laws.proofs.Sameness.{bytes_same, numbers_equal}
-use Rattle.sb_laws.proofs.Swept.{leaf_of_own}
 use Rattle.sb_laws.proofs.Ways.{free_one}
-use Rattle.sb_laws.specs.Holders.{Accepts, AcceptsBy, AreHeldAlone, Frees, HeldAlone, SessionKey, by_close, by_delete, by_time, has_ended_in, has_run_out}
-use Rattle.sb_machine.specs.Accounts.{entry_changes, moment_in}
+use Rattle.sb_laws.specs.Holders.{AcceptsBy, SessionKey, has_ended_in, has_run_out}
 use Rattle.sb_machine.specs.Acts.{act_row}
-use Rattle.sb_machine.specs.Administration.{going_with}
-use Rattle.sb_machine.specs.Answers.{answer_in, answer_of, changes_of, moment_of}
-use Rattle.sb_machine.specs.Changes.{after, after_all}
+use Rattle.sb_machine.specs.Answers.{moment_of}
 use Rattle.sb_machine.specs.Claims.{has_sessions}
-use Rattle.sb_machine.specs.Consistent.{IsConsistent}
 use Rattle.sb_machine.specs.Delivery.{in_part}
 use Rattle.sb_machine.specs.Due.{closes_due, closes_in, due_expired, due_locks, due_scheduled, due_sessions, due_transactions, is_due, is_none_in, tick_changes}
 use Rattle.sb_machine.specs.Each.{Each}
-use Rattle.sb_machine.specs.History.{IsAllowed, IsAnswer, IsLegal, IsLegalFrom, Log, after_entry, fresh_log, is_fault, is_stopped}
-use Rattle.sb_machine.specs.Keyed.{changed, with_sorted}
+use Rattle.sb_machine.specs.History.{IsAllowed, Log}
 use Rattle.sb_machine.specs.Leases.{is_ended_holder}
-use Rattle.sb_machine.specs.Leaves.{has_id, holder_new, is_held_under, leaf_after, session_in, taken}
-use Rattle.sb_machine.specs.Names.{is_before}
-use Rattle.sb_machine.specs.Namespace.{entity_at, entity_of, is_entity, key_of, leaf_of, with_leaf}
+use Rattle.sb_machine.specs.Namespace.{entity_at, key_of, leaf_of}
 use Rattle.sb_machine.specs.Receiving.{lock_end, next_token}
-use Rattle.sb_machine.specs.Repeats.{Outcome, acted, outcome_of, refused, repeated}
-use Rattle.sb_machine.specs.Rows.{Row, answers}
+use Rattle.sb_machine.specs.Repeats.{acted, outcome_of}
+use Rattle.sb_machine.specs.Rows.{answers}
 use Rattle.sb_machine.specs.Sessions.{accept_row, accepted_named, accepted_next, accepting, held_until, holder_in, next_session}
 use Rattle.sb_machine.specs.declared.call.Act.{Act}
-use Rattle.sb_machine.specs.declared.call.Act.TheVariants.{Accept}
-use Rattle.sb_machine.specs.declared.call.By.{By}
 use Rattle.sb_machine.specs.declared.call.Call.{Call}
 use Rattle.sb_machine.specs.declared.call.Part.{Part}
 use Rattle.sb_machine.specs.declared.call.Part.TheVariants.{Dead, Main, Transfer}
 use Rattle.sb_machine.specs.declared.call.Path.{Path}
 use Rattle.sb_machine.specs.declared.call.Token.{Token}
 use Rattle.sb_machine.specs.declared.change.Change.{Change}
-use Rattle.sb_machine.specs.declared.change.Change.TheVariants.{InLeaf, Removes}
 use Rattle.sb_machine.specs.declared.change.LeafChange.TheVariants.{Closes, Opens}
-use Rattle.sb_machine.specs.declared.change.LeafKey.{LeafKey}
-use Rattle.sb_machine.specs.declared.history.Entry.{Entry}
-use Rattle.sb_machine.specs.declared.history.Entry.TheVariants.{Ticked, Answered as Replied}
+use Rattle.sb_machine.specs.declared.history.Entry.TheVariants.{Answered as Replied}
 use Rattle.sb_machine.specs.declared.reply.Answered.{Answered}
-use Rattle.sb_machine.specs.declared.reply.Answered.TheVariants.{New}
 use Rattle.sb_machine.specs.declared.reply.Refusal.{Refusal}
 use Rattle.sb_machine.specs.declared.reply.Refusal.TheVariants.{SessionNotAllowed}
 use Rattle.sb_machine.specs.declared.reply.Reply.{Reply}
-use Rattle.sb_machine.specs.declared.reply.Reply.TheVariants.{Done, Session as Accepted}
+use Rattle.sb_machine.specs.declared.reply.Reply.TheVariants.{Session as Accepted}
 use Rattle.sb_machine.specs.declared.state.Entity.{Entity}
 use Rattle.sb_machine.specs.declared.state.Holder.{Holder}
-use Rattle.sb_machine.specs.declared.state.Leaf.{Leaf}
 use Rattle.sb_machine.specs.declared.state.Session.{Session}
 use Rattle.sb_machine.specs.declared.state.Space.{Space}
-use Rattle.sb_machine.specs.declared.state.State.{State}
 
 pub none_of : {X : Type 0} (p : X → Bool) (x : X) (xs : List X) → list_any p (x ∷ xs) ≡ false → (p x ≡ false) × (list_any p xs ≡ false)
 none_of p x xs e = neither (p x) (list_any p xs) e

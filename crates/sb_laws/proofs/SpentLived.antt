@@ -1,8 +1,8 @@
 -- Each lock that is settled lived.
-use Rattle.std.proofs.Common.{Bool, List, [], ap, arith, false, map, not, refl, subst, sym, true, ℕ, ◌&&◌, ◌∷◌, ◌≡◌, ◌≤◌}
+use Rattle.std.proofs.Common.{Bool, List, [], arith, false, map, not, refl, subst, sym, true, ℕ, ◌&&◌, ◌∷◌, ◌≡◌, ◌≤◌}
 use Rattle.std.specs.List.{flat_map}
-use Rattle.std.specs.Prelude.{Result, filter, if◌then◌else◌}
-use Rattle.sb_laws.proofs.Calm.{IsCalm, tick_each}
+use Rattle.std.specs.Prelude.{filter, if◌then◌else◌}
+use Rattle.sb_laws.proofs.Calm.{tick_each}
 use Rattle.sb_laws.proofs.Deeds.{Deed, IsSteady, IsUnspent, calm_unspent, closed_steady, deed_of, deletes, sessions_each, settles, shuts, steadies}
 use Rattle.sb_laws.proofs.Eachs.{each_implied}
 use Rattle.sb_laws.proofs.Freed.{none_exempt}
@@ -24,13 +24,10 @@ use Rattle.sb_machine.specs.Leases.{is_under_session, lives}
 use Rattle.sb_machine.specs.Namespace.{leaf_of, listed}
 use Rattle.sb_machine.specs.Repeats.{Outcome, acted, outcome_of, refused, repeated}
 use Rattle.sb_machine.specs.declared.call.Act.{Act}
-use Rattle.sb_machine.specs.declared.call.Call.{Call}
 use Rattle.sb_machine.specs.declared.change.Change.{Change}
 use Rattle.sb_machine.specs.declared.change.Change.TheVariants.{Removes}
 use Rattle.sb_machine.specs.declared.history.Entry.{Entry}
 use Rattle.sb_machine.specs.declared.history.Entry.TheVariants.{Ticked, Answered as Replied}
-use Rattle.sb_machine.specs.declared.reply.Answered.{Answered}
-use Rattle.sb_machine.specs.declared.reply.Refusal.{Refusal}
 use Rattle.sb_machine.specs.declared.reply.Reply.{Reply}
 use Rattle.sb_machine.specs.declared.state.Entity.{Entity}
 use Rattle.sb_machine.specs.declared.state.Space.{Space}

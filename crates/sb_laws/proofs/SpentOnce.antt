@@ -1,8 +1,8 @@
 -- A lock is given once and settled once.
-use Rattle.std.proofs.Common.{Bool, List, None, Option, Some, [], ap, arith, false, nat_le, nat_lt, refl, true, ℕ, ◌++◌, ◌+◌, ◌<◌, ◌==◌, ◌∙◌, ◌∷◌, ◌≡◌, ◌≤◌}
+use Rattle.std.proofs.Common.{Bool, List, None, Option, Some, [], ap, arith, false, nat_le, refl, true, ℕ, ◌++◌, ◌+◌, ◌<◌, ◌==◌, ◌∙◌, ◌∷◌, ◌≡◌, ◌≤◌}
 use Rattle.std.proofs.lemmas.Bool.Decides.{nat_tests}
 use Rattle.std.proofs.lemmas.List.Sums.{sum_by-append}
-use Rattle.std.specs.Prelude.{find, if◌then◌else◌, sum_by}
+use Rattle.std.specs.Prelude.{if◌then◌else◌, sum_by}
 use Rattle.sb_laws.proofs.Along.{kept_by}
 use Rattle.sb_laws.proofs.Deeds.{entry_frees}
 use Rattle.sb_laws.proofs.Eachs.{each_front}
@@ -23,7 +23,6 @@ use Rattle.sb_machine.specs.declared.change.Change.{Change}
 use Rattle.sb_machine.specs.declared.change.Change.TheVariants.{AddsRule, Begins, Drops, DropsRule, InLeaf, Makes, Notes, Queues, Removes}
 use Rattle.sb_machine.specs.declared.change.LeafChange.{LeafChange}
 use Rattle.sb_machine.specs.declared.change.LeafChange.TheVariants.{Closes, Ends, Enters, Holds, Opens, Passes, Prolongs, Renews, Stands, Writes}
-use Rattle.sb_machine.specs.declared.change.LeafKey.{LeafKey}
 use Rattle.sb_machine.specs.declared.history.Entry.{Entry}
 use Rattle.sb_machine.specs.declared.state.Entity.{Entity}
 use Rattle.sb_machine.specs.declared.state.Leaf.{Leaf}

@@ -1,22 +1,21 @@
 -- A message that is a duplicate changes nothing.
-use Rattle.std.proofs.Common.{Bool, List, None, Ok, Option, Result, Some, [], ap, false, not, refl, subst, sym, true, ℕ, ◌&&◌, ◌++◌, ◌∙◌, ◌∷◌, ◌≡◌}
+use Rattle.std.proofs.Common.{Bool, List, None, Option, Result, Some, [], ap, false, not, refl, subst, sym, true, ℕ, ◌&&◌, ◌++◌, ◌∙◌, ◌∷◌, ◌≡◌}
 use Rattle.std.specs.Prelude.{if◌then◌else◌}
 use Rattle.sb_laws.proofs.Answered.{accepted_so, acted_row, machine_answer}
 use Rattle.sb_laws.proofs.KeptAlike.{keeping_alike, newer_acts, newer_alike}
 use Rattle.sb_laws.proofs.Outcomes.{Comes, IsNewer, comes, comes_acted}
 use Rattle.sb_laws.proofs.Thinning.{fields_thin, row_thin, takes_thin}
-use Rattle.sb_laws.specs.Thin.{Alike, numbers_kept}
+use Rattle.sb_laws.specs.Thin.{Alike}
 use Rattle.sb_machine.specs.Accounts.{event_of}
 use Rattle.sb_machine.specs.Acts.{act_row, bad_call, is_via_in, row_of}
-use Rattle.sb_machine.specs.Answers.{answer_in, answer_of, is_change, keeping, moment_of, state_in, state_of}
+use Rattle.sb_machine.specs.Answers.{answer_in, is_change, keeping, moment_of, state_in, state_of}
 use Rattle.sb_machine.specs.Changes.{after_all, is_numbered}
 use Rattle.sb_machine.specs.Due.{is_due, tick_changes}
 use Rattle.sb_machine.specs.Events.{after_event, replayed, thin_act, thin_call, thinned}
 use Rattle.sb_machine.specs.Fields.{Key, bad_field}
 use Rattle.sb_machine.specs.History.{IsAllowed, IsLegal, IsLegalFrom, Log, after_entries, after_entry, fresh_log, is_fault, state_after}
-use Rattle.sb_machine.specs.Repeats.{Outcome, acted, client_of, for_client, of_row, outcome_of, refused, repeated}
+use Rattle.sb_machine.specs.Repeats.{Outcome, acted, client_of, of_row, outcome_of, refused, repeated}
 use Rattle.sb_machine.specs.Rows.{Row, answers, numbered, refused_by, refuses}
-use Rattle.sb_machine.specs.declared.call.Act.{Act}
 use Rattle.sb_machine.specs.declared.call.By.{By}
 use Rattle.sb_machine.specs.declared.call.Call.{Call}
 use Rattle.sb_machine.specs.declared.call.Event.{Event}
@@ -25,7 +24,6 @@ use Rattle.sb_machine.specs.declared.change.Change.{Change}
 use Rattle.sb_machine.specs.declared.history.Entry.{Entry}
 use Rattle.sb_machine.specs.declared.history.Entry.TheVariants.{Ticked, Answered as Replied}
 use Rattle.sb_machine.specs.declared.reply.Answered.{Answered}
-use Rattle.sb_machine.specs.declared.reply.Answered.TheVariants.{New}
 use Rattle.sb_machine.specs.declared.reply.Refusal.{Refusal}
 use Rattle.sb_machine.specs.declared.reply.Refusal.TheVariants.{Exhausted}
 use Rattle.sb_machine.specs.declared.reply.Reply.{Reply}

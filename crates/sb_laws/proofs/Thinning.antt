@@ -1,17 +1,17 @@
 -- A send without its duplicates is accepted with the same changes.
-use Rattle.std.proofs.Common.{Bool, List, None, Option, Some, [], ap, arith, false, length, nat_le, nat_lt, not, refl, subst, sym, true, ℕ, ◌&&◌, ◌++◌, ◌+◌, ◌-◌, ◌<◌, ◌||◌, ◌∙◌, ◌∷◌, ◌≡◌, ◌≤◌}
+use Rattle.std.proofs.Common.{Bool, List, None, Option, Some, [], ap, arith, false, length, nat_le, nat_lt, not, refl, subst, sym, true, ℕ, ◌++◌, ◌+◌, ◌-◌, ◌||◌, ◌∙◌, ◌∷◌, ◌≡◌, ◌≤◌}
 use Rattle.std.proofs.lemmas.Bool.Decides.{nat_tests}
 use Rattle.std.proofs.lemmas.List.Sums.{sum_by-cons}
 use Rattle.std.specs.List.{list_all}
 use Rattle.std.specs.Option.{option_map}
-use Rattle.std.specs.Prelude.{codes, find, if◌then◌else◌, is_some, sum_by}
+use Rattle.std.specs.Prelude.{codes, if◌then◌else◌, is_some, sum_by}
 use Rattle.sb_laws.proofs.Answered.{answers_so}
 use Rattle.sb_laws.proofs.Keeping.{first_none, passed}
 use Rattle.sb_laws.proofs.Sameness.{two}
 use Rattle.sb_machine.specs.Acts.{act_row, is_via_in}
 use Rattle.sb_machine.specs.Changes.{after_all, in_turn}
 use Rattle.sb_machine.specs.Events.{receipts_in, thin_act, thin_messages}
-use Rattle.sb_machine.specs.Fields.{bad_field, bad_in_act, bad_in_by, bad_in_message, bad_in_messages, bad_in_send, first_some, is_between, is_number, max_messages, takes_number, unless}
+use Rattle.sb_machine.specs.Fields.{bad_field, bad_in_by, bad_in_message, bad_in_messages, bad_in_send, first_some, max_messages, takes_number, unless}
 use Rattle.sb_machine.specs.Messages.{above, all_bytes, first_size, large_in, large_one, large_size, large_together, max_body}
 use Rattle.sb_machine.specs.Names.{is_address}
 use Rattle.sb_machine.specs.Namespace.{entity_at, key_of, last_at, live}

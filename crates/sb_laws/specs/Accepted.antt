@@ -1,5 +1,5 @@
 -- An id is accepted once within its entity's window.
-use Rattle.std.specs.Prelude.{◌≡◌, ℕ, ◌≤◌, ◌+◌, ◌*◌, List, [], ◌∷◌, ◌++◌, Bool, true, bytes_eq, ◌==◌, ◌&&◌, map}
+use Rattle.std.specs.Prelude.{◌≡◌, ◌≤◌, ◌+◌, ◌*◌, List, [], ◌∷◌, ◌++◌, Bool, true, bytes_eq, ◌==◌, ◌&&◌, map}
 use Rattle.std.specs.List.{flat_map}
 use Rattle.sb_machine.specs.Accounts.{noted_ids}
 use Rattle.sb_machine.specs.Consistent.{IsConsistent}
