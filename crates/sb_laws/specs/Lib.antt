@@ -10,3 +10,4 @@ pub mod Holders
 pub mod Handed
 pub mod Accepted
 pub mod Thin
+pub mod Worked

@@ -7,6 +7,7 @@
 
 mod laws;
 mod once;
+mod worked;
 
 pub use laws::{
     answers_legally, answers_no_fault, consistent_is_orderly, goes_on, is_due_exactly, keeps_time,
@@ -16,3 +17,4 @@ pub use laws::{
 pub use once::{
     ends_once, in_order, once_ids, once_numbers, one_holder, spent_lived, spent_once, thin_same,
 };
+pub use worked::worked_histories;

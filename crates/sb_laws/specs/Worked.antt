@@ -1,0 +1,99 @@
+-- Two small histories, worked through with the definitions alone.
+use Rattle.std.specs.Prelude.{ℕ, List, [], ◌∷◌, ◌+◌, true, length, codes, Some, None, Result, Ok}
+use Rattle.sb_machine.specs.Accounts.{Numbered}
+use Rattle.sb_machine.specs.Ends.{End, Noted}
+use Rattle.sb_machine.specs.History.{Log, entries_of, fresh_log}
+use Rattle.sb_machine.specs.Namespace.{default_description, entity_path}
+use Rattle.sb_machine.specs.Worked.{at, empty}
+use Rattle.sb_machine.specs.declared.call.Act.{Act}
+use Rattle.sb_machine.specs.declared.call.Act.TheVariants.{Accept, CreateQueue, Receive, Send, Settle}
+use Rattle.sb_machine.specs.declared.call.Event.{Event}
+use Rattle.sb_machine.specs.declared.call.Event.TheVariants.{Called, Tick}
+use Rattle.sb_machine.specs.declared.call.How.TheVariants.{Complete}
+use Rattle.sb_machine.specs.declared.call.Mode.TheVariants.{Lock}
+use Rattle.sb_machine.specs.declared.call.Part.TheVariants.{Main}
+use Rattle.sb_machine.specs.declared.call.Path.{Path}
+use Rattle.sb_machine.specs.declared.call.TimedCall.{TimedCall}
+use Rattle.sb_machine.specs.declared.call.Token.{Token}
+use Rattle.sb_machine.specs.declared.call.Which.TheVariants.{Number}
+use Rattle.sb_machine.specs.declared.change.Cause.TheVariants.{Completed}
+use Rattle.sb_machine.specs.declared.history.Entry.{Entry}
+use Rattle.sb_machine.specs.declared.reply.Answered.{Answered}
+use Rattle.sb_machine.specs.declared.reply.Answered.TheVariants.{New}
+use Rattle.sb_machine.specs.declared.reply.Refusal.{Refusal}
+use Rattle.sb_machine.specs.declared.reply.Reply.TheVariants.{Message as Given}
+use Rattle.sb_model.specs.declared.message.Message.{Message}
+use Rattle.sb_model.specs.declared.message.SystemName.TheVariants.{MessageId, SessionId}
+
+abbrev pub numbered : ℕ → ℕ → Act → TimedCall
+numbered reading n act = record { reading = reading; call = record { by = Some (record { client = codes "c"; number = n }); act = act } }
+
+abbrev pub q : Path
+q = entity_path (codes "q")
+
+abbrev pub bare : Message
+bare = record { body = codes "hi"; sys = []; props = []; ttl = None; schedule = None }
+
+abbrev pub with_id : Message
+with_id = record bare { sys = record { name = MessageId; text = codes "m" } ∷ [] }
+
+abbrev pub in_session : Message
+in_session = record bare { sys = record { name = SessionId; text = codes "s" } ∷ [] }
+
+abbrev pub token : ℕ → Token
+token lock = record { salt = empty.space.salt; lock = lock }
+
+-- An id comes again inside its window, beside a message without one, and again as the window ends; a client's number falls;
+-- one copy is settled, and settled again; the lock of another ends before it is settled.
+abbrev pub first_script : List TimedCall
+first_script =
+    at 0 (CreateQueue (codes "q") (record default_description { window = Some 20 }))
+    ∷ numbered 0 7 (Send q (with_id ∷ []) None)
+    ∷ at 19999 (Send q (with_id ∷ bare ∷ []) None)
+    ∷ at 20000 (Send q (with_id ∷ []) None)
+    ∷ numbered 20000 6 (Send q (with_id ∷ []) None)
+    ∷ at 20000 (Receive q Lock None)
+    ∷ at 79999 (Settle q (Number 1) (token 1) None Complete None)
+    ∷ at 79999 (Settle q (Number 1) (token 1) None Complete None)
+    ∷ at 80000 (Receive q Lock None)
+    ∷ at 140000 (Settle q (Number 2) (token 2) None Complete None)
+    ∷ []
+
+-- a session is accepted, asked for while it is held, and accepted again as its lock has ended
+abbrev pub second_script : List TimedCall
+second_script =
+    at 0 (CreateQueue (codes "q") (record default_description { requires_session = true }))
+    ∷ at 0 (Send q (in_session ∷ in_session ∷ []) None)
+    ∷ at 0 (Accept q (Some (codes "s")))
+    ∷ at 0 (Receive q Lock (Some (token 1)))
+    ∷ at 59999 (Accept q (Some (codes "s")))
+    ∷ at 60000 (Accept q (Some (codes "s")))
+    ∷ at 60000 (Receive q Lock (Some (token 3)))
+    ∷ []
+
+abbrev pub history : List TimedCall → List Entry
+history calls = entries_of 0 empty calls
+
+abbrev pub start : Log
+start = fresh_log empty
+
+abbrev pub end_one : End
+end_one = record { leaf = record { entity = 1; part = Main }; number = 1; cause = Completed }
+
+abbrev pub noted_at : ℕ → Noted
+noted_at t = record { entity = 1; id = codes "m"; moment = t; window = 20 }
+
+abbrev pub seven : Numbered
+seven = record { client = codes "c"; number = 7 }
+
+-- how many messages the sends among events have
+abbrev pub messages_in : List Event → ℕ
+messages_in [] = 0
+messages_in (Tick t ∷ es) = messages_in es
+messages_in (Called t call ∷ es) = elim call.act [ Send to messages txn ↦ length messages | _ ↦ 0 ] + messages_in es
+
+-- the numbers of the copies that are handed out
+abbrev pub handed_in : List (Result Answered Refusal) → List ℕ
+handed_in [] = []
+handed_in (Ok (New (Given shown)) ∷ rs) = shown.number ∷ handed_in rs
+handed_in (r ∷ rs) = handed_in rs

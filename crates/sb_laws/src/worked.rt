@@ -1,0 +1,34 @@
+// Two small histories whose lists compute to what was worked out by hand.
+ghost use Rattle.std.specs.Prelude.{◌≡◌, ◌∷◌, [], length};
+ghost use Rattle.sb_laws.specs.Worked.{
+  end_one,
+  first_script,
+  handed_in,
+  history,
+  messages_in,
+  noted_at,
+  second_script,
+  seven,
+  start,
+};
+ghost use Rattle.sb_machine.specs.Accounts.{acted_numbers, changing, ends_of, noted_ids, spent_locks};
+ghost use Rattle.sb_machine.specs.Events.{thinned};
+ghost use Rattle.sb_machine.specs.History.{state_after};
+ghost use Rattle.sb_machine.specs.Namespace.{live, made};
+ghost use Rattle.sb_machine.specs.Worked.{answers_in, empty};
+
+/// The lists that the laws speak of, of two histories that were worked out by hand.
+pub fn worked_histories()
+    ensures entries { length (history first_script) ≡ 11 }
+    ensures acted { acted_numbers start (history first_script) ≡ seven ∷ [] }
+    ensures ends { ends_of start (history first_script) ≡ end_one ∷ [] }
+    ensures spent { spent_locks start (history first_script) ≡ 1 ∷ [] }
+    ensures noted { noted_ids start (history first_script) ≡ noted_at 0 ∷ noted_at 20000 ∷ [] }
+    ensures made { made (state_after empty (history first_script)).space ≡ 3 }
+    ensures live { live (state_after empty (history first_script)).space ≡ 2 }
+    ensures changing { messages_in (changing start (history first_script)) ≡ 4 }
+    ensures thin { messages_in (thinned start (history first_script)) ≡ 3 }
+    ensures second { length (history second_script) ≡ 8 }
+    ensures handed { handed_in (answers_in (history second_script)) ≡ 1 ∷ 1 ∷ [] }
+    ensures locks { (state_after empty (history second_script)).space.last_lock ≡ 4 }
+{}
