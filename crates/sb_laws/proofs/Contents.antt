@@ -1,50 +1,45 @@
 -- What messages and filters hold inside: kept by ticks, and by calls whose lists are in order.
-use Rattle.std.proofs.Common.{Bool, List, None, Ok, Err, Option, Some, [], ap, arith, false, length, nat_le, refl, subst, sym, true, ℕ, ◌&&◌, ◌*◌, ◌+◌, ◌∙◌, ◌∷◌, ◌≡◌, ◌≤◌}
+use Rattle.std.proofs.Common.{Bool, List, None, Ok, Err, Option, Some, [], arith, false, length, nat_le, refl, subst, true, ℕ, ◌&&◌, ◌*◌, ◌+◌, ◌∷◌, ◌≡◌, ◌≤◌}
 use Rattle.std.specs.Prelude.{Result, bytes_eq, codes, if◌then◌else◌, is_none, not}
 use Rattle.std.specs.Option.{option_map}
 use Rattle.std.specs.Str.{chars}
 use Rattle.std.proofs.lemmas.Bool.Decides.{nat_tests}
 use Rattle.sb_laws.proofs.Carried.{Sends}
-use Rattle.sb_laws.proofs.Consistency.{described_ttl, lasting, then_none}
+use Rattle.sb_laws.proofs.Consistency.{lasting, then_none}
 use Rattle.sb_laws.proofs.Core.{Fields, IsCore, Lists, core_tick, core_way}
 use Rattle.sb_laws.proofs.Lists.{found_passes}
 use Rattle.sb_laws.proofs.DefaultRule.{default_fits}
 use Rattle.sb_laws.proofs.Eachs.{each_filter, each_implied, each_inserted}
 use Rattle.sb_laws.proofs.Keeping.{first_none, lasts_fields, passed}
-use Rattle.sb_laws.proofs.Messages.{bytes_few, changed_fits, cut_fits, for_reason_fits, fits_in_order, reasons_fit, small_fits}
+use Rattle.sb_laws.proofs.Messages.{bytes_few, changed_fits, cut_fits, for_reason_fits, fits_in_order, reasons_fit}
 use Rattle.sb_laws.proofs.Outcomes.{Comes, comes, comes_acted}
 use Rattle.sb_laws.proofs.Ruling.{rule_added_fits, rule_dropped_fits}
 use Rattle.sb_laws.proofs.Shapes.{arrives_sending, plain_lists, plain_travels}
 use Rattle.sb_laws.proofs.Visiting.{Travels}
 use Rattle.sb_laws.specs.Plain.{IsRuled}
 use Rattle.sb_machine.specs.Acts.{is_via_in}
-use Rattle.sb_machine.specs.Administration.{action_of, conditions_size, default_rule, filter_of, large_filter, read_as, rule_in, are_rule_names}
+use Rattle.sb_machine.specs.Administration.{action_of, conditions_size, filter_of, large_filter, read_as, are_rule_names}
 use Rattle.sb_machine.specs.Answers.{is_change, keeping, state_in, state_of}
-use Rattle.sb_machine.specs.Changes.{after_all, max_number, rule_added, rule_dropped, with_rules}
+use Rattle.sb_machine.specs.Changes.{after_all, max_number, rule_added, rule_dropped}
 use Rattle.sb_machine.specs.Descriptions.{bad_in_description, has_rules}
-use Rattle.sb_machine.specs.Each.{Each, IfSome, IsSorted, is_read}
-use Rattle.sb_machine.specs.Fields.{Key, are_properties, bad_in_act, bad_in_by, bad_in_conditions, bad_in_filter, bad_in_how, bad_in_message, bad_in_messages, bad_in_texts, first_some, is_between_or_none, is_property_name, is_short, max_messages, max_ttl, unless}
+use Rattle.sb_machine.specs.Each.{Each, IfSome, is_read}
+use Rattle.sb_machine.specs.Fields.{are_properties, bad_in_act, bad_in_by, bad_in_conditions, bad_in_filter, bad_in_message, bad_in_messages, bad_in_texts, first_some, is_between_or_none, is_property_name, is_short, max_messages, max_ttl, unless}
 use Rattle.sb_machine.specs.Due.{tick_changes}
 use Rattle.sb_machine.specs.Fit.{IsFilter, IsListed, IsMessage, IsRule, is_kind}
 use Rattle.sb_machine.specs.Messages.{above, first_size, large_in, large_one, large_size, large_together, max_body}
 use Rattle.sb_machine.specs.Names.{is_before, is_name, is_rule_name, is_same_entity, is_same_option, is_short_name}
-use Rattle.sb_machine.specs.Namespace.{entity_at, entity_path, subscription_path}
+use Rattle.sb_machine.specs.Namespace.{entity_at, subscription_path}
 use Rattle.sb_machine.specs.Ordered.{IsActInOrder, IsFilterInOrder, asked_of}
-use Rattle.sb_machine.specs.Reasons.{with_reason}
 use Rattle.sb_machine.specs.Repeats.{Outcome, acted, client_of, outcome_of, refused, repeated}
-use Rattle.sb_machine.specs.Selection.{changed_by}
-use Rattle.sb_machine.specs.Sending.{too_large, unscheduled}
+use Rattle.sb_machine.specs.Sending.{too_large}
 use Rattle.sb_machine.specs.declared.call.Act.{Act}
 use Rattle.sb_machine.specs.declared.call.Act.TheVariants.{CreateRule, Send}
 use Rattle.sb_machine.specs.declared.call.Call.{Call}
 use Rattle.sb_machine.specs.declared.call.Description.{Description}
 use Rattle.sb_machine.specs.declared.call.FilterText.{FilterText}
 use Rattle.sb_machine.specs.declared.call.FilterText.TheVariants.{Correlation, Sql}
-use Rattle.sb_machine.specs.declared.call.How.TheVariants.{DeadLetter}
 use Rattle.sb_machine.specs.declared.call.Path.{Path}
-use Rattle.sb_machine.specs.declared.reply.Refusal.{Refusal}
 use Rattle.sb_machine.specs.declared.reply.Refusal.TheVariants.{TooLarge}
-use Rattle.sb_machine.specs.declared.rule.Conditions.{Conditions}
 use Rattle.sb_machine.specs.declared.rule.Rule.{Rule}
 use Rattle.sb_machine.specs.declared.rule.RuleFilter.{RuleFilter}
 use Rattle.sb_machine.specs.declared.rule.RuleFilter.TheVariants.{Sql as KeptSql, Correlation as KeptCorrelation}

@@ -72,3 +72,5 @@ pub mod Freed
 pub mod Named
 pub mod Living
 pub mod SpentLived
+pub mod Wholes
+pub mod StaysWhole

@@ -1,6 +1,6 @@
 -- Messages stay as a state may hold them, whatever becomes of them on their way.
 use Rattle.std.proofs.Common.{Bool, List, None, Ok, Err, Option, Some, [], ap, arith, cond, false, filter, length, nat_le, refl, subst, suc, sym, true, zero, ℕ, ◌&&◌, ◌*◌, ◌+◌, ◌-◌, ◌==◌, ◌∙◌, ◌∷◌, ◌≡◌, ◌≤◌, one-add}
-use Rattle.std.specs.Prelude.{Result, bytes_eq, codes, find, if◌then◌else◌, nat_lt, not, sum_by}
+use Rattle.std.specs.Prelude.{Result, bytes_eq, codes, if◌then◌else◌, nat_lt, not, sum_by}
 use Rattle.std.specs.Str.{chars, chars_after, continuation_len, lead_bits}
 use Rattle.std.specs.List.{list_all}
 use Rattle.std.proofs.lemmas.Bool.Decides.{nat_tests}
@@ -8,8 +8,6 @@ use Rattle.std.proofs.lemmas.List.Sums.{sum_by-cons}
 use Rattle.std.proofs.lemmas.Slice.Eq.{bytes_eq-Decides}
 use Rattle.std.specs.Bool.{Decides}
 use Rattle.std.specs.Prelude.{min, ◌<◌, ◌||◌}
-use Rattle.std.specs.Ordering.{nat_cmp, is_lt}
-use Rattle.std.specs.Cmp.Lexicographic.{slice_cmp}
 use Rattle.sb_laws.proofs.Consistency.{then_none}
 use Rattle.sb_machine.specs.Each.{Each, IfSome, IsSorted}
 use Rattle.sb_machine.specs.Fields.{bad_in_texts, is_between, is_between_or_none, max_ttl}

@@ -101,7 +101,7 @@ pub record IsWell (s : State) : Type 0 where
   pub orderly : IsOrderly s
   pub named : AreNamed s.now s.space
 
-called_named : (s : State) (t : ℕ) (call : Call) → s.now ≤ t → IsWell s → AreNamed (state_of s t call).now (state_of s t call).space
+pub called_named : (s : State) (t : ℕ) (call : Call) → s.now ≤ t → IsWell s → AreNamed (state_of s t call).now (state_of s t call).space
 called_named s t call le well = by (outcome_of s t call) (comes s t call) where
   by : (o : Outcome) → Comes s t call o → AreNamed (state_in s t call o).now (state_in s t call o).space
   by (refused r) is = well.named

@@ -194,7 +194,7 @@ orderly_points s t le h = record {
 
 -- ---- numbers that are given stay within the greatest
 
-four : (a b c d : Bool) → (a && b && c && d) ≡ true → (a ≡ true) × (b ≡ true) × (c ≡ true) × (d ≡ true)
+pub four : (a b c d : Bool) → (a && b && c && d) ≡ true → (a ≡ true) × (b ≡ true) × (c ≡ true) × (d ≡ true)
 four true true true d e = (refl, refl, refl, e)
 four true true false d e = absurd cc
 four true false c d e = absurd cc
@@ -225,7 +225,7 @@ points_kept t cs s numbered_so core_so is p =
     }
 
 -- all changes of a tick
-tick_acts : (t : ℕ) (s : Space) → PlainCore s → Each (IsOfAct Arrives t) (tick_changes t s)
+pub tick_acts : (t : ℕ) (s : Space) → PlainCore s → Each (IsOfAct Arrives t) (tick_changes t s)
 tick_acts t s core =
     let s1 : Space = after_all t (sweep_locks t s) s in
     let a0 = acts true (sweep_locks t s) (locks_of_tick plain_travels t s core.carries) in
@@ -266,7 +266,7 @@ called_orderly s t call (acted reply cs) h le most (comes_acted newer fits) = ac
 pub stays_orderly : (s : State) (t : ℕ) (call : Call) → IsOrderly s → s.now ≤ t → t ≤ max_moment → IsOrderly (state_of s t call)
 stays_orderly s t call h le most = called_orderly s t call (outcome_of s t call) h le most (comes s t call)
 
-not_spent : (b : Bool) → not b ≡ false → b ≡ true
+pub not_spent : (b : Bool) → not b ≡ false → b ≡ true
 not_spent true e = refl
 not_spent false e = absurd cc
 

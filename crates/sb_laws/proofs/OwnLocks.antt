@@ -1,21 +1,20 @@
 -- Which copy a lock holds: changes leave it, and the lock of a copy holds no other.
-use Rattle.std.proofs.Common.{Bool, List, None, Option, Some, [], ap, arith, false, filter, map, refl, subst, sym, true, ℕ, ◌&&◌, ◌+◌, ◌++◌, ◌<◌, ◌==◌, ◌∙◌, ◌∷◌, ◌≡◌, ◌≤◌}
+use Rattle.std.proofs.Common.{Bool, List, Some, [], ap, arith, false, filter, map, refl, subst, sym, true, ℕ, ◌&&◌, ◌+◌, ◌++◌, ◌==◌, ◌∙◌, ◌∷◌, ◌≡◌, ◌≤◌}
 use Rattle.std.specs.Prelude.{find, not, sum_by}
-use Rattle.std.specs.List.{flat_map}
 use Rattle.std.proofs.lemmas.Bool.Decides.{nat_tests}
-use Rattle.std.proofs.lemmas.List.Sums.{sum_by-append, sum_by-cons}
-use Rattle.sb_laws.proofs.Carrying.{each_flat, each_mapped, flat_each, mapped_each}
+use Rattle.std.proofs.lemmas.List.Sums.{sum_by-cons}
+use Rattle.sb_laws.proofs.Carrying.{each_flat, flat_each}
 use Rattle.sb_laws.proofs.Eachs.{each_append, each_back, each_changed, each_front, each_implied, is_equal}
 use Rattle.sb_laws.proofs.Entities.{EachLeaf, KeepsEntity, about_with_leaf, each_leaf, entities_keep, leaf_each, with_leaf_each}
 use Rattle.sb_laws.proofs.Lists.{changed_sum}
-use Rattle.sb_laws.proofs.Locking.{FreesLock, FreesLocks, IsLocked, copy_once, held_in, held_in_leaf, one, times_held}
+use Rattle.sb_laws.proofs.Locking.{FreesLock, FreesLocks, IsLocked, copy_once, held_in, one}
 use Rattle.sb_machine.specs.Changes.{after, noted, rule_added, rule_dropped, with_rules}
-use Rattle.sb_machine.specs.Consistent.{IsOwn, locked_at, locked_in}
+use Rattle.sb_machine.specs.Consistent.{IsOwn, locked_in}
 use Rattle.sb_machine.specs.Each.{Each, has_lock}
 use Rattle.sb_machine.specs.Keyed.{changed}
 use Rattle.sb_machine.specs.Leaves.{has_number, is_deferred, leaf_after, prolonged_standing}
 use Rattle.sb_machine.specs.Names.{is_same_part}
-use Rattle.sb_machine.specs.Namespace.{key_of, leaf_of, new_entity, with_leaf}
+use Rattle.sb_machine.specs.Namespace.{key_of, leaf_of, with_leaf}
 use Rattle.sb_machine.specs.declared.call.Part.{Part}
 use Rattle.sb_machine.specs.declared.call.Part.TheVariants.{Dead, Main, Transfer}
 use Rattle.sb_machine.specs.declared.change.Change.{Change}

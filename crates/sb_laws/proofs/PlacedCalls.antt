@@ -1,35 +1,31 @@
 -- Calls and ticks keep what is queued in transactions as it was queued.
-use Rattle.std.proofs.Common.{Bool, List, None, Option, Some, [], ap, arith, false, filter, length, map, nat_le, refl, subst, sym, true, ℕ, ◌&&◌, ◌+◌, ◌++◌, ◌<◌, ◌==◌, ◌∙◌, ◌∷◌, ◌≡◌, ◌≤◌}
-use Rattle.std.specs.Prelude.{codes, find, is_none, is_some, nat_lt, not, sum_by, ◌||◌}
+use Rattle.std.proofs.Common.{Bool, List, None, Option, Some, [], ap, arith, false, length, nat_le, refl, subst, sym, true, ℕ, ◌&&◌, ◌+◌, ◌<◌, ◌==◌, ◌∙◌, ◌∷◌, ◌≡◌, ◌≤◌}
+use Rattle.std.specs.Prelude.{codes, find, is_none, nat_lt, not, ◌||◌}
 use Rattle.std.proofs.lemmas.Bool.Decides.{nat_tests}
-use Rattle.sb_laws.proofs.Carried.{IsOfAct, act_closes, act_drops, act_ends, act_enters, act_frees, act_frees_locks, act_notes, act_passes, act_waits, closed_acts, commit_acts, copy_at, expired_acts, sends_acts, settled_acts}
-use Rattle.sb_laws.proofs.Carrying.{kept_by_all}
+use Rattle.sb_laws.proofs.Carried.{IsOfAct, closed_acts, commit_acts, copy_at, expired_acts, sends_acts, settled_acts}
 use Rattle.sb_laws.proofs.Consistency.{then_none}
-use Rattle.sb_laws.proofs.Eachs.{differs, each_append, each_changed, each_filter, each_found, each_implied, is_equal}
-use Rattle.sb_laws.proofs.Entities.{EachLeaf, LeafRises, about_with_leaf, copy_number, leaf_each}
+use Rattle.sb_laws.proofs.Eachs.{each_found, is_equal}
+use Rattle.sb_laws.proofs.Entities.{EachLeaf, LeafRises, copy_number, leaf_each}
 use Rattle.sb_laws.proofs.Keeping.{first_none, passed}
 use Rattle.sb_laws.proofs.Listing.{entity_turned}
-use Rattle.sb_laws.proofs.Lists.{found_first, found_passes}
-use Rattle.sb_laws.proofs.Locking.{FreesLocks, IsLocked, copy_once, held_in, held_in_leaf, one, times_held}
+use Rattle.sb_laws.proofs.Lists.{found_passes}
+use Rattle.sb_laws.proofs.Locking.{FreesLocks, copy_once, held_in, held_in_leaf, one, times_held}
 use Rattle.sb_laws.proofs.Messages.{both}
 use Rattle.sb_laws.proofs.Mild.{IsCarried}
 use Rattle.sb_laws.proofs.Moves.{by_number, leased_held}
-use Rattle.sb_laws.proofs.OwnLocks.{HoldsThat, found_sum, holds_kept, key_at, lock_is_own}
-use Rattle.sb_laws.proofs.Owning.{AreOwned, IsOwned, other_removed, owned_steps}
-use Rattle.sb_laws.proofs.Shapes.{Arrives, PlainCore, arrives_sending, plain_lists, plain_travels}
+use Rattle.sb_laws.proofs.OwnLocks.{HoldsThat, found_sum, key_at, lock_is_own}
+use Rattle.sb_laws.proofs.Shapes.{Arrives, PlainCore, arrives_sending, plain_travels}
 use Rattle.sb_laws.proofs.Ways.{Way, aborts, adds_rule, begins, cancels, closes, commits, drops_rule, expires, hands_out, makes_queue, makes_subscription, makes_topic, opens, prolongs, queues_send, removes, renews, rolls_back, sends, settles_later, settles_now, takes_out, tells, writes}
 use Rattle.sb_machine.specs.Acts.{is_via_in}
 use Rattle.sb_machine.specs.Administration.{default_rule, going_with}
-use Rattle.sb_machine.specs.Changes.{after, after_all, is_transaction, max_number, noted, on_entity, rule_added, rule_dropped, with_operation, with_rules}
+use Rattle.sb_machine.specs.Changes.{after_all, is_transaction, max_number}
 use Rattle.sb_machine.specs.Delivery.{expired, in_part}
 use Rattle.sb_machine.specs.Each.{Each, has_lock}
-use Rattle.sb_machine.specs.Fields.{bad_in_act, bad_in_message, bad_in_messages, bad_in_send, first_some, is_between, is_between_or_none, is_number, max_messages, unless}
-use Rattle.sb_machine.specs.Keyed.{AreRising, changed}
+use Rattle.sb_machine.specs.Fields.{bad_in_act, bad_in_message, bad_in_messages, first_some, is_between, is_between_or_none, is_number, max_messages, unless}
 use Rattle.sb_machine.specs.Leases.{is_living, is_named}
-use Rattle.sb_machine.specs.Leaves.{leaf_after}
 use Rattle.sb_machine.specs.Names.{is_address, is_main, is_same_entity}
-use Rattle.sb_machine.specs.Namespace.{made_in, entity_at, entity_of, entity_path, is_entity, key_of, leaf_of, listed, made, new_entity, subscription_path, with_leaf}
-use Rattle.sb_machine.specs.Queueing.{deadline_with, open_in, txn_life}
+use Rattle.sb_machine.specs.Namespace.{made_in, entity_at, entity_of, entity_path, is_entity, leaf_of, listed, made, subscription_path}
+use Rattle.sb_machine.specs.Queueing.{deadline_with, txn_life}
 use Rattle.sb_machine.specs.Receiving.{lock_end}
 use Rattle.sb_machine.specs.SendRow.{is_destination, is_other, is_via, queued_send}
 use Rattle.sb_machine.specs.Sending.{send_changes}
@@ -42,14 +38,12 @@ use Rattle.sb_machine.specs.declared.call.Act.TheVariants.{Send}
 use Rattle.sb_machine.specs.declared.call.Path.{Path}
 use Rattle.sb_machine.specs.declared.change.Cause.TheVariants.{Cancelled, Received}
 use Rattle.sb_machine.specs.declared.change.Change.{Change}
-use Rattle.sb_machine.specs.declared.change.Change.TheVariants.{AddsRule, Begins, Drops, DropsRule, InLeaf, Makes, Notes, Queues, Removes}
+use Rattle.sb_machine.specs.declared.change.Change.TheVariants.{AddsRule, Begins, Drops, DropsRule, Makes, Queues}
 use Rattle.sb_machine.specs.declared.change.LeafChange.TheVariants.{Ends, Holds, Opens, Prolongs, Renews, Writes}
 use Rattle.sb_machine.specs.declared.reply.Reply.{Reply}
 use Rattle.sb_machine.specs.declared.state.Entity.{Entity}
 use Rattle.sb_machine.specs.declared.state.EntityKind.TheVariants.{Queue, Subscription, Topic}
 use Rattle.sb_machine.specs.declared.state.Leaf.{Leaf}
-use Rattle.sb_machine.specs.declared.state.Listed.{Listed}
-use Rattle.sb_machine.specs.declared.state.Operation.{Operation}
 use Rattle.sb_machine.specs.declared.state.Operation.TheVariants.{Send as SendLater, Settle as SettleLater}
 use Rattle.sb_machine.specs.declared.state.Space.{Space}
 use Rattle.sb_machine.specs.declared.state.Standing.{Standing}
@@ -57,17 +51,12 @@ use Rattle.sb_machine.specs.declared.state.Standing.TheVariants.{Deferred, Held,
 use Rattle.sb_machine.specs.declared.state.StoredCopy.{StoredCopy}
 use Rattle.sb_machine.specs.declared.state.Transaction.{Transaction}
 use Rattle.sb_model.specs.declared.message.Message.{Message}
-use Rattle.std.specs.Option.{option_map}
-use Rattle.std.specs.Prelude.{if◌then◌else◌, ◌≢◌}
 use Rattle.sb_laws.proofs.Carried.{OperationSent, about_at}
 use Rattle.sb_laws.proofs.Core.{Fields}
 use Rattle.sb_laws.proofs.Eachs.{rising_above}
-use Rattle.sb_laws.proofs.Keeping.{lasts_fields}
 use Rattle.sb_laws.proofs.NothingDue.{Lasts}
-use Rattle.sb_laws.proofs.Placing.{ArePlaced, IsPlaced, IsSettled, OwnsLock, QueuesPlaced, acts_placed, placed_step, removed_placed}
-use Rattle.sb_laws.proofs.Shapes.{plain_fields}
+use Rattle.sb_laws.proofs.Placing.{ArePlaced, IsSettled, QueuesPlaced, acts_placed, placed_step, removed_placed}
 use Rattle.sb_laws.specs.Plain.{IsPlain}
-use Rattle.sb_machine.specs.Fields.{Key}
 use Rattle.sb_machine.specs.Queueing.{transaction_of}
 use Rattle.sb_machine.specs.declared.call.How.{How}
 use Rattle.sb_machine.specs.declared.call.Part.{Part}

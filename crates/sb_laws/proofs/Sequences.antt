@@ -1,33 +1,30 @@
 -- Each copy's EnqueuedSequenceNumber is one that was given.
-use Rattle.std.proofs.Common.{Bool, List, None, Option, Some, [], ap, arith, false, filter, length, map, nat_le, refl, subst, sym, true, ℕ, ◌&&◌, ◌+◌, ◌++◌, ◌<◌, ◌==◌, ◌∙◌, ◌∷◌, ◌≡◌, ◌≤◌}
-use Rattle.std.specs.Prelude.{find, if◌then◌else◌, nat_lt, not, sum_by}
+use Rattle.std.proofs.Common.{Bool, List, None, Option, Some, [], arith, false, filter, map, nat_le, refl, true, ℕ, ◌&&◌, ◌+◌, ◌++◌, ◌==◌, ◌∷◌, ◌≡◌, ◌≤◌}
+use Rattle.std.specs.Prelude.{find, if◌then◌else◌, nat_lt, not}
 use Rattle.std.specs.List.{flat_map}
 use Rattle.std.proofs.lemmas.List.Sums.{sum_by-append, sum_by-cons}
-use Rattle.sb_laws.proofs.Carrying.{each_flat, each_item_in, item}
+use Rattle.sb_laws.proofs.Carrying.{each_flat, each_item_in}
 use Rattle.sb_laws.proofs.Eachs.{each_append, each_changed, each_filter, each_found, each_implied, each_of_all}
-use Rattle.sb_laws.proofs.Entities.{EachLeaf, KeepsLeaf, each_leaf, leaf_each, leaves_keep}
+use Rattle.sb_laws.proofs.Entities.{EachLeaf, KeepsLeaf, leaf_each, leaves_keep}
 use Rattle.sb_laws.proofs.Measures.{all_grow, grows}
 use Rattle.sb_laws.proofs.OwnLocks.{found_sum}
-use Rattle.sb_laws.proofs.Sweeps.{after_append}
 use Rattle.sb_laws.proofs.Ways.{Way, aborts, adds_rule, begins, cancels, closes, commits, drops_rule, expires, hands_out, makes_queue, makes_subscription, makes_topic, opens, prolongs, queues_send, removes, renews, rolls_back, sends, settles_later, settles_now, takes_out, tells, writes}
 use Rattle.sb_laws.proofs.Moves.{leased_held}
 use Rattle.sb_laws.proofs.Entities.{IsOrdered}
 use Rattle.sb_machine.specs.Administration.{going_with}
-use Rattle.sb_machine.specs.Changes.{after, after_all, in_turn, is_transaction, numbers_given, numbers_in}
-use Rattle.sb_machine.specs.Delivery.{carried, dead_for, dead_lettered, delivered, expired, in_part, is_expired, landing, raised, back_to, released, visit_change, visit_key}
-use Rattle.sb_machine.specs.Due.{Item, activated, closes_due, closes_in, due_expired, due_locks, due_scheduled, due_sessions, due_transactions, items_in, items_of, sweep_expired, sweep_locks, sweep_scheduled, then_also, tick_changes}
+use Rattle.sb_machine.specs.Changes.{after, after_all, in_turn, numbers_given, numbers_in}
+use Rattle.sb_machine.specs.Delivery.{dead_for, dead_lettered, delivered, expired, in_part, is_expired, landing, raised, back_to, released, visit_change, visit_key}
+use Rattle.sb_machine.specs.Due.{activated, closes_due, closes_in, due_expired, due_locks, due_scheduled, due_sessions, due_transactions, items_in, items_of, sweep_expired, sweep_locks, sweep_scheduled, then_also, tick_changes}
 use Rattle.sb_machine.specs.Each.{Each, IfSome}
 use Rattle.sb_machine.specs.Keyed.{changed}
-use Rattle.sb_machine.specs.Leases.{has_come, has_ended, is_living, is_named, is_ready, is_under_session, was_deferred}
+use Rattle.sb_machine.specs.Leases.{has_ended, is_living, is_named, is_ready, is_under_session, was_deferred}
 use Rattle.sb_machine.specs.Leaves.{has_number, is_deferred, leaf_after, prolonged_standing, seq_or, stored}
 use Rattle.sb_machine.specs.Messages.{text_of}
 use Rattle.sb_machine.specs.Names.{is_main, is_same_entity}
-use Rattle.sb_machine.specs.Namespace.{entity_at, entity_of, is_entity, key_of, last_at, last_in, leaf_of, listed, made, made_in}
-use Rattle.sb_machine.specs.Queueing.{deadline_with}
+use Rattle.sb_machine.specs.Namespace.{entity_at, entity_of, is_entity, last_at, last_in, leaf_of, listed, made, made_in}
 use Rattle.sb_machine.specs.Reasons.{for_reason, with_reason}
 use Rattle.sb_machine.specs.SendRow.{queued_send}
 use Rattle.sb_machine.specs.Sending.{coming, entering, is_repeat, message_changes, noting, send_changes, unscheduled, waiting}
-use Rattle.sb_machine.specs.Sessions.{closed}
 use Rattle.sb_machine.specs.Settlement.{settled}
 use Rattle.sb_machine.specs.Transactions.{commit_changes, handed_on, operation_changes, queued_copy, settled_found}
 use Rattle.sb_machine.specs.Visits.{Lot, Visit, burial, ends, passage, stays, visits}
@@ -37,15 +34,13 @@ use Rattle.sb_machine.specs.declared.call.How.TheVariants.{Abandon, Complete, De
 use Rattle.sb_machine.specs.declared.call.Part.{Part}
 use Rattle.sb_machine.specs.declared.call.Part.TheVariants.{Dead, Main, Transfer}
 use Rattle.sb_machine.specs.declared.call.Path.{Path}
-use Rattle.sb_machine.specs.declared.call.Token.{Token}
 use Rattle.sb_machine.specs.declared.call.Which.TheVariants.{Number}
-use Rattle.sb_machine.specs.declared.change.Cause.TheVariants.{Cancelled, Completed, DeadLettered, Expired as ByTime, Received}
+use Rattle.sb_machine.specs.declared.change.Cause.TheVariants.{Expired as ByTime}
 use Rattle.sb_machine.specs.declared.change.Change.{Change}
 use Rattle.sb_machine.specs.declared.change.Change.TheVariants.{AddsRule, Begins, Drops, DropsRule, InLeaf, Makes, Notes, Queues, Removes}
 use Rattle.sb_machine.specs.declared.change.LeafChange.{LeafChange}
 use Rattle.sb_machine.specs.declared.change.LeafChange.TheVariants.{Closes, Ends, Enters, Holds, Opens, Passes, Prolongs, Renews, Stands, Writes}
 use Rattle.sb_machine.specs.declared.change.LeafKey.{LeafKey}
-use Rattle.sb_machine.specs.declared.reason.DeadReason.{DeadReason}
 use Rattle.sb_machine.specs.declared.reason.DeadReason.TheVariants.{Expired, TooOften}
 use Rattle.sb_machine.specs.declared.reply.Reply.{Reply}
 use Rattle.sb_machine.specs.declared.state.Entity.{Entity}

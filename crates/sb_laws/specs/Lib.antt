@@ -11,3 +11,4 @@ pub mod Handed
 pub mod Accepted
 pub mod Thin
 pub mod Worked
+pub mod Staying

@@ -5,10 +5,12 @@
 //! needs the law, as `nothing_due_after();`, and has the statement behind the call.
 #![tactic(auto)]
 
+mod consistent;
 mod laws;
 mod once;
 mod worked;
 
+pub use consistent::{histories_consistent, stays_consistent, ticks_consistent};
 pub use laws::{
     answers_legally, answers_no_fault, consistent_is_orderly, goes_on, is_due_exactly, keeps_time,
     moves_change, nothing_due_after, orderly_is_sweepable, same_act_exactly, starts_consistent,

@@ -1,0 +1,107 @@
+-- Calls whose lists are in order, and ticks, keep a state consistent.
+use Rattle.std.proofs.Common.{Bool, List, [], arith, false, nat_le, true, ℕ, ◌+◌, ◌∷◌, ◌≡◌, ◌≤◌}
+use Rattle.std.specs.Prelude.{if◌then◌else◌}
+use Rattle.sb_laws.proofs.Contents.{contents_call, contents_tick}
+use Rattle.sb_laws.proofs.Freed.{tick_named}
+use Rattle.sb_laws.proofs.Keeping.{first_none}
+use Rattle.sb_laws.proofs.Named.{called_named}
+use Rattle.sb_laws.proofs.Ordering.{fields_of, four, not_spent, orderly_core, stays_orderly, tick_acts, ticks_orderly}
+use Rattle.sb_laws.proofs.Orders.{orderly_is_sweepable}
+use Rattle.sb_laws.proofs.Outcomes.{Comes, Fits, comes, comes_acted}
+use Rattle.sb_laws.proofs.PlacedCalls.{placed_way}
+use Rattle.sb_laws.proofs.Placing.{ArePlaced, acts_placed}
+use Rattle.sb_laws.proofs.Sequences.{AreSeqs, seqs_all, tick_seq, way_seq}
+use Rattle.sb_laws.proofs.Shapes.{at_most}
+use Rattle.sb_laws.proofs.Wholes.{IsWhole, consistent_of, whole_of}
+use Rattle.sb_machine.specs.Acts.{is_via_in}
+use Rattle.sb_laws.specs.Staying.{AreInOrder}
+use Rattle.sb_machine.specs.Answers.{is_change, keeping, max_moment, moment_of, state_in, state_of}
+use Rattle.sb_machine.specs.Changes.{after_all, is_numbered, max_number, numbers_given}
+use Rattle.sb_machine.specs.Consistent.{IsConsistent}
+use Rattle.sb_machine.specs.Due.{is_due, tick_changes}
+use Rattle.sb_machine.specs.Fields.{bad_in_act, bad_in_by}
+use Rattle.sb_machine.specs.History.{IsAllowed, IsLegal, IsLegalFrom, Log, advanced, after_entries, after_entry, fresh_log, is_fault, is_spent, state_after}
+use Rattle.sb_machine.specs.Namespace.{made}
+use Rattle.sb_machine.specs.Ordered.{IsActInOrder}
+use Rattle.sb_machine.specs.Repeats.{Outcome, acted, client_of, outcome_of, refused, repeated}
+use Rattle.sb_machine.specs.declared.call.Call.{Call}
+use Rattle.sb_machine.specs.declared.change.Change.{Change}
+use Rattle.sb_machine.specs.declared.history.Entry.{Entry}
+use Rattle.sb_machine.specs.declared.history.Entry.TheVariants.{Ticked, Answered as Replied}
+use Rattle.sb_machine.specs.declared.reply.Reply.{Reply}
+use Rattle.sb_machine.specs.declared.state.Space.{Space}
+use Rattle.sb_machine.specs.declared.state.State.{State}
+
+given_within : (t : ℕ) (cs : List Change) (s : Space) → is_numbered t cs s ≡ true → made s + numbers_given cs ≤ max_number
+given_within t cs s is = at_most (made s + numbers_given cs) max_number (four (nat_le (made s + numbers_given cs) max_number) (nat_le (after_all t cs s).last_entity max_number) (nat_le (after_all t cs s).last_lock max_number) (nat_le (after_all t cs s).last_txn max_number) is).0
+
+module _ (s : State) (t : ℕ) (call : Call) (w : IsWhole s) where
+  acted_placed : (reply : Reply) (cs : List Change) → Fits s.space t call.by call.act reply cs → ArePlaced (after_all t cs s.space)
+  acted_placed reply cs fits = placed_way t s.space (orderly_core s w.orderly) (w.orderly.owned, w.placed) w.orderly.made call.act reply cs
+      (first_none (bad_in_act (is_via_in s.space call.act) call.act) (bad_in_by call.act call.by) fits.fields).0 (fields_of s.space t call.by call.act reply cs fits) fits.way
+
+  acted_seqs : (reply : Reply) (cs : List Change) → Fits s.space t call.by call.act reply cs → AreSeqs max_number (after_all t cs s.space)
+  acted_seqs reply cs fits =
+      let few = given_within t cs s.space fits.numbers in
+      seqs_all max_number t cs s.space (way_seq max_number t s.space (orderly_core s w.orderly).ordered w.seqs call.act reply cs few fits.way) few w.seqs
+
+  called_so : (ArePlaced (state_of s t call).space) × (AreSeqs max_number (state_of s t call).space)
+  called_so = by (outcome_of s t call) (comes s t call) where
+    by : (o : Outcome) → Comes s t call o → (ArePlaced (state_in s t call o).space) × (AreSeqs max_number (state_in s t call o).space)
+    by (refused r) is = (w.placed, w.seqs)
+    by (repeated reply) is = (w.placed, w.seqs)
+    by (acted reply cs) (comes_acted newer fits) = go (is_change (client_of call) (acted reply cs)) where
+      changed_so : (ArePlaced (after_all t cs s.space)) × (AreSeqs max_number (after_all t cs s.space))
+      changed_so = (acted_placed reply cs fits, acted_seqs reply cs fits)
+
+      go : (b : Bool) → (ArePlaced (if b then record { now = t; clients = keeping (client_of call) call.act reply s.clients; space = after_all t cs s.space } else s).space)
+          × (AreSeqs max_number (if b then record { now = t; clients = keeping (client_of call) call.act reply s.clients; space = after_all t cs s.space } else s).space)
+      go true = changed_so
+      go false = (w.placed, w.seqs)
+
+  pub whole_called : IsActInOrder call.act → s.now ≤ t → t ≤ max_moment → IsWhole (state_of s t call)
+  whole_called order le most = record {
+    orderly = stays_orderly s t call w.orderly le most;
+    contents = contents_call s t call order w.contents;
+    placed = called_so.0;
+    seqs = called_so.1;
+    named = called_named s t call le (record { orderly = w.orderly; named = w.named });
+  }
+
+pub whole_ticked : (s : State) (t : ℕ) → IsWhole s → s.now ≤ t → t ≤ max_moment → is_spent s t ≡ false → IsWhole (advanced s t)
+whole_ticked s t w le most room =
+    let few = given_within t (tick_changes t s.space) s.space (not_spent (is_numbered t (tick_changes t s.space) s.space) room) in
+    record {
+      orderly = ticks_orderly s t w.orderly le most room;
+      contents = contents_tick t s.space w.contents;
+      placed = (acts_placed t (tick_changes t s.space) s.space (tick_acts t s.space (orderly_core s w.orderly)) (w.orderly.owned, w.placed)).1;
+      seqs = seqs_all max_number t (tick_changes t s.space) s.space (tick_seq max_number t s.space w.seqs few) few w.seqs;
+      named = tick_named t s.space (orderly_is_sweepable s w.orderly) s.now le w.named;
+    }
+
+pub stays_consistent : (s : State) (t : ℕ) (call : Call) → IsConsistent s → IsActInOrder call.act → s.now ≤ t → t ≤ max_moment → IsConsistent (state_of s t call)
+stays_consistent s t call h order le most = consistent_of (state_of s t call) (whole_called s t call (whole_of s h) order le most)
+
+pub ticks_consistent : (s : State) (t : ℕ) → IsConsistent s → s.now ≤ t → t ≤ max_moment → is_spent s t ≡ false → IsConsistent (advanced s t)
+ticks_consistent s t h le most room = consistent_of (advanced s t) (whole_ticked s t (whole_of s h) le most room)
+
+-- ---- histories
+
+entry_whole : (l : Log) (e : Entry) → IsAllowed l e → AreInOrder (e ∷ []) → IsWhole l.state → IsWhole (after_entry l e).state
+entry_whole l (Ticked seat t) allowed order w = whole_ticked l.state t w allowed.2.0 allowed.2.1 allowed.2.3
+entry_whole l (Replied seat reading call answer) allowed order w = at (is_fault answer) (is_due (moment_of l.state reading) l.state.space) where
+  le : l.state.now ≤ moment_of l.state reading
+  le = omega arith
+
+  at : (f d : Bool) → IsWhole (if f then l.state else (if d then l.state else state_of l.state (moment_of l.state reading) call))
+  at true d = w
+  at false true = w
+  at false false = whole_called l.state (moment_of l.state reading) call w order.0 le (omega (arith, w.orderly.now))
+
+entries_whole : (l : Log) (es : List Entry) → IsLegalFrom l es → AreInOrder es → IsWhole l.state → IsWhole (after_entries l es).state
+entries_whole l [] legal order w = w
+entries_whole l (Ticked seat t ∷ es) legal order w = entries_whole (after_entry l (Ticked seat t)) es legal.1 order (entry_whole l (Ticked seat t) legal.0 tt w)
+entries_whole l (Replied seat reading call answer ∷ es) legal order w = entries_whole (after_entry l (Replied seat reading call answer)) es legal.1 order.1 (entry_whole l (Replied seat reading call answer) legal.0 (order.0, tt) w)
+
+pub histories_consistent : (s : State) (es : List Entry) → IsConsistent s → IsLegal s es → AreInOrder es → IsConsistent (state_after s es)
+histories_consistent s es h legal order = consistent_of (state_after s es) (entries_whole (fresh_log s) es legal order (whole_of s h))
