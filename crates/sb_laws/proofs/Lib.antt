@@ -15,6 +15,7 @@ pub mod Dueness
 pub mod Sameness
 pub mod SameActs
 pub mod Measures
+pub mod ActionTexts
 pub mod Messages
 pub mod DefaultRule
 pub mod Contents
@@ -22,6 +23,7 @@ pub mod OwnLocks
 pub mod Placing
 pub mod PlacedCalls
 pub mod Sequences
+pub mod SequencedCalls
 pub mod Moves
 pub mod MovesAll
 pub mod Moving

@@ -4,36 +4,29 @@ use Rattle.std.specs.Prelude.{find, if◌then◌else◌, nat_lt, not}
 use Rattle.std.specs.List.{flat_map}
 use Rattle.std.proofs.lemmas.List.Sums.{sum_by-append, sum_by-cons}
 use Rattle.sb_laws.proofs.Carrying.{each_flat, each_item_in}
-use Rattle.sb_laws.proofs.Eachs.{each_append, each_changed, each_filter, each_found, each_implied, each_of_all}
+use Rattle.sb_laws.proofs.Eachs.{each_append, each_changed, each_found, each_implied, each_of_all}
 use Rattle.sb_laws.proofs.Entities.{EachLeaf, KeepsLeaf, leaf_each, leaves_keep}
 use Rattle.sb_laws.proofs.Measures.{all_grow, grows}
 use Rattle.sb_laws.proofs.OwnLocks.{found_sum}
-use Rattle.sb_laws.proofs.Ways.{Way, aborts, adds_rule, begins, cancels, closes, commits, drops_rule, expires, hands_out, makes_queue, makes_subscription, makes_topic, opens, prolongs, queues_send, removes, renews, rolls_back, sends, settles_later, settles_now, takes_out, tells, writes}
-use Rattle.sb_laws.proofs.Moves.{leased_held}
-use Rattle.sb_laws.proofs.Entities.{IsOrdered}
-use Rattle.sb_machine.specs.Administration.{going_with}
 use Rattle.sb_machine.specs.Changes.{after, after_all, in_turn, numbers_given, numbers_in}
 use Rattle.sb_machine.specs.Delivery.{dead_for, dead_lettered, delivered, expired, in_part, is_expired, landing, raised, back_to, released, visit_change, visit_key}
 use Rattle.sb_machine.specs.Due.{activated, closes_due, closes_in, due_expired, due_locks, due_scheduled, due_sessions, due_transactions, items_in, items_of, sweep_expired, sweep_locks, sweep_scheduled, then_also, tick_changes}
 use Rattle.sb_machine.specs.Each.{Each, IfSome}
 use Rattle.sb_machine.specs.Keyed.{changed}
-use Rattle.sb_machine.specs.Leases.{has_ended, is_living, is_named, is_ready, is_under_session, was_deferred}
+use Rattle.sb_machine.specs.Leases.{has_ended, is_living, is_named, is_ready, was_deferred}
 use Rattle.sb_machine.specs.Leaves.{has_number, is_deferred, leaf_after, prolonged_standing, seq_or, stored}
 use Rattle.sb_machine.specs.Messages.{text_of}
 use Rattle.sb_machine.specs.Names.{is_main, is_same_entity}
-use Rattle.sb_machine.specs.Namespace.{entity_at, entity_of, is_entity, last_at, last_in, leaf_of, listed, made, made_in}
+use Rattle.sb_machine.specs.Namespace.{entity_of, is_entity, last_at, last_in, leaf_of, listed, made, made_in}
 use Rattle.sb_machine.specs.Reasons.{for_reason, with_reason}
-use Rattle.sb_machine.specs.SendRow.{queued_send}
 use Rattle.sb_machine.specs.Sending.{coming, entering, is_repeat, message_changes, noting, send_changes, unscheduled, waiting}
 use Rattle.sb_machine.specs.Settlement.{settled}
 use Rattle.sb_machine.specs.Transactions.{commit_changes, handed_on, operation_changes, queued_copy, settled_found}
 use Rattle.sb_machine.specs.Visits.{Lot, Visit, burial, ends, passage, stays, visits}
-use Rattle.sb_machine.specs.declared.call.Act.{Act}
 use Rattle.sb_machine.specs.declared.call.How.{How}
 use Rattle.sb_machine.specs.declared.call.How.TheVariants.{Abandon, Complete, DeadLetter, Defer}
 use Rattle.sb_machine.specs.declared.call.Part.{Part}
 use Rattle.sb_machine.specs.declared.call.Part.TheVariants.{Dead, Main, Transfer}
-use Rattle.sb_machine.specs.declared.call.Path.{Path}
 use Rattle.sb_machine.specs.declared.call.Which.TheVariants.{Number}
 use Rattle.sb_machine.specs.declared.change.Cause.TheVariants.{Expired as ByTime}
 use Rattle.sb_machine.specs.declared.change.Change.{Change}
@@ -42,7 +35,6 @@ use Rattle.sb_machine.specs.declared.change.LeafChange.{LeafChange}
 use Rattle.sb_machine.specs.declared.change.LeafChange.TheVariants.{Closes, Ends, Enters, Holds, Opens, Passes, Prolongs, Renews, Stands, Writes}
 use Rattle.sb_machine.specs.declared.change.LeafKey.{LeafKey}
 use Rattle.sb_machine.specs.declared.reason.DeadReason.TheVariants.{Expired, TooOften}
-use Rattle.sb_machine.specs.declared.reply.Reply.{Reply}
 use Rattle.sb_machine.specs.declared.state.Entity.{Entity}
 use Rattle.sb_machine.specs.declared.state.Holder.{Holder}
 use Rattle.sb_machine.specs.declared.state.Leaf.{Leaf}
@@ -157,20 +149,20 @@ module _ (most : ℕ) where
   dead_seq : (es : List Listed) (e : Entity) (c : StoredCopy) (by_settlement : Bool) (m : Message) → HasSeq c → Each BringsSeq (dead_lettered es e c by_settlement m)
   dead_seq es e c by_settlement m has = (tt, all_seq c.enqueued_seq (burial es c.hops e.about m) has)
 
-  expired_seq : (es : List Listed) (e : Entity) (c : StoredCopy) (by_settlement : Bool) → HasSeq c → Each BringsSeq (expired es e c by_settlement)
+  pub expired_seq : (es : List Listed) (e : Entity) (c : StoredCopy) (by_settlement : Bool) → HasSeq c → Each BringsSeq (expired es e c by_settlement)
   expired_seq es e c by_settlement has = go e.about.description.dead_on_expiry where
     go : (b : Bool) → Each BringsSeq (if b then dead_for es e c by_settlement Expired else in_part Main e (Ends c.number by_settlement ByTime) ∷ [])
     go true = dead_seq es e c by_settlement (for_reason Expired c.message) has
     go false = (tt, tt)
 
-  released_seq : (es : List Listed) (t : ℕ) (e : Entity) (part : Part) (c : StoredCopy) (raise by_settlement : Bool) → HasSeq c → Each BringsSeq (released es t e part c raise by_settlement)
+  pub released_seq : (es : List Listed) (t : ℕ) (e : Entity) (part : Part) (c : StoredCopy) (raise by_settlement : Bool) → HasSeq c → Each BringsSeq (released es t e part c raise by_settlement)
   released_seq es t e part c raise by_settlement has = go (is_main part && raise && nat_le e.about.description.max_delivery (raised raise c.count)) (is_main part && not (was_deferred c.standing) && is_expired t c) where
     go : (a b : Bool) → Each BringsSeq (if a then dead_for es e c by_settlement TooOften else (if b then expired es e c by_settlement else in_part part e (Stands c.number by_settlement (raised raise c.count) (back_to c.standing)) ∷ []))
     go true b = dead_seq es e c by_settlement (for_reason TooOften c.message) has
     go false true = expired_seq es e c by_settlement has
     go false false = (tt, tt)
 
-  settled_seq : (es : List Listed) (t : ℕ) (e : Entity) (part : Part) (c : StoredCopy) (how : How) → HasSeq c → Each BringsSeq (settled es t e part c how)
+  pub settled_seq : (es : List Listed) (t : ℕ) (e : Entity) (part : Part) (c : StoredCopy) (how : How) → HasSeq c → Each BringsSeq (settled es t e part c how)
   settled_seq es t e part c Complete has = (tt, tt)
   settled_seq es t e part c Abandon has = released_seq es t e part c true true has
   settled_seq es t e part c Defer has = (tt, tt)
@@ -213,10 +205,10 @@ module _ (most : ℕ) where
     go true few = tt
     go false few = let notes = noting_seq e m in let both = given_append (noting e m) (coming t e m s) in each_append BringsSeq (noting e m) (coming t e m s) notes.0 (coming_seq t e m s (omega (arith, few, both)))
 
-  sends_seq : (t : ℕ) (e : Entity) (ms : List Message) (s : Space) → AreSeqs s → made s + numbers_given (send_changes t e ms s) ≤ most → Each BringsSeq (send_changes t e ms s)
+  pub sends_seq : (t : ℕ) (e : Entity) (ms : List Message) (s : Space) → AreSeqs s → made s + numbers_given (send_changes t e ms s) ≤ most → Each BringsSeq (send_changes t e ms s)
   sends_seq t e ms s h few = turns_seq (message_changes t e) t (message_seq t e) ms s h few
 
-  found_seq : (p : Entity → Bool) (e : Entity) (part : Part) (q : StoredCopy → Bool) (c : StoredCopy) (s : Space) → AreSeqs s → find p s.entities ≡ Some e → find q (leaf_of part e).copies ≡ Some c → HasSeq c
+  pub found_seq : (p : Entity → Bool) (e : Entity) (part : Part) (q : StoredCopy → Bool) (c : StoredCopy) (s : Space) → AreSeqs s → find p s.entities ≡ Some e → find q (leaf_of part e).copies ≡ Some c → HasSeq c
   found_seq p e part q c s h there found = each_found HasSeq q c (leaf_of part e).copies (leaf_each SeqsIn part e (each_found (EachLeaf SeqsIn) p e s.entities h there)) found
 
   operation_seq : (t : ℕ) (e : Entity) (o : Operation) (s : Space) → AreSeqs s → made s + numbers_given (operation_changes t e o s) ≤ most → Each BringsSeq (operation_changes t e o s)
@@ -236,7 +228,7 @@ module _ (most : ℕ) where
       salted true c is = found_seq (is_entity e.about.number) now from.part _ c s h there is
       salted false c is = absurd cc
 
-  commit_seq : (t : ℕ) (e : Entity) (x : Transaction) (s : Space) → AreSeqs s → made s + numbers_given (commit_changes t e x s) ≤ most → Each BringsSeq (commit_changes t e x s)
+  pub commit_seq : (t : ℕ) (e : Entity) (x : Transaction) (s : Space) → AreSeqs s → made s + numbers_given (commit_changes t e x s) ≤ most → Each BringsSeq (commit_changes t e x s)
   commit_seq t e x s h few = (tt, turns_seq (operation_changes t e) t (operation_seq t e) x.operations (after t (Drops x.number) s) h few)
 
   -- ---- items of a tick
@@ -300,46 +292,3 @@ module _ (most : ℕ) where
       each_append BringsSeq (sweep_locks t s) (then_also t (sweep_expired t) (then_also t (sweep_scheduled t) (due_transactions t)) s1) brings1
       (each_append BringsSeq (sweep_expired t s1) (then_also t (sweep_scheduled t) (due_transactions t) s2) brings2
       (each_append BringsSeq (sweep_scheduled t s2) (due_transactions t s3) (come_seq t s2 h2 few3) (drops_seq (filter (λ x. nat_le x.deadline t) s3.transactions))))
-
-  -- ---- each accepted act
-
-  removals_seq : (es : List Entity) → Each BringsSeq (map (λ x. Removes x.about.number) es)
-  removals_seq [] = tt
-  removals_seq (e ∷ es) = (tt, removals_seq es)
-
-  module _ (t : ℕ) (s : Space) (ordered : IsOrdered s) (h : AreSeqs s) where
-    copy_seq : (from : Path) (e : Entity) (q : StoredCopy → Bool) (c : StoredCopy) → entity_at from s ≡ Some e → find q (leaf_of from.part e).copies ≡ Some c → HasSeq c
-    copy_seq from e q c there found = found_seq (λ x. is_same_entity x.about.path from) e from.part q c s h there found
-
-    pub way_seq : (act : Act) (reply : Reply) (cs : List Change) → made s + numbers_given cs ≤ most → Way s t act reply cs → Each BringsSeq cs
-    way_seq _ _ _ few (tells told) = tt
-    way_seq _ _ _ few (makes_queue named new fine) = (tt, tt)
-    way_seq _ _ _ few (makes_topic named new fine) = (tt, tt)
-    way_seq _ _ _ few (makes_subscription e named short there is new fine) = (tt, tt)
-    way_seq _ _ _ few (adds_rule e f a named there new f_is a_is small) = (tt, tt)
-    way_seq _ _ _ few (removes e there) = removals_seq (e ∷ going_with s e)
-    way_seq _ _ _ few (drops_rule e r there is) = (tt, tt)
-    way_seq _ _ _ few (sends {messages = messages} e goes there sessions small) = sends_seq t e messages s h few
-    way_seq _ _ _ few (queues_send {to = to} {messages = messages} x named goes there room small) = at messages where
-      at : (ms : List Message) → Each BringsSeq (queued_send t to ms x)
-      at [] = tt
-      at (m ∷ ms) = (tt, tt)
-    way_seq _ _ _ few (cancels e c there is) = (tt, tt)
-    way_seq _ _ _ few (hands_out from e c p there own is of stands) = (tt, tt)
-    way_seq _ _ _ few (takes_out from e c p there is stands) = (tt, tt)
-    way_seq _ _ _ few (expires from e c p there main is stands) = expired_seq (listed s) e c false (copy_seq from e p c there is)
-    way_seq _ _ _ few (settles_now {from = from} {which = which} {token = token} {how = how} e c there goes is none) = settled_seq (listed s) t e from.part c how (copy_seq from e _ c there (leased_held s t ordered token which (leaf_of from.part e) c is).0)
-    way_seq _ _ _ few (settles_later e c x there goes on own is none room) = (tt, tt)
-    way_seq _ _ _ few (renews e c there free is other) = (tt, tt)
-    way_seq _ _ _ few (opens from id e there has free) = (tt, tt)
-    way_seq _ _ _ few (prolongs e x there has held other) = (tt, tt)
-    way_seq _ _ _ few (closes {from = from} {token = token} e x there has held) = (
-      tt,
-      each_flat HasSeq BringsSeq (λ c. released (listed s) t e from.part c false false) (filter (λ c. is_under_session token.lock c.standing) (leaf_of from.part e).copies) (λ c has. released_seq (listed s) t e from.part c false false has)
-          (each_filter HasSeq (λ c. is_under_session token.lock c.standing) (leaf_of from.part e).copies (leaf_each SeqsIn from.part e (each_found (EachLeaf SeqsIn) (λ y. is_same_entity y.about.path from) e s.entities h there))),
-    )
-    way_seq _ _ _ few (writes e x there has held small other) = (tt, tt)
-    way_seq _ _ _ few (begins e there room) = (tt, tt)
-    way_seq _ _ _ few (commits x e there on none) = commit_seq t e x s h few
-    way_seq _ _ _ few (aborts x o there) = (tt, tt)
-    way_seq _ _ _ few (rolls_back x there) = (tt, tt)

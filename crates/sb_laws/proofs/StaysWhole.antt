@@ -10,7 +10,8 @@ use Rattle.sb_laws.proofs.Orders.{orderly_is_sweepable}
 use Rattle.sb_laws.proofs.Outcomes.{Comes, Fits, comes, comes_acted}
 use Rattle.sb_laws.proofs.PlacedCalls.{placed_way}
 use Rattle.sb_laws.proofs.Placing.{ArePlaced, acts_placed}
-use Rattle.sb_laws.proofs.Sequences.{AreSeqs, seqs_all, tick_seq, way_seq}
+use Rattle.sb_laws.proofs.SequencedCalls.{way_seq}
+use Rattle.sb_laws.proofs.Sequences.{AreSeqs, seqs_all, tick_seq}
 use Rattle.sb_laws.proofs.Shapes.{at_most}
 use Rattle.sb_laws.proofs.Wholes.{IsWhole, consistent_of, whole_of}
 use Rattle.sb_machine.specs.Acts.{is_via_in}
