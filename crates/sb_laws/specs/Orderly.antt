@@ -1,4 +1,4 @@
--- The points of consistency that calls and ticks are shown to keep. Not among them: what messages and filters hold inside,
+-- The points of consistency that every call keeps, whatever the order of its lists. The others are what messages and filters hold inside,
 -- that a copy under a session's lock names its holder, that first numbers are in range, and which copy and address a queued operation names.
 use Rattle.std.specs.Prelude.{◌≡◌, ◌≢◌, ℕ, ◌+◌, ◌++◌, ◌≤◌, ◌<◌, length, sum_by, is_some, true, false, None}
 use Rattle.sb_machine.specs.Answers.{max_moment}
