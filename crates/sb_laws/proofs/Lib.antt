@@ -76,3 +76,6 @@ pub mod Living
 pub mod SpentLived
 pub mod Wholes
 pub mod StaysWhole
+pub mod Sparing
+pub mod Alike
+pub mod AsFound

@@ -150,7 +150,7 @@ lock_safe t first_one c is = safe_of (under_no_ended t) t first_one c (λ key se
   at (Held lock hold deferred) e = absurd cc
   at (Scheduled moment) e = absurd cc
 
-fresh_lasts : (t : ℕ) (ttl : Option ℕ) → IsLasting ttl → ◌≡◌ {A = Bool} (elim ttl [ Some seconds ↦ nat_le (t + 1000 * seconds) t | None ↦ false ]) false
+pub fresh_lasts : (t : ℕ) (ttl : Option ℕ) → IsLasting ttl → ◌≡◌ {A = Bool} (elim ttl [ Some seconds ↦ nat_le (t + 1000 * seconds) t | None ↦ false ]) false
 fresh_lasts t None h = refl
 fresh_lasts t (Some seconds) h = later (t + 1000 * seconds) t (omega (arith, h)) where
   later : (a b : ℕ) → b < a → nat_le a b ≡ false

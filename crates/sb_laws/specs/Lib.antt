@@ -12,3 +12,4 @@ pub mod Accepted
 pub mod Thin
 pub mod Worked
 pub mod Staying
+pub mod AsFound

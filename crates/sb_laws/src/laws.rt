@@ -1,5 +1,6 @@
 // Laws of the machine: each a function without effect whose contract is a statement of specs/Laws.
 ghost use Rattle.sb_machine.specs.Laws.{GoesOn};
+ghost use Rattle.sb_laws.specs.AsFound.{TickAsFound};
 ghost use Rattle.sb_laws.specs.Laws.{
   AnswersLegally,
   AnswersNoFault,
@@ -78,4 +79,10 @@ pub fn moves_change()
 /// Calls that the machine answers one after another are a legal history without faults.
 pub fn answers_legally()
     ensures { AnswersLegally }
+{}
+
+/// A tick's changes are those of its sweeps over what is due as it begins, so that one look at the
+/// namespace finds them.
+pub fn tick_as_found()
+    ensures { TickAsFound }
 {}

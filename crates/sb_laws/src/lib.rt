@@ -14,7 +14,7 @@ pub use consistent::{histories_consistent, stays_consistent, ticks_consistent};
 pub use laws::{
     answers_legally, answers_no_fault, consistent_is_orderly, goes_on, is_due_exactly, keeps_time,
     moves_change, nothing_due_after, orderly_is_sweepable, same_act_exactly, starts_consistent,
-    stays_orderly, ticks_orderly,
+    stays_orderly, tick_as_found, ticks_orderly,
 };
 pub use once::{
     ends_once, in_order, once_ids, once_numbers, one_holder, spent_lived, spent_once, thin_same,
