@@ -1,0 +1,6 @@
+pub mod Sums
+pub mod Logs
+pub mod Steady
+pub mod Turning
+pub mod Seating
+pub mod Ends

@@ -1,0 +1,74 @@
+-- Fronts of a history and its entries by seat.
+use Rattle.std.proofs.Common.{◌≡◌, ◌≢◌, ◌⊎◌, ℕ, ◌+◌, ◌≤◌, ◌==◌, List, [], ◌∷◌, ◌++◌, length, Bool, true, false, cond, filter, sym, refl, ap, ◌∙◌, subst, inl, inr, arith, append_assoc, append-nil, Option, Some, None, Result}
+use Rattle.std.proofs.lemmas.List.Elements.{filter-append}
+use Rattle.sb_machine.specs.declared.call.Call.{Call}
+use Rattle.sb_machine.specs.declared.history.Entry.{Entry}
+use Rattle.sb_machine.specs.declared.reply.Answered.{Answered}
+use Rattle.sb_machine.specs.declared.reply.Refusal.{Refusal}
+use Rattle.sb_desk.specs.Entries.{entries_by, made_by, seat_of}
+use Rattle.sb_desk.specs.Lists.{IsFront, GoesOn, AreComparable}
+
+pub by_append : (seat : ℕ) (xs ys : List Entry) → entries_by seat (xs ++ ys) ≡ entries_by seat xs ++ entries_by seat ys
+by_append seat xs ys = filter-append (λ (e : Entry). seat_of e == seat) xs ys
+
+-- no list of one seat's entries has another's
+pub by_other : (seat other : ℕ) (t : Option ℕ) (reading : ℕ) (call : Call) (answer : Result Answered Refusal) → other ≢ seat → entries_by other (made_by seat t reading call answer) ≡ []
+by_other seat other (Some t) reading call answer apart = grind (arith)
+by_other seat other None reading call answer apart = grind (arith)
+
+pub by_same : (seat : ℕ) (t : Option ℕ) (reading : ℕ) (call : Call) (answer : Result Answered Refusal) → entries_by seat (made_by seat t reading call answer) ≡ made_by seat t reading call answer
+by_same seat (Some t) reading call answer = grind (arith)
+by_same seat None reading call answer = grind (arith)
+
+append_empty : {A : Type 0} (xs ys : List A) → xs ++ ys ≡ [] → (xs ≡ []) × (ys ≡ [])
+append_empty [] ys e = (refl, e)
+append_empty (x ∷ xs) ys e = absurd cc
+
+pub front_later : (front all more : List Entry) → IsFront front all → IsFront front (all ++ more)
+front_later front all more f = (f.0 ++ more, ap (λ l. l ++ more) f.1 ∙ append_assoc front f.0 more)
+
+pub goes_on_later : (log : List Entry) (seat : ℕ) (seen more : List Entry) → entries_by seat more ≡ [] → GoesOn log seat seen → GoesOn (log ++ more) seat seen
+goes_on_later log seat seen more none g = (g.0 ++ more, ap (λ l. l ++ more) g.1 ∙ append_assoc seen g.0 more, by_append seat g.0 more ∙ (ap (λ l. l ++ entries_by seat more) g.2 ∙ none))
+
+-- a longer front does as well
+pub goes_on_longer : (log : List Entry) (seat : ℕ) (seen longer : List Entry) → GoesOn log seat seen → IsFront seen longer → IsFront longer log → GoesOn log seat longer
+goes_on_longer log seat seen longer g f all =
+    let whole : seen ++ g.0 ≡ seen ++ (f.0 ++ all.0) = sym g.1 ∙ (all.1 ∙ (ap (λ l. l ++ all.0) f.1 ∙ append_assoc seen f.0 all.0)) in
+    let rest : g.0 ≡ f.0 ++ all.0 = cancel seen g.0 (f.0 ++ all.0) whole in
+    let none : entries_by seat f.0 ++ entries_by seat all.0 ≡ [] = sym (by_append seat f.0 all.0) ∙ (ap (entries_by seat) (sym rest) ∙ g.2) in
+    (all.0, all.1, (append_empty (entries_by seat f.0) (entries_by seat all.0) none).1)
+  where
+    tail_of : List Entry → List Entry → List Entry
+    tail_of d [] = d
+    tail_of d (x ∷ xs) = xs
+    cancel : (xs ys zs : List Entry) → xs ++ ys ≡ xs ++ zs → ys ≡ zs
+    cancel [] ys zs e = e
+    cancel (x ∷ xs) ys zs e = cancel xs ys zs (ap (tail_of []) e)
+
+front_step : (x : Entry) (a b : List Entry) → AreComparable a b → AreComparable (x ∷ a) (x ∷ b)
+front_step x a b (inl f) = inl (f.0, ap (λ (l : List Entry). x ∷ l) f.1)
+front_step x a b (inr f) = inr (f.0, ap (λ (l : List Entry). x ∷ l) f.1)
+
+-- two fronts of one history
+pub comparable : (a b r q : List Entry) → a ++ r ≡ b ++ q → AreComparable a b
+comparable [] b r q e = inl (b, refl)
+comparable (x ∷ a) [] r q e = inr (x ∷ a, refl)
+comparable (x ∷ a) (y ∷ b) r q e =
+    let same : x ≡ y = ap (head_or x) e in
+    subst (λ (z : Entry). AreComparable (x ∷ a) (z ∷ b)) same (front_step x a b (comparable a b r q (ap tail_of e)))
+  where
+    head_or : Entry → List Entry → Entry
+    head_or d [] = d
+    head_or d (z ∷ zs) = z
+    tail_of : List Entry → List Entry
+    tail_of [] = []
+    tail_of (z ∷ zs) = zs
+
+-- what was added behind others' entries is one's own
+pub by_added : (seat : ℕ) (between : List Entry) (t : Option ℕ) (reading : ℕ) (call : Call) (answer : Result Answered Refusal) → entries_by seat between ≡ [] → entries_by seat (between ++ made_by seat t reading call answer) ≡ made_by seat t reading call answer
+by_added seat between t reading call answer none =
+    by_append seat between (made_by seat t reading call answer) ∙ (ap (λ z. z ++ entries_by seat (made_by seat t reading call answer)) none ∙ by_same seat t reading call answer)
+
+-- a seat that has no entries may begin behind any front
+pub goes_on_fresh : (log : List Entry) (seat : ℕ) (seen : List Entry) → IsFront seen log → entries_by seat log ≡ [] → GoesOn log seat seen
+goes_on_fresh log seat seen f none = (f.0, f.1, (append_empty (entries_by seat seen) (entries_by seat f.0) (sym (by_append seat seen f.0) ∙ (ap (entries_by seat) (sym f.1) ∙ none))).1)

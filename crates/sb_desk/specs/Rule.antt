@@ -1,0 +1,121 @@
+-- The rule of the desk's table: what its words, its slot and the views of all seats have to do with the one history.
+use Rattle.std.specs.Prelude.{◌≡◌, ℕ, ◌+◌, ◌-◌, ◌%◌, ◌^◌, ◌<◌, ◌≤◌, List, [], ◌∷◌, length, Option, Some, None}
+use mathlib.Core.Option.{some}
+use mathlib.Core.Option as maybe
+use lib.ListN.{get_elem?}
+use Rattle.atomic_table.specs.Table as table
+use Rattle.sb_machine.specs.declared.history.Entry.{Entry}
+use Rattle.sb_machine.specs.declared.state.State.{State}
+use Rattle.sb_desk.specs.declared.report.Origin.{Origin}
+use Rattle.sb_desk.specs.declared.view.View.{View}
+use Rattle.sb_desk.specs.declared.view.Claim.{Claim}
+use Rattle.sb_desk.specs.declared.view.Stage.{Stage}
+use Rattle.sb_desk.specs.declared.view.Stage.TheVariants.{Note, Idle, Waits, Turn, Out, Spent}
+use Rattle.sb_desk.specs.Entries.{entries_by}
+use Rattle.sb_desk.specs.Lists.{IsFront, GoesOn, total, Each}
+
+-- ---- what a view counts for
+
+-- what a word keeps of a number
+abbrev pub word : ℕ → ℕ
+word k = k % 2 ^ 64
+
+abbrev pub parts : View → ℕ
+parts v = v.parts
+
+abbrev pub ticketed : Stage → ℕ
+ticketed (Waits k) = 1
+ticketed (Turn k) = 1
+ticketed (Out k log) = 1
+ticketed _ = 0
+
+-- how many tickets it has
+abbrev pub tickets : View → ℕ
+tickets v = ticketed v.stage
+
+abbrev pub out_at : Stage → ℕ
+out_at (Out k log) = 1
+out_at _ = 0
+
+-- how many values it has
+abbrev pub outs : View → ℕ
+outs v = out_at v.stage
+
+abbrev pub ticket_of : Stage → ℕ
+ticket_of (Waits k) = k
+ticket_of (Turn k) = k
+ticket_of (Out k log) = k
+ticket_of _ = 0
+
+abbrev pub log_of : Stage → List Entry
+log_of (Out k log) = log
+log_of _ = []
+
+-- ---- what holds of one view
+
+-- seats: which seat of the table has a number; of those that were joined into others none
+module _ (log : List Entry) (seats : ℕ → Option ℕ) where
+  -- a seat that was joined into another had seen this, and all its entries stand in it
+  abbrev pub IsClaim : Claim → Type 0
+  IsClaim c = (seats c.seat ≡ None) × GoesOn log c.seat c.seen
+
+  -- a number that its seat may still give to another
+  abbrev pub IsUnused : ℕ → ℕ → Type 0
+  IsUnused i l = (seats l ≡ Some i) × (entries_by l log ≡ [])
+
+  -- the seat i, which makes calls
+  pub record Sits (i : ℕ) (v : View) : Type 0 where
+    pub here : seats v.seat ≡ Some i
+    pub front : GoesOn log v.seat v.seen
+    pub one : IsFront v.one log
+    pub other : IsFront v.other log
+    pub claims : Each IsClaim v.claims
+    pub unused : (l : ℕ) → v.seat < l → l ≤ v.seat + v.spare → IsUnused i l
+
+-- owner: which seat of the table has a ticket
+module _ (log : List Entry) (drawn served : ℕ) (owner : ℕ → ℕ) (seats : ℕ → Option ℕ) where
+  abbrev pub IsPlaced : Stage → ℕ → View → Type 0
+  IsPlaced Note i v = IsFront v.seen log
+  IsPlaced Idle i v = Sits log seats i v
+  IsPlaced (Waits k) i v = Sits log seats i v × (served ≤ k) × (k < drawn) × (owner k ≡ i)
+  IsPlaced (Turn k) i v = Sits log seats i v × (k ≡ served) × (k < drawn) × (owner k ≡ i)
+  IsPlaced (Out k l) i v = Sits log seats i v × (k ≡ served) × (k < drawn) × (owner k ≡ i) × (l ≡ log)
+  IsPlaced Spent i v = Unit {0}
+
+-- a seat that was not joined into another knows how the desk began
+abbrev pub Began : State → Origin → Stage → View → Type 0
+Began start origin Spent v = Unit {0}
+Began start origin _ v = (v.start ≡ start) × (v.origin ≡ origin)
+
+-- ---- the rule
+
+module _ {X : Type 0} (stands : X → State → List Entry → Type 0) (origin_of : X → Origin) (start : State) (origin : Origin) (passes : ℕ) where
+  -- the value is in the slot, and stands for the history
+  abbrev pub IsHome : List Entry → List (maybe.Option (Option X)) → Type 0
+  IsHome log homes = (x : X) × (homes ≡ some (Some x) ∷ []) × stands x start log × (origin_of x ≡ origin)
+
+  pub record Fits (log : List Entry) (drawn served : ℕ) (owner : ℕ → ℕ) (seats : ℕ → Option ℕ) (i : ℕ) (v : View) : Type 0 where
+    -- who has a ticket stands for a pass
+    pub part : tickets v ≤ v.parts
+    pub began : Began start origin v.stage v
+    pub placed : IsPlaced log drawn served owner seats v.stage i v
+
+  pub record Kept (s : table.State (Option X) View) : Type 0 where
+    -- the history
+    pub log : List Entry
+    -- how many tickets were drawn, and how many had their turn
+    pub drawn : ℕ
+    pub served : ℕ
+    pub owner : ℕ → ℕ
+    pub seats : ℕ → Option ℕ
+    pub words : s.words ≡ word (length log) ∷ word drawn ∷ word served ∷ []
+    -- so few that no two waiting seats have tickets of one remainder
+    pub few : passes ≤ 2 ^ 63
+    pub whole : total parts s.views ≡ passes
+    pub busy : total tickets s.views + served ≡ drawn
+    pub each : (i : ℕ) (v : View) → get_elem? s.views i ≡ some v → Fits log drawn served owner seats i v
+    pub home : total outs s.views ≡ 0 → IsHome log s.homes
+
+-- the first seat stands for all passes, and may give all other numbers
+abbrev pub opening_view : State → Origin → ℕ → View
+opening_view start origin passes = record { seat = 0; spare = passes - 1; start = start; origin = origin; seen = []; parts = passes; stage = Idle; one = []; other = []; claims = [] }

@@ -1,0 +1,135 @@
+ghost use Rattle.std.specs.Prelude.{◌≡◌, ℕ, ◌<◌, List, [], length, map, IfOk, IfErr};
+ghost use Rattle.sb_machine.specs.declared.history.Entry.{Entry};
+ghost use Rattle.sb_desk.specs.Desks.{Open, IsOf, IsNew, Calls, HasLegal, IsKeptIn, below, value_of};
+ghost use Rattle.sb_desk.specs.Entries.{IsReport};
+ghost use Rattle.sb_desk.specs.Lists.{IsFront, Each, longer};
+ghost use Rattle.sb_desk.specs.Steps.{IsSized};
+
+use crate::closing::{finish, gather_all};
+use crate::notes::{note, take_in};
+use crate::opening::{deal_out, open_table};
+use crate::turns::{Place, Whole, serve_one};
+use crate::{Pass, Report, Served};
+use sb_machine::{Answer, Call};
+use std::alloc::Global;
+use std::marker::Model;
+use std::sync::Wait;
+
+/// The most passes that a desk has.
+const MAX_PASSES: usize = 1 << 32;
+
+/// One namespace that many seats use in turn. Threads share it by reference.
+#[derive(Drop)]
+pub struct Desk<V: Served> {
+    table: Whole<V>,
+}
+
+impl<V: Served> Model for Desk<V> {
+    ghost Value = { Open };
+
+    ghost view = { λ d. record { desk = d.table.shared.table_id; start = V.state d.table.shared.key.value.value; origin = V.origin d.table.shared.key.value.value; passes = d.table.shared.key.passes } };
+
+    ghost invariant = { λ d. IsSized d.table.shared.table_id × (0 < d.table.shared.key.passes) };
+}
+
+/// Why there is no desk.
+#[derive(Drop)]
+pub enum NewFault<V> {
+    /// There was no memory, or so many passes are never had. The value comes back.
+    OutOfMemory { value: V },
+}
+
+/// Why a desk wasn't closed.
+#[derive(Drop)]
+pub enum CloseFault<V: Served> {
+    /// There was no memory. What was given comes back.
+    OutOfMemory { desk: Desk<V>, passes: Vec<Pass> },
+}
+
+impl<V: Served> Desk<V> {
+    /// A desk for this value with so many passes. Their numbers are those below it.
+    pub fn new(alloc: Global, value: V, passes: usize) -> Result<(Desk<V>, Vec<Pass>), NewFault<V>>
+        requires some { 0 < passes }
+        requires stands { V.stands value (V.state value) [] }
+        ensures desk { IfOk result (λ r. (r.0.start ≡ V.state value) × (r.0.origin ≡ V.origin value) × (r.0.passes ≡ passes)) }
+        ensures passes { IfOk result (λ r. Each (IsNew r.0) r.1.items) }
+        ensures seats { IfOk result (λ r. map (λ p. p.seat) r.1.items ≡ below passes) }
+        ensures value { IfErr result (λ e. value_of e ≡ value) }
+    {
+        if passes > MAX_PASSES {
+            return Err(NewFault::OutOfMemory { value });
+        }
+        let Ok(room) = Vec::with_capacity(alloc, passes) else {
+            return Err(NewFault::OutOfMemory { value });
+        };
+        match open_table(alloc, value, passes) {
+            Ok((table, place)) => {
+                let dealt = deal_out(&table.shared, place, room, passes);
+                Ok((Desk { table }, dealt))
+            }
+            Err(value) => Err(NewFault::OutOfMemory { value }),
+        }
+    }
+
+    /// Makes a call at this pass, at a reading of the clock in ms since 1970. It waits for its
+    /// turn, and takes no memory but what the value's step takes.
+    pub fn call<R: Wait>(&self, rt: &R, pass: Pass, reading: u64, call: &Call) -> (Pass, Answer)
+        requires desk { IsOf self.now pass }
+        ensures call { Calls pass reading call.now result.0 result.1 }
+        ensures legal { HasLegal result.0 }
+    {
+        let Pass { badge } = pass;
+        let mut place: Place<V> = badge.into_seat();
+        let answer = serve_one(rt, &self.table.shared, &mut place, reading, call);
+        (
+            Pass {
+                badge: place.into_badge(),
+            },
+            answer,
+        )
+    }
+
+    /// Lets each of the two passes know what the other has seen. It waits for nobody.
+    pub fn tell(&self, one: Pass, other: Pass) -> (Pass, Pass)
+        requires desk { IsOf self.now one × IsOf self.now other }
+        ensures one { result.0 ≡ record one { seen = longer one.seen other.seen } }
+        ensures other { result.1 ≡ record other { seen = longer one.seen other.seen } }
+        ensures longer { IsFront one.seen (longer one.seen other.seen) × IsFront other.seen (longer one.seen other.seen) }
+        ensures legal { HasLegal result.0 × HasLegal result.1 }
+    {
+        let Pass { badge: one } = one;
+        let Pass { badge: other } = other;
+        let mut one: Place<V> = one.into_seat();
+        let mut other: Place<V> = other.into_seat();
+        let top = &self.table.shared;
+        let news = note(top, &mut one);
+        take_in(top, &mut other, news);
+        let news = note(top, &mut other);
+        take_in(top, &mut one, news);
+        (
+            Pass {
+                badge: one.into_badge(),
+            },
+            Pass {
+                badge: other.into_badge(),
+            },
+        )
+    }
+
+    /// The value with the numbers of its history, once all passes are given back. It takes no
+    /// memory, and never fails.
+    pub fn close(self, passes: Vec<Pass>) -> Result<(V, Report), CloseFault<V>>
+        requires all { (length passes.items ≡ self.passes) × Each (IsOf self) passes.items }
+        ensures ok { IfOk result (λ r. (h : List Entry) × V.stands r.0 self.start h × (V.origin r.0 ≡ self.origin) × IsReport self.start h r.1 × Each (IsKeptIn h) passes.items) }
+        ensures err { IfErr result (λ _. ⊥) }
+    {
+        let mut passes = passes;
+        let Desk { table } = self;
+        let Pass { badge } = passes.pop().unwrap();
+        let mut place: Place<V> = badge.into_seat();
+        gather_all(&table.shared, &mut place, passes);
+        let value = finish(table, place);
+        let report = value.tally();
+        Ok((value, report))
+    }
+}

@@ -1,0 +1,44 @@
+//! What a desk serves.
+ghost use Rattle.std.specs.Prelude.{◌≡◌, ℕ, List, ◌++◌};
+ghost use Rattle.sb_machine.specs.Consistent.{IsConsistent};
+ghost use Rattle.sb_machine.specs.History.{IsLegal};
+ghost use Rattle.sb_machine.specs.declared.history.Entry.{Entry};
+ghost use Rattle.sb_machine.specs.declared.state.State.{State};
+ghost use Rattle.sb_desk.specs.Entries.{made_by, IsReport};
+ghost use Rattle.sb_desk.specs.declared.report.Origin.{Origin};
+
+use crate::Report;
+use sb_machine::{Answer, Call};
+
+/// What a step came to.
+#[derive(Debug, Drop)]
+pub struct Stepped {
+    pub answer: Answer,
+    /// The moment of the tick before the call, in ms since 1970, where something was due.
+    pub tick: Option<u64>,
+}
+
+/// A namespace that answers calls, each by one entry of a history and at most a tick before it.
+pub trait Served {
+    /// The state that it holds.
+    ghost state: { Self → State };
+
+    /// It stands for this history from this state.
+    ghost stands: { Self → State → List Entry → Type 0 };
+
+    /// What it found as it was opened. No call changes it.
+    ghost origin: { Self → Origin };
+
+    /// Makes a call at a reading of the clock, in ms since 1970. The entries are those of
+    /// whatever seat makes it.
+    fn step(&mut self, reading: u64, call: &Call) -> Stepped
+        ensures stands { (seat : ℕ) (from : State) (h : List Entry) → stands self.old from h → stands self.new from (h ++ made_by seat result.tick reading call.now result.answer) }
+        ensures origin { origin self.new ≡ origin self.old };
+
+    /// The numbers of the history.
+    fn tally(&self) -> Report
+        ensures { (from : State) (h : List Entry) → stands self.now from h → IsReport from h result };
+
+    /// It stands for legal histories of consistent states alone.
+    ghost legal: { (v : Self) (from : State) (h : List Entry) → stands v from h → IsConsistent from × IsLegal from h };
+}

@@ -1,0 +1,84 @@
+//! What a seat knows, and the rule of the table. No value of these types is made but of `Held` and
+//! `Key`.
+//!
+//! Word 0 is the number of entries, word 1 the next ticket and word 2 the ticket that has the
+//! turn, each modulo 2^64. The one slot has the value.
+ghost use Rattle.std.specs.Prelude.{◌≡◌, ℕ, List};
+
+use crate::{Origin, Served, Stepped};
+use sb_machine::{Call, Entry, State};
+use std::collections::LinkedList;
+use std::marker::PhantomData;
+use std::snapshot::Snapshot;
+
+pub enum Stage {
+    /// It has no number, and makes no calls.
+    Note,
+    Idle,
+    /// It waits with this ticket.
+    Waits(u64),
+    /// It has the turn, and the value is at home.
+    Turn(u64),
+    /// It has the turn and the value, which stands for this history.
+    Out(u64, LinkedList<Entry>),
+    /// It was joined into another.
+    Spent,
+}
+
+/// A seat that was joined into another, and what it had seen.
+pub struct Claim {
+    pub seat: u64,
+    pub seen: LinkedList<Entry>,
+}
+
+pub struct View {
+    /// Its number, and how many numbers behind it no seat has yet.
+    pub seat: u64,
+    pub spare: u64,
+    /// The state and the origin of the value as the desk was made.
+    pub start: State,
+    pub origin: Origin,
+    /// The entries from the desk's first on that were seen.
+    pub seen: LinkedList<Entry>,
+    /// How many of the desk's passes it stands for.
+    pub parts: u64,
+    pub stage: Stage,
+    /// Two lists of which the one that is seen is the longer.
+    pub one: LinkedList<Entry>,
+    pub other: LinkedList<Entry>,
+    pub claims: LinkedList<Claim>,
+}
+
+/// The call that a value made last, for the rule: it has no bytes.
+#[derive(Drop)]
+pub struct Made {
+    pub reading: Snapshot<u64>,
+    pub call: Snapshot<Call>,
+    pub stepped: Snapshot<Stepped>,
+}
+
+/// What the slot has.
+#[derive(Drop)]
+pub struct Held<V> {
+    pub value: V,
+    pub made: Option<Made>,
+}
+
+/// The value as the table is made, and how many passes there are.
+#[derive(Drop)]
+pub struct Key<V> {
+    pub value: Snapshot<V>,
+    pub passes: u64,
+}
+
+pub struct Turns<V> {
+    value: PhantomData<V>,
+}
+
+impl<V: Served> atomic_table::TableRule<Option<Held<V>>, View, Key<V>> for Turns<V> {
+    ghost use Rattle.sb_desk.specs.Rule.{Kept, opening_view};
+
+    ghost holds = { λ key. Kept (λ x. V.stands x.value) (λ x. V.origin x.value) (V.state key.value.value) (V.origin key.value.value) key.passes };
+
+    ghost first = { λ key. opening_view (V.state key.value.value) (V.origin key.value.value) key.passes };
+}
