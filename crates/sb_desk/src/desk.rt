@@ -52,7 +52,7 @@ impl<V: Served> Desk<V> {
         requires some { 0 < passes }
         requires stands { V.stands value (V.state value) [] }
         ensures desk { IfOk result (λ r. (r.0.start ≡ V.state value) × (r.0.origin ≡ V.origin value) × (r.0.passes ≡ passes)) }
-        ensures passes { IfOk result (λ r. Each (IsNew r.0) r.1.items) }
+        ensures passes { IfOk result (λ r. (length r.1.items ≡ passes) × Each (IsNew r.0) r.1.items) }
         ensures seats { IfOk result (λ r. map (λ p. p.seat) r.1.items ≡ below passes) }
         ensures value { IfErr result (λ e. value_of e ≡ value) }
     {

@@ -85,6 +85,7 @@ pub(crate) fn deal_out<V: Served>(
     requires table { (place.table_id ≡ top.now.table_id) × IsSized top.now.table_id × (0 < passes) }
     requires place { (start : State) × (origin : Origin) × (place.me ≡ (opening_view start origin passes, [])) × (passes ≤ 2 ^ 63) × IsConsistent start }
     requires room { (room.items ≡ []) × (passes ≤ vec_capacity room) }
+    ensures all { length result.items ≡ passes }
     ensures each { Each (λ p. (p.desk ≡ top.now.table_id) × (p.start ≡ place.me.0.start) × (p.origin ≡ place.me.0.origin) × (p.seen ≡ [])) result.items }
     ensures seats { map (λ p. p.seat) result.items ≡ below passes }
 {
