@@ -1,9 +1,9 @@
 -- Lists of passes: the numbers that were dealt, and what the claims of the last seat say of those that it took in.
-use Rattle.std.proofs.Common.{◌≡◌, ℕ, zero, suc, ◌+◌, List, [], ◌∷◌, ◌++◌, map, refl, sym, ap, ◌∙◌, subst, arith, append-nil, append_assoc}
+use Rattle.std.proofs.Common.{◌≡◌, ℕ, suc, ◌+◌, List, [], ◌∷◌, ◌++◌, map, refl, sym, ap, ◌∙◌, arith, append-nil, append_assoc}
 use Rattle.sb_machine.specs.declared.history.Entry.{Entry}
 use Rattle.sb_desk.specs.Entries.{entries_by}
-use Rattle.sb_desk.specs.Lists.{IsFront, GoesOn, Each}
-use Rattle.sb_desk.specs.Desks.{Sitting, claim_of, below, mine, IsKeptIn}
+use Rattle.sb_desk.specs.Lists.{GoesOn, Each}
+use Rattle.sb_desk.specs.Desks.{Sitting, claim_of, below, IsKeptIn}
 use Rattle.sb_desk.proofs.Logs.{by_append}
 
 pub kept_so : (h : List Entry) (p : Sitting) → GoesOn h p.seat p.seen → IsKeptIn h p
@@ -12,7 +12,6 @@ kept_so h p g = ((g.0, g.1), ap (entries_by p.seat) g.1 ∙ (by_append p.seat p.
 pub kept_all : (h : List Entry) (ps : List Sitting) (p : Sitting) → GoesOn h p.seat p.seen → Each (λ c. GoesOn h c.seat c.seen) (map claim_of ps ++ []) → Each (IsKeptIn h) (ps ++ p ∷ [])
 kept_all h [] p g e = (kept_so h p g, tt)
 kept_all h (q ∷ qs) p g e = (kept_so h q e.0, kept_all h qs p g e.1)
-
 
 map_last : (ps : List Sitting) (p : Sitting) → map (λ p. p.seat) (ps ++ p ∷ []) ≡ map (λ p. p.seat) ps ++ p.seat ∷ []
 map_last [] p = refl

@@ -1,5 +1,5 @@
 -- Fronts of a history and its entries by seat.
-use Rattle.std.proofs.Common.{◌≡◌, ◌≢◌, ◌⊎◌, ℕ, ◌+◌, ◌≤◌, ◌==◌, List, [], ◌∷◌, ◌++◌, length, Bool, true, false, cond, filter, sym, refl, ap, ◌∙◌, subst, inl, inr, arith, append_assoc, append-nil, Option, Some, None, Result}
+use Rattle.std.proofs.Common.{◌≡◌, ◌≢◌, ℕ, ◌==◌, List, [], ◌∷◌, ◌++◌, sym, refl, ap, ◌∙◌, subst, inl, inr, arith, append_assoc, Option, Some, None, Result}
 use Rattle.std.proofs.lemmas.List.Elements.{filter-append}
 use Rattle.sb_machine.specs.declared.call.Call.{Call}
 use Rattle.sb_machine.specs.declared.history.Entry.{Entry}
@@ -41,6 +41,7 @@ goes_on_longer log seat seen longer g f all =
     tail_of : List Entry → List Entry → List Entry
     tail_of d [] = d
     tail_of d (x ∷ xs) = xs
+
     cancel : (xs ys zs : List Entry) → xs ++ ys ≡ xs ++ zs → ys ≡ zs
     cancel [] ys zs e = e
     cancel (x ∷ xs) ys zs e = cancel xs ys zs (ap (tail_of []) e)
@@ -60,6 +61,7 @@ comparable (x ∷ a) (y ∷ b) r q e =
     head_or : Entry → List Entry → Entry
     head_or d [] = d
     head_or d (z ∷ zs) = z
+
     tail_of : List Entry → List Entry
     tail_of [] = []
     tail_of (z ∷ zs) = zs

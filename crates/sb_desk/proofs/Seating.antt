@@ -1,7 +1,6 @@
 -- What cuts and joins views keeps the rule: a note, one more pass, a telling, a gathering; and the table's begin and end.
-use Rattle.std.proofs.Common.{◌≡◌, ◌≢◌, ◌⊎◌, ℕ, zero, suc, ◌+◌, ◌-◌, ◌^◌, ◌<◌, ◌≤◌, List, [], ◌∷◌, ◌++◌, length, set, Bool, true, false, cond, sym, refl, ap, ◌∙◌, subst, ⊎_elim, inl, inr, arith, Option, Some, None, length-set, length-append, nat_lt, if◌then◌else◌}
+use Rattle.std.proofs.Common.{◌≡◌, ◌≢◌, ◌⊎◌, ℕ, zero, suc, ◌+◌, ◌^◌, ◌<◌, ◌≤◌, List, [], ◌∷◌, ◌++◌, length, set, Bool, true, false, sym, refl, ap, ◌∙◌, subst, ⊎_elim, inl, inr, arith, Option, Some, None, length-append, nat_lt, if◌then◌else◌}
 use mathlib.Core.Option.{some, none, some-ne-none, some-injective}
-use mathlib.Core.Option as maybe
 use lib.ListN.{get_elem?}
 use Rattle.std.proofs.lemmas.Bool.Decides.{nat_tests}
 use Rattle.atomic_table.specs.Table.{State, Me, step, keeps, Allows, Splits, Joins, opening, Final, Seen}
@@ -13,7 +12,7 @@ use Rattle.sb_desk.specs.declared.view.View.{View}
 use Rattle.sb_desk.specs.declared.view.Claim.{Claim}
 use Rattle.sb_desk.specs.declared.view.Stage.{Stage}
 use Rattle.sb_desk.specs.declared.view.Stage.TheVariants.{Note, Idle, Waits, Turn, Out, Spent}
-use Rattle.sb_desk.specs.Lists.{IsFront, GoesOn, longer, total, Each}
+use Rattle.sb_desk.specs.Lists.{IsFront, GoesOn, total, Each}
 use Rattle.sb_desk.specs.Rule.{parts, ticketed, tickets, out_at, outs, IsClaim, IsUnused, Sits, IsPlaced, Began, Fits, Kept, opening_view}
 use Rattle.sb_desk.specs.Steps.{compared, note_of, less_one, one_more, spent_view, told, gathered}
 use Rattle.sb_desk.proofs.Sums.{total_set, total_snoc, total_le}

@@ -15,7 +15,7 @@ use std::alloc::Global;
 use std::marker::Model;
 use std::sync::Wait;
 
-/// The most passes that a desk has.
+/// The most passes that a desk has; the rule of its table allows up to 2^63.
 const MAX_PASSES: usize = 1 << 32;
 
 /// One namespace that many seats use in turn. Threads share it by reference.
@@ -35,7 +35,7 @@ impl<V: Served> Model for Desk<V> {
 /// Why there is no desk.
 #[derive(Drop)]
 pub enum NewFault<V> {
-    /// There was no memory, or so many passes are never had. The value comes back.
+    /// There was no memory, or more than 2^32 passes were asked for. The value comes back.
     OutOfMemory { value: V },
 }
 

@@ -1,4 +1,21 @@
 //! One namespace that many seats use in turn, and one history of it that all of them share.
+//!
+//! A [`Desk`] holds a value that answers calls, anything that is [`Served`], and deals out passes to
+//! it; a [`Pass`] is a seat, from which calls are made one after the other, on whatever thread.
+//! Contracts see a pass as the entries that it has seen. Each call gives a longer list, which begins
+//! with the old one, is a legal history of the state in which the desk began, and ends with this
+//! call and the answer that was handed out (`Calls` in `specs/Desks`). `close` gives the value back
+//! with one history that all these lists begin. It stands on the machine, whose `specs/History`
+//! says which histories are legal, and on the kit's `atomic_table`: one slot for the value, and
+//! three words by which seats take turns, under a rule that each step keeps (`specs/Rule`). Nothing
+//! is said of who comes first, nor that anybody is served.
+//!
+//! ```text
+//! let (desk, passes) = Desk::new(alloc, namespace, 8)?;
+//! let (pass, answer) = desk.call(&rt, pass, reading, &call);   // waits for its turn
+//! let (one, other) = desk.tell(one, other);                    // both have seen the longer list
+//! let (namespace, report) = desk.close(passes)?;               // all eight passes are given back
+//! ```
 #![tactic(auto)]
 
 mod closing;

@@ -5,9 +5,9 @@ ghost use Rattle.sb_desk.specs.declared.view.Stage.TheVariants as stages;
 ghost use Rattle.sb_desk.specs.Lists.{IsFront, longer};
 ghost use Rattle.sb_desk.specs.Steps.{IsSized, told, note_of};
 
+use crate::Served;
 use crate::plays::{Compare, Note, Tell};
 use crate::turns::{COUNT, Place, Top};
-use crate::Served;
 
 /// What the seat has seen, in a seat without a number.
 pub(crate) fn note<V: Served>(top: &Top<V>, place: &mut Place<V>) -> Place<V>

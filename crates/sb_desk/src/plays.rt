@@ -1,8 +1,8 @@
 //! What each step on the table tells. These types are for the proofs alone.
 ghost use Rattle.sb_desk.specs.Steps.{drew, looked, took, recorded, entries_in, gave, passed, compared, note_of, less_one, one_more, spent_view, told, gathered};
 
-use crate::view::{Held, View};
 use crate::Served;
+use crate::view::{Held, View};
 use atomic_table::{Join, Play, Split};
 
 pub(crate) struct Draw;

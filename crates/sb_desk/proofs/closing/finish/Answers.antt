@@ -1,4 +1,4 @@
-use Rattle.std.proofs.Common.{rules, ◌≡◌, sym, ◌∙◌, subst, Some, IsSome}
+use Rattle.std.proofs.Common.{rules, ◌≡◌, sym, ◌∙◌, subst, Some}
 use mathlib.Core.Option.{some-injective}
 use Rattle.sb_desk.proofs.Seating.{closed}
 use Rattle.sb_desk.proofs.closing.finish.Goals as goal

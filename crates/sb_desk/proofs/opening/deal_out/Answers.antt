@@ -1,4 +1,4 @@
-use Rattle.std.proofs.Common.{rules, ◌≡◌, ◌+◌, ◌++◌, ◌∷◌, [], length, length-append, map, sym, ap, ◌∙◌, subst, arith}
+use Rattle.std.proofs.Common.{rules, ◌≡◌, ◌+◌, ◌++◌, [], length, length-append, map, sym, ap, ◌∙◌, subst, arith}
 use Rattle.sb_desk.specs.Desks.{Sitting, below}
 use Rattle.sb_desk.specs.Lists.{Each}
 use Rattle.sb_desk.proofs.Ends.{dealt_more, dealt_all, each_more}
@@ -32,4 +32,4 @@ returns-clause-seats g c =
     let i = c.loop.invariant in
     let last : c.loop.place.me.0.parts ≡ 1 = search rules in
     subst (λ z. map (λ p. p.seat) z ≡ below c.args.passes) (sym c.add-2.ensures.items)
-        (dealt_all c.loop.dealt.items _ c.args.passes (subst (λ z. map (λ p. p.seat) c.loop.dealt.items ++ below z ≡ below c.args.passes) last i.seats) (search rules))
+    (dealt_all c.loop.dealt.items _ c.args.passes (subst (λ z. map (λ p. p.seat) c.loop.dealt.items ++ below z ≡ below c.args.passes) last i.seats) (search rules))

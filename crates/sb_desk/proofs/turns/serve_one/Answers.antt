@@ -1,11 +1,10 @@
-use Rattle.std.proofs.Common.{rules, ◌≡◌, ◌++◌, ℕ, List, [], sym, subst, ap, ◌∙◌, refl}
+use Rattle.std.proofs.Common.{rules, ◌≡◌, ◌++◌, List, subst, ◌∙◌}
 use Rattle.sb_machine.specs.declared.history.Entry.{Entry}
 use Rattle.sb_machine.specs.declared.state.State.{State}
 use Rattle.sb_machine.specs.Consistent.{IsConsistent}
 use Rattle.sb_machine.specs.History.{IsLegal}
-use Rattle.sb_desk.specs.Entries.{made_by, entries_by}
+use Rattle.sb_desk.specs.Entries.{made_by}
 use Rattle.sb_desk.specs.Rule.{log_of}
-use Rattle.sb_desk.proofs.Logs.{by_added}
 use Rattle.sb_desk.proofs.turns.serve_one.Goals as goal
 
 pub give_back-requires-clause-value : goal.give_back-requires-clause-value
@@ -17,8 +16,7 @@ give_back-requires-clause-value g c =
     let stood : g.V.Served.stands c.step-stepped.new.self c.wait.new.place.me.0.start (out.0 ++ made) = c.step-stepped.ensures.stands c.take_out-value.new.place.me.0.seat c.wait.new.place.me.0.start out.0 out.2 in
     let start : c.wait.new.place.me.0.start ≡ c.record_step.new.place.me.0.start = search rules in
     let log : out.0 ++ made ≡ log_of c.record_step.new.place.me.0.stage = search rules in
-    let origin : c.wait.new.place.me.0.origin ≡ c.record_step.new.place.me.0.origin = search rules in
-    (
+    let origin : c.wait.new.place.me.0.origin ≡ c.record_step.new.place.me.0.origin = search rules in (
       record { value = c.step-stepped.new.self; made = held.0 },
       held.1,
       subst (λ (z : State × List Entry). g.V.Served.stands c.step-stepped.new.self z.0 z.1) (λ i. (start i, log i)) stood,

@@ -1,4 +1,4 @@
-use Rattle.std.proofs.Common.{rules, ◌≡◌, ◌++◌, List, sym, ap, ◌∙◌, refl, append_assoc}
+use Rattle.std.proofs.Common.{rules, ◌≡◌, ◌++◌, List, ap, ◌∙◌, refl, append_assoc}
 use Rattle.sb_machine.specs.declared.history.Entry.{Entry}
 use Rattle.sb_desk.specs.contracts.pass.Pass.{the_view}
 use Rattle.sb_desk.specs.Desks.{Sitting}
