@@ -1,5 +1,5 @@
 //! What one seat lets another know.
-ghost use Rattle.std.specs.Prelude.{◌≡◌, ℕ, List, [], ◌∷◌};
+ghost use Rattle.std.specs.Prelude.{◌≡◌, List, []};
 ghost use Rattle.sb_desk.specs.declared.view.Stage.TheVariants.{Idle};
 ghost use Rattle.sb_desk.specs.declared.view.Stage.TheVariants as stages;
 ghost use Rattle.sb_desk.specs.Lists.{IsFront, longer};

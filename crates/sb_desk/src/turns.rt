@@ -6,7 +6,7 @@ ghost use Rattle.sb_machine.specs.declared.history.Entry.{Entry};
 ghost use Rattle.sb_desk.specs.declared.view.Stage.TheVariants.{Idle, Waits, Turn, Out};
 ghost use Rattle.sb_desk.specs.Entries.{made_by, entries_by};
 ghost use Rattle.sb_desk.specs.Rule.{word, ticket_of, log_of};
-ghost use Rattle.sb_desk.specs.Steps.{IsSized, placed, with_made, entries_in};
+ghost use Rattle.sb_desk.specs.Steps.{IsSized, placed, with_made};
 
 use crate::plays::{Draw, Give, Leave, Look, Record, Take};
 use crate::view::{Held, Key, Made, Turns, View};

@@ -3,7 +3,7 @@
 //!
 //! Word 0 is the number of entries, word 1 the next ticket and word 2 the ticket that has the
 //! turn, each modulo 2^64. The one slot has the value.
-ghost use Rattle.std.specs.Prelude.{◌≡◌, ℕ, List};
+ghost use Rattle.std.specs.Prelude.{List};
 
 use crate::{Origin, Served, Stepped};
 use sb_machine::{Call, Entry, State};
