@@ -1,0 +1,71 @@
+-- The state that an engine in memory is, and what its plans come to.
+use Rattle.std.specs.Prelude.{◌≡◌, ◌⊎◌, ◌≤◌, List, ℕ, Bool, true, false, ◌||◌, not, [], length, Option, Some, None, is_some, option_map, Result, Ok, Err}
+use Rattle.std.specs.List.{list_any}
+use Rattle.sb_entities.specs.Places.{place_of}
+use Rattle.sb_entities.specs.Stores.{space_in, IsRoomFor}
+use Rattle.sb_machine.specs.Answers.{answer_of, state_of, is_change, with_kept, kept_as}
+use Rattle.sb_machine.specs.Changes.{after_all, is_numbered}
+use Rattle.sb_machine.specs.Due.{is_none_in}
+use Rattle.sb_machine.specs.Namespace.{live, made}
+use Rattle.sb_machine.specs.Repeats.{Outcome, refused, repeated, acted, client_of, outcome_of}
+use Rattle.sb_machine.specs.declared.call.Act.{Act}
+use Rattle.sb_machine.specs.declared.call.By.{By}
+use Rattle.sb_machine.specs.declared.call.Call.{Call}
+use Rattle.sb_machine.specs.declared.change.Change.{Change}
+use Rattle.sb_machine.specs.declared.reply.Answered.TheVariants.{New, Kept as Repeated}
+use Rattle.sb_machine.specs.declared.reply.Refusal.{Refusal}
+use Rattle.sb_machine.specs.declared.reply.Refusal.TheVariants.{OutOfMemory}
+use Rattle.sb_machine.specs.declared.state.State.{State}
+use Rattle.sb_engine.specs.Planned.{Planned}
+use Rattle.sb_engine.specs.declared.engine.Engine.{Engine}
+use Rattle.sb_engine.specs.declared.summary.Summary.{Summary}
+
+abbrev pub engine_state : Engine → State
+engine_state e = record { now = e.moment; clients = e.clients.clients; space = space_in e.space }
+
+-- ---- plans
+
+-- the plan changes something
+abbrev pub is_changing : Planned → Bool
+is_changing p = is_some p.kept || not (is_none_in p.changes)
+
+-- the state after a plan at a moment
+abbrev pub carried_out : ℕ → Planned → State → State
+carried_out t p s = record { now = t; clients = elim p.kept [ Some k ↦ with_kept k s.clients | None ↦ s.clients ]; space = after_all t p.changes s.space }
+
+-- what the machine makes of a call
+pub record IsPlanOf (s : State) (t : ℕ) (call : Call) (p : Planned) : Type 0 where
+  pub answer : answer_of s t call ≡ Ok p.answered
+  pub change : is_change (client_of call) (outcome_of s t call) ≡ is_changing p
+  pub state : is_changing p ≡ true → state_of s t call ≡ carried_out t p s
+
+-- no number that its changes give passes the greatest
+abbrev pub IsSound : State → ℕ → Planned → Type 0
+IsSound s t p = is_none_in p.changes ≡ false → is_numbered t p.changes s.space ≡ true
+
+-- none of these changes adds to a list
+abbrev pub adds_nothing : List Change → Bool
+adds_nothing cs = not (list_any (λ c. is_some (place_of c)) cs)
+
+-- there is room for what a plan adds
+pub record HasRoom (e : Engine) (t : ℕ) (p : Planned) : Type 0 where
+  pub sound : IsSound (engine_state e) t p
+  pub space : IsRoomFor t p.changes e.space
+  pub clients : is_some p.kept ≡ true → 1 ≤ e.clients.spare
+
+-- ---- what a call comes to, as a plan
+
+abbrev pub planned_of : Option By → Act → Outcome → Result Planned Refusal
+planned_of by act (refused r) = Err r
+planned_of by act (repeated reply) = Ok (record { changes = []; answered = Repeated reply; kept = None })
+planned_of by act (acted reply cs) = Ok (record { changes = cs; answered = New reply; kept = option_map (λ b. kept_as b act reply) by })
+
+-- this plan, or this refusal; want of memory may come in place of each
+abbrev pub PlansAs : Result Planned Refusal → Result Planned Refusal → Type 0
+PlansAs (Ok p) said = said ≡ Ok p
+PlansAs (Err r) said = (r ≡ OutOfMemory) ⊎ (said ≡ Err r)
+
+-- ---- numbers
+
+abbrev pub summary_of : State → ℕ → Summary
+summary_of s events = record { copies = live s.space; entities = length s.space.entities; events = events; made = made s.space; now = s.now }

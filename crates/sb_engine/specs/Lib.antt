@@ -1,0 +1,13 @@
+pub mod Plans
+pub mod Drafts
+pub mod Heads
+pub mod Growing
+pub mod Readings
+pub mod Removals
+pub mod Rules
+pub mod Numbers
+pub mod Quotas
+pub mod Calls
+pub mod Planned
+pub mod Small
+pub mod Engines

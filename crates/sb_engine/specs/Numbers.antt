@@ -1,0 +1,26 @@
+-- The numbers that changes give, each kind apart.
+use Rattle.std.specs.Prelude.{ℕ}
+use Rattle.sb_machine.specs.Changes.{numbers_in}
+use Rattle.sb_machine.specs.Leaves.{locks_given}
+use Rattle.sb_machine.specs.declared.change.Change.{Change}
+use Rattle.sb_machine.specs.declared.change.Change.TheVariants.{InLeaf, Makes, Begins}
+use Rattle.sb_engine.specs.declared.numbers.Numbered.{Numbered}
+use Rattle.sb_engine.specs.declared.numbers.Numbered.TheVariants.{Copies, Entities, Locks, Transactions}
+
+abbrev pub entities_in : Change → ℕ
+entities_in (Makes kind path description rules) = 1
+entities_in _ = 0
+
+abbrev pub locks_in : Change → ℕ
+locks_in (InLeaf key c) = locks_given c
+locks_in _ = 0
+
+abbrev pub transactions_in : Change → ℕ
+transactions_in (Begins entity deadline) = 1
+transactions_in _ = 0
+
+abbrev pub given_in : Numbered → Change → ℕ
+given_in Copies c = numbers_in c
+given_in Entities c = entities_in c
+given_in Locks c = locks_in c
+given_in Transactions c = transactions_in c

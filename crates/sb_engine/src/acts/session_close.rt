@@ -1,0 +1,140 @@
+// Giving a session back, with its copies.
+ghost use Rattle.std.specs.Prelude.{◌≡◌, [], ◌∷◌, ◌++◌, filter, false, OnOk};
+ghost use Rattle.std.specs.List.{flat_map};
+ghost use Rattle.sb_machine.specs.Delivery as delivery;
+ghost use Rattle.sb_machine.specs.Leases as leases;
+ghost use Rattle.sb_machine.specs.Namespace as namespace;
+ghost use Rattle.sb_machine.specs.Rows.{answers};
+ghost use Rattle.sb_machine.specs.Sessions as spec;
+ghost use Rattle.sb_machine.specs.declared.reply.Reply.TheVariants.{Done};
+ghost use Rattle.sb_fanout.specs.Lasts.{given_in};
+ghost use Rattle.sb_entities.specs.Stores.{entity_in, space_in};
+ghost use Rattle.sb_engine.specs.Drafts.{DraftsRow};
+ghost use Rattle.sb_engine.specs.Growing.{IsGrown};
+ghost use Rattle.sb_engine.specs.Plans.{PlansRow};
+
+use crate::Draft;
+use crate::drafting::planned;
+use crate::holding::held_at_address;
+use crate::release::{push_in, released};
+use sb_copies::is_under_session;
+use sb_entities::{EntityStore, SpaceStore};
+use sb_fanout::Lasts;
+use sb_machine::{Changes, LeafChange, Part, Path, Refusal, Reply, StoredCopy, Token};
+use std::alloc::{AllocError, Global};
+
+// A copy under a session's lock is released without a raise.
+fn release_under(
+    alloc: Global,
+    space: &SpaceStore,
+    lasts: &mut Lasts,
+    changes: &mut Changes,
+    moment: u64,
+    entity: &EntityStore,
+    part: Part,
+    lock: u64,
+    copy: &StoredCopy,
+) -> Result<(), AllocError>
+    ensures { OnOk result (IsGrown (space_in space.now) (flat_map (λ c. delivery.released (namespace.listed (space_in space.now)) moment (entity_in entity.now) part c false false) (filter (λ c. leases.is_under_session lock c.standing) (copy.now ∷ []))) (given_in lasts.old) (given_in lasts.new) changes.old changes.new) }
+{
+    if !is_under_session(copy.standing, lock) {
+        return Ok(());
+    }
+    released(
+        alloc, space, lasts, changes, entity, part, copy, false, false, moment,
+    )
+}
+
+// The same of each of these.
+fn release_all_under(
+    alloc: Global,
+    space: &SpaceStore,
+    lasts: &mut Lasts,
+    changes: &mut Changes,
+    moment: u64,
+    entity: &EntityStore,
+    part: Part,
+    lock: u64,
+    copies: &[StoredCopy],
+) -> Result<(), AllocError>
+    ensures { OnOk result (IsGrown (space_in space.now) (flat_map (λ c. delivery.released (namespace.listed (space_in space.now)) moment (entity_in entity.now) part c false false) (filter (λ c. leases.is_under_session lock c.standing) copies.now)) (given_in lasts.old) (given_in lasts.new) changes.old changes.new) }
+{
+    for copy in copies {
+        release_under(
+            alloc, space, lasts, changes, moment, entity, part, lock, copy,
+        )?;
+    }
+    Ok(())
+}
+
+fn copies_in(entity: &EntityStore, part: Part) -> (&[StoredCopy], &[StoredCopy])
+    ensures { result.0.now ++ result.1.now ≡ (namespace.leaf_of part (entity_in entity.now)).copies }
+{
+    entity.part(part).copies().as_slices()
+}
+
+// A session is held no more, and its copies are released at `moment`, in ms since 1970: changes
+// behind those of a plan. Where memory is wanting, the plan is lost.
+fn closed(
+    alloc: Global,
+    space: &SpaceStore,
+    lasts: &mut Lasts,
+    changes: &mut Changes,
+    moment: u64,
+    entity: &EntityStore,
+    part: Part,
+    lock: u64,
+) -> Result<(), AllocError>
+    ensures { OnOk result (IsGrown (space_in space.now) (spec.closed (space_in space.now) moment (entity_in entity.now) part lock) (given_in lasts.old) (given_in lasts.new) changes.old changes.new) }
+{
+    push_in(changes, entity, part, LeafChange::Closes { lock })?;
+    let (first, second) = copies_in(entity, part);
+    release_all_under(
+        alloc, space, lasts, changes, moment, entity, part, lock, first,
+    )?;
+    release_all_under(
+        alloc, space, lasts, changes, moment, entity, part, lock, second,
+    )
+}
+
+fn close(
+    alloc: Global,
+    space: &SpaceStore,
+    moment: u64,
+    entity: &EntityStore,
+    part: Part,
+    lock: u64,
+) -> Result<Draft, AllocError>
+    ensures { DraftsRow result (answers Done (spec.closed (space_in space.now) moment (entity_in entity.now) part lock)) }
+{
+    let mut lasts = Lasts::new(alloc);
+    let mut changes = Changes::new(alloc);
+    closed(
+        alloc,
+        space,
+        &mut lasts,
+        &mut changes,
+        moment,
+        entity,
+        part,
+        lock,
+    )?;
+    Ok(Draft {
+        reply: Reply::Done,
+        changes,
+    })
+}
+
+/// What giving a session back at `moment`, in ms since 1970, would do.
+pub fn plan_session_close(
+    alloc: Global,
+    space: &SpaceStore,
+    moment: u64,
+    from: &Path,
+    token: Token,
+) -> Result<Draft, Refusal>
+    ensures { PlansRow result (spec.session_close_row (space_in space.now) moment from.now token) }
+{
+    let held = held_at_address(space, moment, from, token)?;
+    planned(close(alloc, space, moment, held.entity, from.part, token.lock))
+}

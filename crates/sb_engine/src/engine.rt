@@ -1,0 +1,218 @@
+// A whole namespace in memory.
+ghost use Rattle.std.specs.Prelude.{◌≡◌, ◌⊎◌, ◌≤◌, ◌<◌, ◌^◌, [], Some, None, is_some, true, false, Ok, Err, IfOk, IfErr, OnOk};
+ghost use Rattle.std.specs.Option.{option_map};
+ghost use Rattle.std.specs.Result.{IsOk};
+ghost use Rattle.sb_entities.specs.Stores.{space_in, IsRoomFor};
+ghost use Rattle.sb_machine.specs.Acts.{row_of};
+ghost use Rattle.sb_machine.specs.Answers.{answer_of, kept_as, with_kept, max_moment};
+ghost use Rattle.sb_machine.specs.Changes.{after_all, is_numbered};
+ghost use Rattle.sb_machine.specs.Due.{is_none_in};
+ghost use Rattle.sb_machine.specs.Namespace.{empty_state, live as live_of, made as made_of};
+ghost use Rattle.sb_machine.specs.Repeats as repeats;
+ghost use Rattle.sb_machine.specs.Repeats.{acted};
+ghost use Rattle.sb_machine.specs.declared.reply.Answered.TheVariants.{Kept as Repeated};
+ghost use Rattle.sb_machine.specs.declared.reply.Refusal.TheVariants.{OutOfMemory};
+ghost use Rattle.sb_engine.specs.Engines.{engine_state, adds_nothing, carried_out, planned_of, summary_of, HasRoom, IsPlanOf, IsSound, PlansAs};
+
+use crate::calls::{Verdict, client_of, judge_number};
+use crate::copies::{copy_of_act, copy_of_reply};
+use crate::planning::plan_row;
+use crate::numbers::{live, made};
+use crate::{Draft, Plan, Summary};
+use sb_entities::SpaceStore;
+use sb_machine::{Act, Answered, By, Call, Changes, Kept, Refusal, Reply};
+use sb_repeats::Clients;
+use std::alloc::{AllocError, Global};
+
+/// A namespace, with what is kept of its clients.
+#[derive(Drop)]
+pub struct Engine {
+    alloc: Global,
+    moment: u64,
+    clients: Clients,
+    space: SpaceStore,
+}
+
+// What is kept of an accepted call.
+fn kept_of(alloc: Global, by: &By, act: &Act, reply: &Reply) -> Result<Kept, AllocError>
+    ensures { IfOk result (λ k. k ≡ kept_as by.now act.now reply.now) }
+{
+    Ok(Kept {
+        client: by.client.clone()?,
+        number: by.number,
+        act: copy_of_act(act)?,
+        reply: copy_of_reply(alloc, reply)?,
+    })
+}
+
+fn kept_where(
+    alloc: Global,
+    by: Option<&By>,
+    act: &Act,
+    reply: &Reply,
+) -> Result<Option<Kept>, AllocError>
+    ensures kept { IfOk result (λ k. k ≡ option_map (λ b. kept_as b act.now reply.now) (option_map (λ b. b.now) by.entry)) }
+    ensures free { option_map (λ b. b.now) by.entry ≡ None → IsOk result }
+{
+    match by {
+        Some(by) => Ok(Some(kept_of(alloc, by, act, reply)?)),
+        None => Ok(None),
+    }
+}
+
+// The plan of a draft, kept where a client with a number asks.
+fn plan_draft(alloc: Global, by: Option<&By>, act: &Act, draft: Draft) -> Result<Plan, AllocError>
+    ensures plan { IfOk result (λ p. planned_of (option_map (λ b. b.now) by.entry) act.now (acted draft.reply draft.changes) ≡ Ok p) }
+    ensures free { option_map (λ b. b.now) by.entry ≡ None → IsOk result }
+{
+    let kept = kept_where(alloc, by, act, &draft.reply)?;
+    let Draft { reply, changes } = draft;
+    Ok(Plan::new(changes, Answered::New(reply), kept))
+}
+
+// The plan of a call that acted before.
+fn plan_repeated(alloc: Global, reply: &Reply) -> Result<Plan, AllocError>
+    ensures { IfOk result (λ p. p ≡ record { changes = []; answered = Repeated reply.now; kept = None }) }
+{
+    let reply = copy_of_reply(alloc, reply)?;
+    Ok(Plan::new(Changes::new(alloc), Answered::Kept(reply), None))
+}
+
+impl Engine {
+    /// A namespace with nothing in it; takes no memory.
+    pub fn new(alloc: Global, salt: u64) -> Engine
+        ensures { engine_state result ≡ empty_state salt }
+    {
+        Engine {
+            alloc,
+            moment: 0,
+            clients: Clients::new(alloc),
+            space: SpaceStore::new(alloc, salt),
+        }
+    }
+
+    /// The moment up to which time has come, in ms since 1970.
+    pub fn moment(&self) -> u64
+        ensures { result ≡ (engine_state self.now).now }
+    {
+        self.moment
+    }
+
+    // ---- planning
+
+    // What a call that acts would do.
+    fn plan_acting(&self, moment: u64, by: Option<&By>, call: &Call) -> Result<Plan, Refusal>
+        requires { moment ≤ max_moment }
+        ensures plan { PlansAs result (planned_of (option_map (λ b. b.now) by.entry) call.now.act (repeats.of_row (row_of (engine_state self.now).space moment call.now.by call.now.act))) }
+        ensures sound { IfOk result (λ p. IsSound (engine_state self.now) moment p) }
+    {
+        let draft = plan_row(self.alloc, &self.space, moment, &call.by, &call.act)?;
+        match plan_draft(self.alloc, by, &call.act, draft) {
+            Ok(plan) => Ok(plan),
+            Err(_) => Err(Refusal::OutOfMemory),
+        }
+    }
+
+    // What a call with a client's number would do.
+    fn plan_numbered(&self, moment: u64, by: &By, call: &Call) -> Result<Plan, Refusal>
+        requires { moment ≤ max_moment }
+        ensures plan { PlansAs result (planned_of (Some by.now) call.now.act (repeats.for_client (Some by.now) call.now.act (engine_state self.now).clients (repeats.of_row (row_of (engine_state self.now).space moment call.now.by call.now.act)))) }
+        ensures sound { IfOk result (λ p. IsSound (engine_state self.now) moment p) }
+    {
+        match judge_number(&self.clients, by, &call.act) {
+            Verdict::Acts => self.plan_acting(moment, Some(by), call),
+            Verdict::Acted(reply) => match plan_repeated(self.alloc, reply) {
+                Ok(plan) => Ok(plan),
+                Err(_) => Err(Refusal::OutOfMemory),
+            },
+            Verdict::Refused(refusal) => Err(refusal),
+        }
+    }
+
+    fn plan_call(&self, moment: u64, call: &Call) -> Result<Plan, Refusal>
+        requires { moment ≤ max_moment }
+        ensures plan { PlansAs result (planned_of (repeats.client_of call.now) call.now.act (repeats.outcome_of (engine_state self.now) moment call.now)) }
+        ensures sound { IfOk result (λ p. IsSound (engine_state self.now) moment p) }
+    {
+        match client_of(call) {
+            Some(by) => self.plan_numbered(moment, by, call),
+            None => self.plan_acting(moment, None, call),
+        }
+    }
+
+    /// What a call would do at a moment, in ms since 1970, at which nothing is due. It changes
+    /// nothing.
+    pub fn plan(&self, moment: u64, call: &Call) -> Result<Plan, Refusal>
+        requires { moment ≤ max_moment }
+        ensures ok { IfOk result (λ p. IsPlanOf (engine_state self.now) moment call.now p × IsSound (engine_state self.now) moment p) }
+        ensures err { IfErr result (λ r. (r ≡ OutOfMemory) ⊎ (answer_of (engine_state self.now) moment call.now ≡ Err r)) }
+    {
+        self.plan_call(moment, call)
+    }
+
+    // ---- carrying out
+
+    /// Takes all memory that a plan needs; where it is wanting, the namespace stays. A plan whose
+    /// changes add nothing, and that isn't kept, needs none.
+    pub fn reserve(&mut self, moment: u64, plan: &Plan) -> Result<(), AllocError>
+        requires sound { IsSound (engine_state self.old) moment plan.now }
+        ensures state { engine_state self.new ≡ engine_state self.old }
+        ensures room { OnOk result (HasRoom self.new moment plan.now) }
+        ensures free { is_some plan.now.kept ≡ false → adds_nothing plan.now.changes ≡ true → IsOk result }
+    {
+        if plan.is_kept() {
+            self.clients.reserve(1)?;
+        }
+        self.space.reserve(moment, plan.changes())
+    }
+
+    /// Carries a plan out at a moment, in ms since 1970; it takes no memory.
+    pub fn commit(&mut self, moment: u64, plan: Plan) -> Answered
+        requires room { HasRoom self.old moment plan }
+        ensures state { engine_state self.new ≡ carried_out moment plan (engine_state self.old) }
+        ensures answered { result ≡ plan.answered }
+    {
+        let (changes, answered, kept) = plan.into_parts();
+        carry_changes(&mut self.space, moment, changes);
+        keep(&mut self.clients, kept);
+        self.moment = moment;
+        answered
+    }
+
+    // ---- numbers
+
+    /// The numbers of the namespace; of the journal it knows nothing.
+    pub fn summary(&self) -> Summary
+        requires copies { live_of (engine_state self.now).space < 2 ^ 64 }
+        requires numbers { made_of (engine_state self.now).space < 2 ^ 64 }
+        ensures { result ≡ summary_of (engine_state self.now) 0 }
+    {
+        Summary {
+            copies: live(&self.space),
+            entities: self.space.entities().len() as u64,
+            events: 0,
+            made: made(&self.space),
+            now: self.moment,
+        }
+    }
+}
+
+// Changes are carried out where there are any.
+fn carry_changes(space: &mut SpaceStore, moment: u64, changes: Changes)
+    requires room { IsRoomFor moment changes space.old }
+    requires numbered { is_none_in changes ≡ false → is_numbered moment changes (space_in space.old) ≡ true }
+    ensures { space_in space.new ≡ after_all moment changes (space_in space.old) }
+{
+    if !changes.is_empty() {
+        space.carry_out(moment, changes);
+    }
+}
+
+fn keep(clients: &mut Clients, kept: Option<Kept>)
+    requires { is_some kept ≡ true → 1 ≤ clients.old.spare }
+    ensures { clients.new.clients ≡ elim kept [ Some k ↦ with_kept k clients.old.clients | None ↦ clients.old.clients ] }
+{
+    if let Some(kept) = kept {
+        clients.keep(kept);
+    }
+}

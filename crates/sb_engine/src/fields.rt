@@ -1,0 +1,364 @@
+// The first field of a call that is outside its range.
+ghost use Rattle.std.specs.Prelude.{◌≡◌, ◌&&◌, ◌||◌, not, length, codes, is_none, option_map};
+ghost use Rattle.std.specs.List.{list_all, list_any};
+ghost use Rattle.std.specs.Str.{chars};
+ghost use Rattle.sb_machine.specs.Fields as fields;
+ghost use Rattle.sb_machine.specs.Names as names;
+ghost use Rattle.sb_model.specs.Effects as effects;
+
+use crate::limits::{
+    MAX_CLIENT, MAX_ID, MAX_MESSAGES, MAX_NUMBER, MAX_PEEKED, MAX_REASON, MAX_TTL,
+    MAX_USER_PROPERTIES,
+};
+use sb_machine::{Act, By, FilterText, How, Part, Path, Which};
+use sb_model::{Message, Property, Rows, SystemName, SystemText, Text};
+
+// ---- numbers and texts
+
+fn is_between(low: u64, high: u64, n: u64) -> bool
+    ensures { result ≡ fields.is_between low high n }
+{
+    low <= n && n <= high
+}
+
+fn is_between_or_none(low: u64, high: u64, n: Option<u64>) -> bool
+    ensures { result ≡ fields.is_between_or_none low high n }
+{
+    match n {
+        Some(n) => is_between(low, high, n),
+        None => true,
+    }
+}
+
+fn is_number(n: u64) -> bool
+    ensures { result ≡ fields.is_number n }
+{
+    is_between(1, MAX_NUMBER, n)
+}
+
+fn characters(text: &str) -> usize
+    ensures { result ≡ length (chars text.now) }
+{
+    text.chars().count()
+}
+
+fn is_short(most: usize, text: &Option<Text>) -> bool
+    ensures { result ≡ fields.is_short most text.now }
+{
+    match text {
+        Some(text) => characters(text.as_str()) <= most,
+        None => true,
+    }
+}
+
+// The key where the test fails.
+fn unless(passes: bool, key: &'static str) -> Option<&'static str>
+    ensures { option_map (λ k. k.now) result ≡ fields.unless passes key.now }
+{
+    if passes { None } else { Some(key) }
+}
+
+// ---- messages
+
+fn text_limit(name: SystemName) -> Option<usize>
+    ensures { result ≡ effects.text_limit name }
+{
+    match name {
+        SystemName::MessageId | SystemName::SessionId | SystemName::ReplyToSessionId => {
+            Some(MAX_ID)
+        }
+        SystemName::Label
+        | SystemName::CorrelationId
+        | SystemName::To
+        | SystemName::ReplyTo
+        | SystemName::ContentType => None,
+    }
+}
+
+fn is_within(limit: Option<usize>, count: usize) -> bool
+    ensures { result ≡ effects.is_within limit count }
+{
+    match limit {
+        Some(limit) => count <= limit,
+        None => true,
+    }
+}
+
+fn is_good_text(own: &SystemText) -> bool
+    ensures { result ≡ effects.is_within (effects.text_limit own.now.name) (length (chars own.now.text)) }
+{
+    is_within(text_limit(own.name), characters(own.text.as_str()))
+}
+
+fn bad_in_texts(sys: &[SystemText]) -> Option<&'static str>
+    ensures { option_map (λ k. k.now) result ≡ fields.bad_in_texts sys.now }
+{
+    for own in sys {
+        if !is_good_text(own) {
+            return Some(own.name.name());
+        }
+    }
+    None
+}
+
+fn is_capital(b: u8) -> bool
+    ensures { result ≡ fields.is_capital b }
+{
+    65 <= b && b <= 90
+}
+
+fn has_capital(name: &[u8]) -> bool
+    ensures { result ≡ list_any fields.is_capital name.now }
+{
+    name.iter().any(|b| is_capital(*b))
+}
+
+fn is_length_between(low: usize, high: usize, length: usize) -> bool
+    ensures { result ≡ fields.is_between low high length }
+{
+    low <= length && length <= high
+}
+
+fn is_property_name(name: &[u8]) -> bool
+    ensures { result ≡ fields.is_property_name name.now }
+{
+    is_length_between(1, 128, name.len()) && !has_capital(name)
+}
+
+fn are_property_names(props: &[Property]) -> bool
+    ensures { result ≡ list_all (λ p. fields.is_property_name p.name) props.now }
+{
+    props.iter().all(|p| is_property_name(p.name.as_bytes()))
+}
+
+fn are_properties(props: &[Property]) -> bool
+    ensures { result ≡ fields.are_properties props.now }
+{
+    are_property_names(props) && props.len() <= MAX_USER_PROPERTIES
+}
+
+fn bad_in_conditions(sys: &[SystemText], props: &[Property]) -> Option<&'static str>
+    ensures { option_map (λ k. k.now) result ≡ fields.bad_in_conditions sys.now props.now }
+{
+    let bad = bad_in_texts(sys);
+    if bad.is_some() {
+        return bad;
+    }
+    unless(are_properties(props), "props")
+}
+
+fn may_be_scheduled(is_via: bool, schedule: Option<u64>) -> bool
+    ensures { result ≡ (not is_via || is_none schedule) }
+{
+    !is_via || schedule.is_none()
+}
+
+fn bad_in_message(is_via: bool, message: &Message) -> Option<&'static str>
+    ensures { option_map (λ k. k.now) result ≡ fields.bad_in_message is_via message.now }
+{
+    let bad = bad_in_conditions(message.sys.as_slice(), message.props.as_slice());
+    if bad.is_some() {
+        return bad;
+    }
+    if !is_between_or_none(1, MAX_TTL, message.ttl) {
+        return Some("ttl");
+    }
+    unless(may_be_scheduled(is_via, message.schedule), "schedule")
+}
+
+fn bad_in_messages(is_via: bool, messages: &[Message]) -> Option<&'static str>
+    ensures { option_map (λ k. k.now) result ≡ fields.bad_in_messages is_via messages.now }
+{
+    for message in messages {
+        let bad = bad_in_message(is_via, message);
+        if bad.is_some() {
+            return bad;
+        }
+    }
+    None
+}
+
+fn bad_in_send(is_via: bool, messages: &[Message], txn: Option<u64>) -> Option<&'static str>
+    ensures { option_map (λ k. k.now) result ≡ fields.bad_in_send is_via messages.now txn }
+{
+    if messages.len() > MAX_MESSAGES {
+        return Some("messages");
+    }
+    let bad = bad_in_messages(is_via, messages);
+    if bad.is_some() {
+        return bad;
+    }
+    unless(is_between_or_none(1, MAX_NUMBER, txn), "txn")
+}
+
+// ---- other acts
+
+fn bad_in_filter(asked: &FilterText) -> Option<&'static str>
+    ensures { option_map (λ k. k.now) result ≡ fields.bad_in_filter asked.now }
+{
+    match asked {
+        FilterText::Sql(_) => None,
+        FilterText::Correlation(conditions) => {
+            bad_in_conditions(conditions.sys.as_slice(), conditions.props.as_slice())
+        }
+    }
+}
+
+fn bad_in_which(which: &Which) -> Option<&'static str>
+    ensures { option_map (λ k. k.now) result ≡ fields.bad_in_which which.now }
+{
+    match which {
+        Which::Number(number) => unless(is_number(*number), "seq"),
+        Which::Id(_) => None,
+    }
+}
+
+fn bad_in_how(how: &How) -> Option<&'static str>
+    ensures { option_map (λ k. k.now) result ≡ fields.bad_in_how how.now }
+{
+    match how {
+        How::Complete | How::Abandon | How::Defer => None,
+        How::DeadLetter {
+            reason,
+            description,
+        } => {
+            if !is_short(MAX_REASON, reason) {
+                return Some("reason");
+            }
+            unless(is_short(MAX_REASON, description), "description")
+        }
+    }
+}
+
+fn bad_in_settle(which: &Which, txn: Option<u64>, how: &How) -> Option<&'static str>
+    ensures { option_map (λ k. k.now) result ≡ fields.first_some (fields.bad_in_which which.now) (fields.first_some (fields.unless (fields.is_between_or_none 1 9223372036854775807 txn) (codes "txn")) (fields.bad_in_how how.now)) }
+{
+    let bad = bad_in_which(which);
+    if bad.is_some() {
+        return bad;
+    }
+    if !is_between_or_none(1, MAX_NUMBER, txn) {
+        return Some("txn");
+    }
+    bad_in_how(how)
+}
+
+fn is_main(part: Part) -> bool
+    ensures { result ≡ names.is_main part }
+{
+    match part {
+        Part::Main => true,
+        Part::Dead | Part::Transfer => false,
+    }
+}
+
+fn bad_in_entity(path: &Path) -> Option<&'static str>
+    ensures { option_map (λ k. k.now) result ≡ fields.bad_in_entity path.now }
+{
+    unless(is_main(path.part), "entity")
+}
+
+fn bad_in_peek(start: u64, count: u64) -> Option<&'static str>
+    ensures { option_map (λ k. k.now) result ≡ fields.first_some (fields.unless (fields.is_number start) (codes "start")) (fields.unless (fields.is_between 1 fields.max_peeked count) (codes "count")) }
+{
+    if !is_number(start) {
+        return Some("start");
+    }
+    unless(is_between(1, MAX_PEEKED, count), "count")
+}
+
+fn bad_in_act(is_via: bool, act: &Act) -> Option<&'static str>
+    ensures { option_map (λ k. k.now) result ≡ fields.bad_in_act is_via act.now }
+{
+    match act {
+        Act::CreateRule { filter, .. } => bad_in_filter(filter),
+        Act::Delete { entity } | Act::Counts { entity } | Act::Begin { entity } => {
+            bad_in_entity(entity)
+        }
+        Act::Send { messages, txn, .. } => bad_in_send(is_via, messages.as_slice(), *txn),
+        Act::Cancel { number, .. } | Act::ReceiveDeferred { number, .. } => {
+            unless(is_number(*number), "seq")
+        }
+        Act::Settle {
+            which,
+            how,
+            txn,
+            ..
+        } => bad_in_settle(which, *txn, how),
+        Act::Renew { which, .. } => bad_in_which(which),
+        Act::Accept { id, .. } => unless(is_short(MAX_ID, id), "id"),
+        Act::Commit { txn } | Act::Rollback { txn } => unless(is_number(*txn), "txn"),
+        Act::Peek { start, count, .. } => bad_in_peek(*start, *count),
+        Act::CreateQueue { .. }
+        | Act::CreateTopic { .. }
+        | Act::CreateSubscription { .. }
+        | Act::DeleteRule { .. }
+        | Act::Receive { .. }
+        | Act::SessionRenew { .. }
+        | Act::SessionClose { .. }
+        | Act::SessionSet { .. }
+        | Act::SessionState { .. } => None,
+    }
+}
+
+// ---- who asks
+
+/// Whether an act takes a client's number: those that only look take none.
+pub fn takes_number(act: &Act) -> bool
+    ensures { result ≡ fields.takes_number act.now }
+{
+    match act {
+        Act::Peek { .. } | Act::SessionState { .. } | Act::Counts { .. } => false,
+        Act::CreateQueue { .. }
+        | Act::CreateTopic { .. }
+        | Act::CreateSubscription { .. }
+        | Act::CreateRule { .. }
+        | Act::Delete { .. }
+        | Act::DeleteRule { .. }
+        | Act::Send { .. }
+        | Act::Cancel { .. }
+        | Act::Receive { .. }
+        | Act::ReceiveDeferred { .. }
+        | Act::Settle { .. }
+        | Act::Renew { .. }
+        | Act::Accept { .. }
+        | Act::SessionRenew { .. }
+        | Act::SessionClose { .. }
+        | Act::SessionSet { .. }
+        | Act::Begin { .. }
+        | Act::Commit { .. }
+        | Act::Rollback { .. } => true,
+    }
+}
+
+fn is_client(act: &Act, client: &Text) -> bool
+    ensures { result ≡ (fields.takes_number act.now && fields.is_between 1 50 (length client.now)) }
+{
+    takes_number(act) && is_length_between(1, MAX_CLIENT, client.as_bytes().len())
+}
+
+fn bad_in_by(act: &Act, by: &Option<By>) -> Option<&'static str>
+    ensures { option_map (λ k. k.now) result ≡ fields.bad_in_by act.now by.now }
+{
+    match by {
+        Some(by) => {
+            if !is_client(act, &by.client) {
+                return Some("client");
+            }
+            unless(is_number(by.number), "number")
+        }
+        None => None,
+    }
+}
+
+/// The key of the first field at fault, the client's last. `is_via` where the act sends, in a
+/// transaction, to another entity than the transaction's.
+pub fn bad_field(is_via: bool, act: &Act, by: &Option<By>) -> Option<&'static str>
+    ensures { option_map (λ k. k.now) result ≡ fields.bad_field is_via act.now by.now }
+{
+    let bad = bad_in_act(is_via, act);
+    if bad.is_some() {
+        return bad;
+    }
+    bad_in_by(act, by)
+}

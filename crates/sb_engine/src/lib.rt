@@ -1,0 +1,46 @@
+//! A whole namespace in memory: what a call would do, the room for it, and doing it.
+//!
+//! It stands on `sb_entities`, which holds the entities. Each act is planned by one function of
+//! `acts`, whose one clause is that what it came to is the act's row: a `Draft` of the reply and of
+//! the changes that carry it out, or the row's refusal. Before it stand the tests of the call's
+//! number and fields, behind it the test of the numbers that it gives; planning only reads. So
+//! [`Engine::plan`] gives what the machine makes of a call, or its refusal. `reserve` takes all
+//! memory that the [`Plan`] needs, and `commit` takes none and can't fail.
+//!
+//! ```text
+//! let plan = engine.plan(moment, &call)?;          // nothing is changed yet
+//! if plan.is_changing() {
+//!     engine.reserve(moment, &plan)?;              // where memory is wanting, all stays
+//!     let answered = engine.commit(moment, plan);
+//! }
+//! ```
+#![tactic(auto)]
+
+mod acts;
+mod calls;
+mod claims;
+mod copies;
+mod draft;
+mod drafting;
+mod engine;
+mod fields;
+mod handing;
+mod heads;
+mod holding;
+mod leases;
+mod limits;
+mod numbers;
+mod plan;
+mod planning;
+mod queueing;
+mod quota;
+mod reading;
+mod release;
+mod settling;
+mod sizes;
+mod summary;
+
+use draft::Draft;
+pub use engine::Engine;
+pub use plan::Plan;
+pub use summary::Summary;

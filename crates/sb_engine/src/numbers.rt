@@ -1,0 +1,203 @@
+// The last test of all: the numbers that changes give.
+ghost use Rattle.std.specs.Prelude.{◌≡◌, ◌≤◌, ◌<◌, ◌+◌, ◌-◌, ◌^◌, nat_le, min, sum_by, ℕ};
+ghost use Rattle.sb_entities.specs.Stores.{space_in, entity_in, entities_in as stored};
+ghost use Rattle.sb_machine.specs.Changes as machine;
+ghost use Rattle.sb_machine.specs.Namespace as namespace;
+ghost use Rattle.sb_engine.specs.Numbers as numbers;
+
+use crate::limits::MAX_NUMBER;
+use sb_entities::{EntityStore, SpaceStore};
+use sb_machine::{Change, Changes, LeafChange, Part};
+use std::collections::VecDeque;
+
+/// What is numbered.
+#[derive(Clone, Copy, Debug, PartialEq, Eq)]
+pub enum Numbered {
+    Copies,
+    Entities,
+    Locks,
+    Transactions,
+}
+
+// ---- numbers given
+
+fn copies_in(change: &Change) -> u64
+    ensures { result ≡ machine.numbers_in change.now }
+{
+    match change {
+        Change::InLeaf {
+            change: LeafChange::Enters(_) | LeafChange::Passes(_),
+            ..
+        } => 1,
+        _ => 0,
+    }
+}
+
+fn entities_in(change: &Change) -> u64
+    ensures { result ≡ numbers.entities_in change.now }
+{
+    match change {
+        Change::Makes { .. } => 1,
+        _ => 0,
+    }
+}
+
+fn locks_in(change: &Change) -> u64
+    ensures { result ≡ numbers.locks_in change.now }
+{
+    match change {
+        Change::InLeaf {
+            change: LeafChange::Holds { .. } | LeafChange::Opens { .. },
+            ..
+        } => 1,
+        _ => 0,
+    }
+}
+
+fn transactions_in(change: &Change) -> u64
+    ensures { result ≡ numbers.transactions_in change.now }
+{
+    match change {
+        Change::Begins { .. } => 1,
+        _ => 0,
+    }
+}
+
+fn given_in(what: Numbered, change: &Change) -> u64
+    ensures count { result ≡ numbers.given_in what change.now }
+    ensures one { result ≤ 1 }
+{
+    match what {
+        Numbered::Copies => copies_in(change),
+        Numbered::Entities => entities_in(change),
+        Numbered::Locks => locks_in(change),
+        Numbered::Transactions => transactions_in(change),
+    }
+}
+
+fn given_by_all(what: Numbered, changes: &VecDeque<Change>) -> u64
+    ensures count { result ≡ sum_by (numbers.given_in what) changes.now.items }
+    ensures few { result < 2 ^ 63 }
+{
+    let mut given = 0_u64;
+    for place in 0..changes.len() {
+        given += given_in(what, &changes[place]);
+    }
+    given
+}
+
+// How many numbers of this kind these changes give.
+fn given(what: Numbered, changes: &Changes) -> u64
+    ensures { result ≡ sum_by (numbers.given_in what) changes.now }
+{
+    let (first, more) = changes.parts();
+    let one = match first {
+        Some(change) => given_in(what, change),
+        None => 0,
+    };
+    one + given_by_all(what, more)
+}
+
+// ---- numbers given before
+
+// The copy numbers given in an entity's parts; 2^64 - 1 stands for more.
+fn made_in(entity: &EntityStore) -> u64
+    ensures { result ≡ min (namespace.made_in (entity_in entity.now)) (2 ^ 64 - 1) }
+{
+    let main = entity.part(Part::Main).last();
+    let dead = entity.part(Part::Dead).last();
+    let transfer = entity.part(Part::Transfer).last();
+    main.saturating_add(dead).saturating_add(transfer)
+}
+
+fn made_in_all(entities: &[EntityStore]) -> u64
+    ensures { result ≡ min (sum_by namespace.made_in (stored entities.now)) (2 ^ 64 - 1) }
+{
+    let mut made = 0_u64;
+    for entity in entities {
+        made = made.saturating_add(made_in(entity));
+    }
+    made
+}
+
+/// All copy numbers that were ever given; 2^64 - 1 stands for more.
+pub fn made(space: &SpaceStore) -> u64
+    ensures { result ≡ min (namespace.made (space_in space.now)) (2 ^ 64 - 1) }
+{
+    made_in_all(space.entities()).saturating_add(space.removed())
+}
+
+// ---- live copies
+
+// 2^64 - 1 stands for more.
+fn live_in(entity: &EntityStore) -> u64
+    ensures { result ≡ min (namespace.live_in (entity_in entity.now)) (2 ^ 64 - 1) }
+{
+    let main = entity.part(Part::Main).copies().size() as u64;
+    let dead = entity.part(Part::Dead).copies().size() as u64;
+    let transfer = entity.part(Part::Transfer).copies().size() as u64;
+    main.saturating_add(dead).saturating_add(transfer)
+}
+
+fn live_in_all(entities: &[EntityStore]) -> u64
+    ensures { result ≡ min (sum_by namespace.live_in (stored entities.now)) (2 ^ 64 - 1) }
+{
+    let mut live = 0_u64;
+    for entity in entities {
+        live = live.saturating_add(live_in(entity));
+    }
+    live
+}
+
+/// All live copies; 2^64 - 1 stands for more.
+pub fn live(space: &SpaceStore) -> u64
+    ensures { result ≡ min (namespace.live (space_in space.now)) (2 ^ 64 - 1) }
+{
+    live_in_all(space.entities())
+}
+
+// ---- the test
+
+// Whether so many numbers may be given behind the last.
+fn fits(last: u64, given: u64) -> bool
+    ensures { result ≡ nat_le (last + given) machine.max_number }
+{
+    match last.checked_add(given) {
+        Some(number) => number <= MAX_NUMBER,
+        None => false,
+    }
+}
+
+fn copies_fit(space: &SpaceStore, changes: &Changes) -> bool
+    ensures { result ≡ nat_le (namespace.made (space_in space.now) + machine.numbers_given changes.now) machine.max_number }
+{
+    fits(made(space), given(Numbered::Copies, changes))
+}
+
+fn entities_fit(space: &SpaceStore, changes: &Changes) -> bool
+    ensures { (t : ℕ) → result ≡ nat_le (machine.after_all t changes.now (space_in space.now)).last_entity machine.max_number }
+{
+    fits(space.last_entity(), given(Numbered::Entities, changes))
+}
+
+fn locks_fit(space: &SpaceStore, changes: &Changes) -> bool
+    ensures { (t : ℕ) → result ≡ nat_le (machine.after_all t changes.now (space_in space.now)).last_lock machine.max_number }
+{
+    fits(space.last_lock(), given(Numbered::Locks, changes))
+}
+
+fn transactions_fit(space: &SpaceStore, changes: &Changes) -> bool
+    ensures { (t : ℕ) → result ≡ nat_le (machine.after_all t changes.now (space_in space.now)).last_txn machine.max_number }
+{
+    fits(space.last_txn(), given(Numbered::Transactions, changes))
+}
+
+/// Whether no number that these changes give passes the greatest.
+pub fn is_numbered(space: &SpaceStore, changes: &Changes) -> bool
+    ensures { (t : ℕ) → result ≡ machine.is_numbered t changes.now (space_in space.now) }
+{
+    copies_fit(space, changes)
+        && entities_fit(space, changes)
+        && locks_fit(space, changes)
+        && transactions_fit(space, changes)
+}
