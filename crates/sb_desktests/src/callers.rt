@@ -1,16 +1,67 @@
-//! Callers of a desk: two passes on one thread, and as many threads as there are passes.
-ghost use Rattle.std.specs.Prelude.{◌≡◌, ℕ, List, [], ◌∷◌, ◌++◌, Option, length, IfOk};
+//! Callers of a desk: two passes on one thread, and a thread for each pass.
+ghost use Rattle.std.specs.Prelude.{◌≡◌, ℕ, List, ◌++◌, Option, length, IfOk, IfSome};
 ghost use Rattle.sb_machine.specs.declared.history.Entry.{Entry};
 ghost use Rattle.sb_desk.specs.Desks.{IsOf, IsNew};
 ghost use Rattle.sb_desk.specs.Entries.{made_by};
 ghost use Rattle.sb_desk.specs.Lists.{Each, IsEnd};
 
-use sb_desk::{Desk, Pass, Served};
+use crate::OneQueue;
+use sb_desk::{Desk, Pass, Report, Served};
 use sb_machine::{Answer, Call};
-use std::alloc::AllocError;
+use std::alloc::{AllocError, Global};
 use std::sync::Wait;
 use std::thread;
 use std::thread::Threads;
+
+/// The same call at two passes on one thread: the answers, and the numbers of the history. `None`
+/// is want of memory.
+pub fn on_one_thread<R: Wait>(
+    rt: &R,
+    alloc: Global,
+    reading: u64,
+    call: &Call,
+) -> Option<(Answer, Answer, Report)> {
+    let (desk, passes) = Desk::new(alloc, OneQueue::new(), 2).ok()?;
+    let (one, other) = pair_of(&desk, passes);
+    let (one, other, first, second) = one_then_other(rt, &desk, one, other, reading, call);
+    let passes = list_of(alloc, &desk, one, other)?;
+    let (_, report) = desk.close(passes).ok()?;
+    Some((first, second, report))
+}
+
+/// So many calls at each of eight passes, on as many threads: the numbers of their one history.
+/// `None` is want of memory.
+pub fn on_eight_threads<R: Threads + Wait + Sync>(
+    rt: &R,
+    alloc: Global,
+    times: u64,
+    call: &Call,
+) -> Option<Report> {
+    let (desk, passes) = Desk::new(alloc, OneQueue::new(), 8).ok()?;
+    let passes = on_threads(rt, &desk, passes, times, call).ok()?;
+    let (_, report) = desk.close(passes).ok()?;
+    Some(report)
+}
+
+fn pair_of<V: Served>(desk: &Desk<V>, passes: Vec<Pass>) -> (Pass, Pass)
+    requires { (length passes.items ≡ 2) × Each (IsNew desk.now) passes.items }
+    ensures { IsNew desk.now result.0 × IsNew desk.now result.1 }
+{
+    let mut passes = passes;
+    let other = passes.pop().unwrap();
+    let one = passes.pop().unwrap();
+    (one, other)
+}
+
+fn list_of<V: Served>(alloc: Global, desk: &Desk<V>, one: Pass, other: Pass) -> Option<Vec<Pass>>
+    requires { IsOf desk.now one × IsOf desk.now other }
+    ensures { IfSome result (λ v. (length v.items ≡ 2) × Each (IsOf desk.now) v.items) }
+{
+    let mut passes = Vec::new(alloc);
+    passes.push(one).ok()?;
+    passes.push(other).ok()?;
+    Some(passes)
+}
 
 /// The first calls, the two tell each other, and then the other calls: it has seen both calls.
 pub fn one_then_other<V: Served, R: Wait>(
@@ -45,7 +96,7 @@ fn repeat<V: Served, R: Wait>(rt: &R, desk: &Desk<V>, pass: Pass, times: u64, ca
     pass
 }
 
-/// So many calls at each of these passes, each on a thread of its own where one can be had.
+/// So many calls at each of these new passes, each on a thread of its own where one can be had.
 pub fn on_threads<V: Served + Send, R: Threads + Wait + Sync>(
     rt: &R,
     desk: &Desk<V>,
@@ -53,7 +104,7 @@ pub fn on_threads<V: Served + Send, R: Threads + Wait + Sync>(
     times: u64,
     call: &Call,
 ) -> Result<Vec<Pass>, AllocError>
-    requires { Each (IsOf desk.now) passes.items }
+    requires { Each (IsNew desk.now) passes.items }
     ensures length { IfOk result (λ v. length v.items ≡ length passes.items) }
     ensures each { IfOk result (λ v. Each (IsOf desk.now) v.items) }
 {
@@ -61,7 +112,7 @@ pub fn on_threads<V: Served + Send, R: Threads + Wait + Sync>(
         rt,
         passes,
         &|pass: Pass| -> Pass
-            requires { IsOf desk.now pass }
+            requires { IsNew desk.now pass }
             ensures { IsOf desk.entry.now result }
         { repeat(rt, desk, pass, times, call) },
     )

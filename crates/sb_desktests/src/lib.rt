@@ -6,6 +6,8 @@ mod callers;
 mod one_queue;
 #[cfg(test)]
 mod tests;
+mod worked;
 
-pub use callers::{on_threads, one_then_other};
+pub use callers::{on_eight_threads, on_one_thread, on_threads, one_then_other};
 pub use one_queue::OneQueue;
+pub use worked::worked_rows;

@@ -1,7 +1,5 @@
-ghost use Rattle.std.specs.Prelude.{◌≡◌, ℕ, ◌+◌, true, false, codes, List, [], ◌∷◌, ◌++◌, Option, None, Err};
-ghost use Rattle.sb_machine.specs.Namespace.{default_description, empty_state};
-ghost use Rattle.sb_machine.specs.declared.history.Entry.{Entry};
-ghost use Rattle.sb_machine.specs.declared.state.State.{State};
+ghost use Rattle.std.specs.Prelude.{◌≡◌, ◌+◌, true, false, [], Err};
+ghost use Rattle.sb_machine.specs.Namespace.{default_description};
 ghost use Rattle.sb_desk.specs.Entries.{counted};
 ghost use Rattle.sb_desktests.specs.Namespaces.{creation, state_at, StandsFor, GoesOn};
 

@@ -1,5 +1,5 @@
-use crate::{OneQueue, on_threads, one_then_other};
-use sb_desk::{Desk, Pass, Report};
+use crate::{on_eight_threads, on_one_thread};
+use sb_desk::Report;
 use sb_machine::{Act, Answered, Call, Description, Refusal, Reply};
 use sb_model::Text;
 use std::alloc::{AllocError, Global};
@@ -28,44 +28,26 @@ fn creation(alloc: Global) -> Result<Call, AllocError> {
 #[test]
 fn passes_tell_each_other(rt: HostRuntime) -> Result<(), Fail> {
     let call = creation(rt.alloc())?;
-    let Ok((desk, passes)) = Desk::new(rt.alloc(), OneQueue::new(), 2) else {
+    let Some((first, second, report)) = on_one_thread(&rt, rt.alloc(), 5, &call) else {
         panic!(rt; "no memory")
     };
-    let mut passes = passes;
-    let other = passes.pop().unwrap();
-    let one = passes.pop().unwrap();
-    let (one, other, first, second) = one_then_other(&rt, &desk, one, other, 5, &call);
     assert!(rt; matches!(first, Ok(Answered::New(Reply::Done))));
     assert!(rt; matches!(second, Err(Refusal::EntityExists)));
-    let _ = passes.push(one);
-    let _ = passes.push(other);
-    let (_, report) = desk.close(passes).unwrap();
-    assert_eq!(rt;
-        report,
-        Report {
-            entries: 2,
-            changing: 1,
-            refused: 1
-        }
-    );
+    assert_eq!(rt; numbers_of(report), (2, 1, 1));
     Ok(())
 }
 
 #[test]
 fn threads_share_one_history(rt: HostRuntime) -> Result<(), Fail> {
     let call = creation(rt.alloc())?;
-    let Ok((desk, passes)) = Desk::new(rt.alloc(), OneQueue::new(), 8) else {
+    let Some(report) = on_eight_threads(&rt, rt.alloc(), 1000, &call) else {
         panic!(rt; "no memory")
     };
-    let passes = on_threads(&rt, &desk, passes, 1000, &call)?;
-    let (_, report) = desk.close(passes).unwrap();
-    assert_eq!(rt;
-        report,
-        Report {
-            entries: 8000,
-            changing: 1,
-            refused: 7999
-        }
-    );
+    assert_eq!(rt; numbers_of(report), (8000, 1, 7999));
     Ok(())
+}
+
+// Entries, changing ones and refusals.
+fn numbers_of(report: Report) -> (u64, u64, u64) {
+    (report.entries, report.changing, report.refused)
 }
