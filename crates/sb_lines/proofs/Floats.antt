@@ -1,0 +1,170 @@
+-- No reply holds a float.
+use Rattle.std.proofs.Common.{◌≡◌, ℕ, List, [], ◌∷◌, Bool, true, false, Option, Some, None, map, codes, if◌then◌else◌, Result, Ok, Err, pos, negsuc, refl, ◌||◌, Ordering, Less, Equal, Greater, nat_cmp}
+use Rattle.std.specs.Cmp.Lexicographic.{slice_cmp}
+use Rattle.std.specs.Ordering.{match_ordering}
+use Rattle.std.specs.Str.{is_utf8}
+use Rattle.hex.specs.Hex.{encode_lower}
+use Rattle.serde_json.specs.Data.{Data, null, number, unsigned, string, Members, no_members, member, put}
+use Rattle.serde_json.specs.View.{items_of}
+use Rattle.serde_json.specs.Written.{has_float, items_have_float, members_have_float}
+use Rattle.sb_model.specs.declared.message.Property.{Property}
+use Rattle.sb_model.specs.declared.message.PropertyValue.{PropertyValue}
+use Rattle.sb_model.specs.declared.message.PropertyValue.TheVariants.{Int, Text, Bool as Truth}
+use Rattle.sb_model.specs.declared.message.SystemText.{SystemText}
+use Rattle.sb_model.specs.SystemNames.{system_name}
+use Rattle.sb_machine.specs.declared.reply.Answered.{Answered}
+use Rattle.sb_machine.specs.declared.reply.Answered.TheVariants.{New, Kept}
+use Rattle.sb_machine.specs.declared.reply.CopyShown.{CopyShown}
+use Rattle.sb_machine.specs.declared.reply.CopyState.{CopyState}
+use Rattle.sb_machine.specs.declared.reply.CopyState.TheVariants.{Ready, Deferred, Held, Scheduled}
+use Rattle.sb_machine.specs.declared.reply.Showing.{Showing}
+use Rattle.sb_machine.specs.declared.reply.Showing.TheVariants.{Removed, Locked, Browsed}
+use Rattle.sb_machine.specs.declared.reply.Receipt.{Receipt}
+use Rattle.sb_machine.specs.declared.reply.Receipt.TheVariants.{Number, Duplicate}
+use Rattle.sb_machine.specs.declared.reply.Reply.{Reply}
+use Rattle.sb_machine.specs.declared.reply.Reply.TheVariants.{Done, Sent, Message, Empty, Copies, Expired, Session, Renewed, State, Begun, Queued, Committed, Aborted, Counts}
+use Rattle.sb_machine.specs.declared.reply.Refusal.{Refusal}
+use Rattle.sb_machine.specs.declared.reply.Refusal.TheVariants.{BadCall, EntityNotFound, EntityExists, BadName, BadDescription, BadFilter, WrongKind, TooLarge, QuotaExceeded, SessionRequired, SessionNotAllowed, SessionHeld, SessionLost, LockLost, NotDeferred, NotScheduled, TxnNotFound, TxnPending, TxnScope, TxnFull, StaleNumber, NumberReused, ClientsFull, TxnsFull, Exhausted, DiskFault, Stopped, OutOfMemory}
+use Rattle.sb_lines.specs.Shown.{state_name, property_data, with_properties, with_texts, with_bytes, with_ttl, with_schedule, with_showing, common_members, shown_data}
+use Rattle.sb_lines.specs.Tokens.{token_text}
+use Rattle.sb_lines.specs.Refusals.{refusal_data}
+use Rattle.sb_lines.specs.Replies.{said, receipt_data, with_state, reply_data, answer_data}
+
+either_way : (o : Ordering) (a b c : Members) → members_have_float a ≡ false → members_have_float b ≡ false → members_have_float c ≡ false
+    → members_have_float (match_ordering o a b c) ≡ false
+either_way Less a b c x y z = x
+either_way Equal a b c x y z = y
+either_way Greater a b c x y z = z
+
+neither : (a b : Bool) → a ≡ false → b ≡ false → (a || b) ≡ false
+neither a b x y = rw (x, y) refl
+
+left : (a b : Bool) → (a || b) ≡ false → a ≡ false
+left true b h = h
+left false b h = refl
+
+right : (a b : Bool) → (a || b) ≡ false → b ≡ false
+right true b h = absurd cc
+right false b h = h
+
+put_whole : (k : List ℕ) (d : Data) (ms : Members) → has_float d ≡ false → members_have_float ms ≡ false → members_have_float (put k d ms) ≡ false
+put_whole k d no_members whole rest = neither _ _ whole rest
+put_whole k d (member l e ms) whole rest =
+    either_way (slice_cmp nat_cmp k l) _ _ _ (neither _ _ whole rest) (neither _ _ whole (right (has_float e) _ rest))
+    (neither _ _ (left _ _ rest) (put_whole k d ms whole (right (has_float e) _ rest)))
+
+property_whole : (v : PropertyValue) → has_float (property_data v) ≡ false
+property_whole (Int (pos n)) = refl
+property_whole (Int (negsuc n)) = refl
+property_whole (Text text) = refl
+property_whole (Truth b) = refl
+
+properties_whole : (ms : Members) (ps : List Property) → members_have_float ms ≡ false → members_have_float (with_properties ms ps) ≡ false
+properties_whole ms [] whole = whole
+properties_whole ms (p ∷ ps) whole = properties_whole (put p.name (property_data p.value) ms) ps (put_whole p.name (property_data p.value) ms (property_whole p.value) whole)
+
+texts_whole : (ms : Members) (ts : List SystemText) → members_have_float ms ≡ false → members_have_float (with_texts ms ts) ≡ false
+texts_whole ms [] whole = whole
+texts_whole ms (t ∷ ts) whole = texts_whole (put (system_name t.name) (string t.text) ms) ts (put_whole (system_name t.name) (string t.text) ms refl whole)
+
+common_whole : (c : CopyShown) → members_have_float (common_members c) ≡ false
+common_whole c = neither _ _ (properties_whole _ c.message.props refl) (neither _ _ (texts_whole _ c.message.sys refl) refl)
+
+ttl_whole : (ttl : Option ℕ) (ms : Members) → members_have_float ms ≡ false → members_have_float (with_ttl ttl ms) ≡ false
+ttl_whole None ms whole = whole
+ttl_whole (Some n) ms whole = put_whole (codes "ttl") (number (unsigned n)) ms refl whole
+
+schedule_whole : (state : CopyState) (ms : Members) → members_have_float ms ≡ false → members_have_float (with_schedule state ms) ≡ false
+schedule_whole Ready ms whole = whole
+schedule_whole Deferred ms whole = whole
+schedule_whole Held ms whole = whole
+schedule_whole (Scheduled moment) ms whole = put_whole (codes "schedule") (number (unsigned moment)) ms refl whole
+
+showing_whole : (showing : Showing) (ms : Members) → members_have_float ms ≡ false → members_have_float (with_showing showing ms) ≡ false
+showing_whole Removed ms whole = whole
+showing_whole (Locked token until) ms whole =
+    let held : Members = put (codes "token") (string (token_text token)) ms in
+    put_whole (codes "until") (number (unsigned until)) held refl (put_whole (codes "token") (string (token_text token)) ms refl whole)
+showing_whole (Browsed state) ms whole =
+    let scheduled : Members = with_schedule state ms in
+    put_whole (codes "state") (string (state_name state)) scheduled refl (schedule_whole state ms whole)
+
+chosen : (b : Bool) (x y : Members) → members_have_float x ≡ false → members_have_float y ≡ false → members_have_float (if b then x else y) ≡ false
+chosen true x y p q = p
+chosen false x y p q = q
+
+bytes_whole : (key hex_key bytes : List ℕ) (ms : Members) → members_have_float ms ≡ false → members_have_float (with_bytes key hex_key bytes ms) ≡ false
+bytes_whole key hex_key bytes ms whole =
+    let text : Members = put key (string bytes) ms in
+    let digits : Members = put hex_key (string (encode_lower bytes)) ms in
+    chosen (is_utf8 bytes) text digits (put_whole key (string bytes) ms refl whole) (put_whole hex_key (string (encode_lower bytes)) ms refl whole)
+
+shown_whole : (c : CopyShown) → has_float (shown_data c) ≡ false
+shown_whole c =
+    let ttl : Members = with_ttl c.message.ttl (common_members c) in
+    let showing : Members = with_showing c.showing ttl in
+    bytes_whole (codes "body") (codes "body_hex") c.message.body showing (showing_whole c.showing ttl (ttl_whole c.message.ttl (common_members c) (common_whole c)))
+
+copies_whole : (cs : List CopyShown) → items_have_float (items_of (map shown_data cs)) ≡ false
+copies_whole [] = refl
+copies_whole (c ∷ cs) = neither _ _ (shown_whole c) (copies_whole cs)
+
+receipts_whole : (rs : List Receipt) → items_have_float (items_of (map receipt_data rs)) ≡ false
+receipts_whole [] = refl
+receipts_whole (Number n ∷ rs) = receipts_whole rs
+receipts_whole (Duplicate ∷ rs) = receipts_whole rs
+
+state_whole : (state : Option (List ℕ)) (ms : Members) → members_have_float ms ≡ false → members_have_float (with_state state ms) ≡ false
+state_whole None ms whole = put_whole (codes "state") null ms refl whole
+state_whole (Some bytes) ms whole = bytes_whole (codes "state") (codes "state_hex") bytes ms whole
+
+reply_whole : (r : Reply) → has_float (reply_data r) ≡ false
+reply_whole Done = refl
+reply_whole (Sent rs) = neither _ _ (receipts_whole rs) refl
+reply_whole (Message c) = neither _ _ (shown_whole c) refl
+reply_whole Empty = refl
+reply_whole (Copies cs) = neither _ _ (copies_whole cs) refl
+reply_whole (Expired n) = refl
+reply_whole (Session id token until) = refl
+reply_whole (Renewed until) = refl
+reply_whole (State state) = state_whole state (said (codes "state")) refl
+reply_whole (Begun txn) = refl
+reply_whole Queued = refl
+reply_whole Committed = refl
+reply_whole (Aborted part n) = refl
+reply_whole (Counts main dead transfer) = refl
+
+refusal_whole : (r : Refusal) → has_float (refusal_data r) ≡ false
+refusal_whole (BadCall key) = refl
+refusal_whole EntityNotFound = refl
+refusal_whole EntityExists = refl
+refusal_whole BadName = refl
+refusal_whole (BadDescription field) = refl
+refusal_whole (BadFilter place) = refl
+refusal_whole WrongKind = refl
+refusal_whole (TooLarge size) = refl
+refusal_whole (QuotaExceeded copies adds) = refl
+refusal_whole SessionRequired = refl
+refusal_whole SessionNotAllowed = refl
+refusal_whole (SessionHeld until) = refl
+refusal_whole SessionLost = refl
+refusal_whole LockLost = refl
+refusal_whole NotDeferred = refl
+refusal_whole NotScheduled = refl
+refusal_whole TxnNotFound = refl
+refusal_whole (TxnPending txn) = refl
+refusal_whole TxnScope = refl
+refusal_whole TxnFull = refl
+refusal_whole (StaleNumber kept) = refl
+refusal_whole NumberReused = refl
+refusal_whole ClientsFull = refl
+refusal_whole TxnsFull = refl
+refusal_whole Exhausted = refl
+refusal_whole DiskFault = refl
+refusal_whole (Stopped faults) = refl
+refusal_whole OutOfMemory = refl
+
+pub answer_whole : (a : Result Answered Refusal) → has_float (answer_data a) ≡ false
+answer_whole (Ok (New r)) = reply_whole r
+answer_whole (Ok (Kept r)) = neither _ _ (reply_whole r) refl
+answer_whole (Err r) = refusal_whole r

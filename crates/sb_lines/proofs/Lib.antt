@@ -1,0 +1,6 @@
+pub mod UnknownKeys
+mod Parsed
+pub mod Floats
+pub mod OneLine
+pub mod InOrder
+pub mod OrderedLines

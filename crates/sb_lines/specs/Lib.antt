@@ -1,0 +1,11 @@
+pub mod Faults
+pub mod Tokens
+pub mod Fields
+pub mod Tables
+pub mod Messages
+pub mod Descriptions
+pub mod Lines
+pub mod Refusals
+pub mod Shown
+pub mod Replies
+pub mod Laws

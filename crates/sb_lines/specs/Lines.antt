@@ -1,0 +1,230 @@
+-- Which line spells which call, and which key is at fault in a line that spells none.
+use Rattle.std.specs.Prelude.{ℕ, List, [], Bool, true, false, not, ◌||◌, if◌then◌else◌, codes, bytes_eq, Option, Some, None, option_and_then, Result, Ok, Err}
+use Rattle.serde_json.specs.Data.{Data}
+use Rattle.serde_json.specs.Read.{read}
+use Rattle.serde_json.specs.Find.{get, as_str, as_object}
+use Rattle.sb_machine.specs.declared.call.Act.{Act}
+use Rattle.sb_machine.specs.declared.call.Act.TheVariants as act
+use Rattle.sb_machine.specs.declared.call.By.{By}
+use Rattle.sb_machine.specs.declared.call.FilterText.{FilterText}
+use Rattle.sb_machine.specs.declared.call.FilterText.TheVariants.{Sql, Correlation}
+use Rattle.sb_machine.specs.declared.call.How.{How}
+use Rattle.sb_machine.specs.declared.call.How.TheVariants.{Complete, Abandon, Defer, DeadLetter}
+use Rattle.sb_machine.specs.declared.call.Path.{Path}
+use Rattle.sb_machine.specs.declared.call.TimedCall.{TimedCall}
+use Rattle.sb_machine.specs.declared.call.Token.{Token}
+use Rattle.sb_machine.specs.declared.call.Which.{Which}
+use Rattle.sb_machine.specs.declared.call.Which.TheVariants.{Number, Id}
+use Rattle.sb_machine.specs.declared.rule.Conditions.{Conditions}
+use Rattle.sb_lines.specs.declared.table.Either.{Either}
+use Rattle.sb_lines.specs.declared.table.Either.TheVariants.{First, Second}
+use Rattle.sb_lines.specs.Descriptions.{queue_fields, topic_fields, subscription_fields}
+use Rattle.sb_lines.specs.Faults.{or_key, then_by}
+use Rattle.sb_lines.specs.Fields.{text_at, whole_in, number_in, or_default}
+use Rattle.sb_lines.specs.Messages.{messages, conditions, bytes}
+use Rattle.sb_lines.specs.Tables.{Field, address, entity, name, text, token, whole, number, mode, ◌and◌, optional, one_of, made, object_of}
+
+-- ---- fields that several acts have
+
+abbrev pub which_of : Either ℕ (List ℕ) → Which
+which_of (First n) = Number n
+which_of (Second id) = Id id
+
+-- a copy, by its number or by its id
+unfoldable pub which : Field Which
+which = made which_of (one_of (codes "seq") (number (codes "seq")) (codes "id") (text (codes "id")))
+
+abbrev pub filter_of : Either (List ℕ) Conditions → FilterText
+filter_of (First text) = Sql text
+filter_of (Second c) = Correlation c
+
+unfoldable pub filter : Field FilterText
+filter = made filter_of (one_of (codes "filter") (text (codes "filter")) (codes "correlation") (conditions (codes "correlation")))
+
+abbrev pub session_if : Field (Option Token)
+session_if = optional (codes "session") (token (codes "session"))
+
+abbrev pub txn_if : Field (Option ℕ)
+txn_if = optional (codes "txn") (number (codes "txn"))
+
+abbrev pub text_if : List ℕ → Field (Option (List ℕ))
+text_if key = optional key (text key)
+
+-- ---- the acts
+
+-- the keys that each line may have, beside those of its act
+abbrev pub in_line : {A : Type 0} → Field A → Field A
+in_line f =
+    record { knows = λ k. bytes_eq k (codes "do") || (bytes_eq k (codes "at") || (bytes_eq k (codes "client") || (bytes_eq k (codes "number") || f.knows k))); reads = f.reads }
+
+-- the act that these fields make, of an object that has no other keys
+abbrev pub row : {P : Type 0} → Field P → (P → Act) → Data → Result Act (List ℕ)
+row f make d = then_by (object_of (in_line f) d) (λ x. Ok (make x))
+
+unfoldable pub create_queue : Data → Result Act (List ℕ)
+create_queue = row (name (codes "name") and queue_fields) (λ x. act.CreateQueue x.0 x.1)
+
+unfoldable pub create_topic : Data → Result Act (List ℕ)
+create_topic = row (name (codes "name") and topic_fields) (λ x. act.CreateTopic x.0 x.1)
+
+unfoldable pub create_subscription : Data → Result Act (List ℕ)
+create_subscription = row (name (codes "topic") and name (codes "name") and subscription_fields) (λ x. act.CreateSubscription x.0 x.1.0 x.1.1)
+
+unfoldable pub create_rule : Data → Result Act (List ℕ)
+create_rule = row (name (codes "topic") and name (codes "subscription") and name (codes "name") and filter and text_if (codes "action")) (λ x. act.CreateRule x.0 x.1.0 x.1.1.0 x.1.1.1.0 x.1.1.1.1)
+
+unfoldable pub delete : Data → Result Act (List ℕ)
+delete = row (entity (codes "entity")) (λ x. act.Delete x)
+
+unfoldable pub delete_rule : Data → Result Act (List ℕ)
+delete_rule = row (name (codes "topic") and name (codes "subscription") and name (codes "name")) (λ x. act.DeleteRule x.0 x.1.0 x.1.1)
+
+unfoldable pub send : Data → Result Act (List ℕ)
+send = row (address (codes "to") and messages (codes "messages") and txn_if) (λ x. act.Send x.0 x.1.0 x.1.1)
+
+unfoldable pub cancel : Data → Result Act (List ℕ)
+cancel = row (address (codes "from") and number (codes "seq")) (λ x. act.Cancel x.0 x.1)
+
+unfoldable pub receive : Data → Result Act (List ℕ)
+receive = row (address (codes "from") and mode (codes "mode") and session_if) (λ x. act.Receive x.0 x.1.0 x.1.1)
+
+unfoldable pub receive_deferred : Data → Result Act (List ℕ)
+receive_deferred = row (address (codes "from") and number (codes "seq") and mode (codes "mode") and session_if) (λ x. act.ReceiveDeferred x.0 x.1.0 x.1.1.0 x.1.1.1)
+
+-- complete, abandon, defer
+unfoldable pub settle : How → Data → Result Act (List ℕ)
+settle how = row (address (codes "from") and which and token (codes "token") and session_if and txn_if) (λ x. act.Settle x.0 x.1.0 x.1.1.0 x.1.1.1.0 how x.1.1.1.1)
+
+unfoldable pub dead_letter : Data → Result Act (List ℕ)
+dead_letter =
+    row (address (codes "from") and which and token (codes "token") and session_if and txn_if and text_if (codes "reason") and text_if (codes "description"))
+    (λ x. act.Settle x.0 x.1.0 x.1.1.0 x.1.1.1.0 (DeadLetter x.1.1.1.1.1.0 x.1.1.1.1.1.1) x.1.1.1.1.0)
+
+unfoldable pub renew : Data → Result Act (List ℕ)
+renew = row (address (codes "from") and which and token (codes "token")) (λ x. act.Renew x.0 x.1.0 x.1.1)
+
+unfoldable pub accept : Data → Result Act (List ℕ)
+accept = row (address (codes "from") and text_if (codes "id")) (λ x. act.Accept x.0 x.1)
+
+unfoldable pub session_renew : Data → Result Act (List ℕ)
+session_renew = row (address (codes "from") and token (codes "session")) (λ x. act.SessionRenew x.0 x.1)
+
+unfoldable pub session_close : Data → Result Act (List ℕ)
+session_close = row (address (codes "from") and token (codes "session")) (λ x. act.SessionClose x.0 x.1)
+
+unfoldable pub session_set : Data → Result Act (List ℕ)
+session_set = row (address (codes "from") and token (codes "session") and bytes (codes "state") (codes "state_hex")) (λ x. act.SessionSet x.0 x.1.0 x.1.1)
+
+unfoldable pub session_state : Data → Result Act (List ℕ)
+session_state = row (address (codes "from") and token (codes "session")) (λ x. act.SessionState x.0 x.1)
+
+unfoldable pub begin : Data → Result Act (List ℕ)
+begin = row (entity (codes "entity")) (λ x. act.Begin x)
+
+unfoldable pub commit : Data → Result Act (List ℕ)
+commit = row (number (codes "txn")) (λ x. act.Commit x)
+
+unfoldable pub rollback : Data → Result Act (List ℕ)
+rollback = row (number (codes "txn")) (λ x. act.Rollback x)
+
+unfoldable pub peek : Data → Result Act (List ℕ)
+peek = row (address (codes "from") and number (codes "start") and whole (codes "count")) (λ x. act.Peek x.0 x.1.0 x.1.1)
+
+unfoldable pub counts : Data → Result Act (List ℕ)
+counts = row (entity (codes "entity")) (λ x. act.Counts x)
+
+-- ---- the act of a name, and its fields: those of one kind, else those of the next
+
+-- transactions
+unfoldable pub transaction_act : List ℕ → Data → Result Act (List ℕ)
+transaction_act word d =
+    if bytes_eq word (codes "begin") then begin d
+    else if bytes_eq word (codes "commit") then commit d
+    else if bytes_eq word (codes "rollback") then rollback d
+    else Err (codes "do")
+
+-- sessions
+unfoldable pub session_act : List ℕ → Data → Result Act (List ℕ)
+session_act word d =
+    if bytes_eq word (codes "accept") then accept d
+    else if bytes_eq word (codes "session-renew") then session_renew d
+    else if bytes_eq word (codes "session-close") then session_close d
+    else if bytes_eq word (codes "session-set") then session_set d
+    else if bytes_eq word (codes "session-state") then session_state d
+    else transaction_act word d
+
+-- copies under a lock
+unfoldable pub lock_act : List ℕ → Data → Result Act (List ℕ)
+lock_act word d =
+    if bytes_eq word (codes "complete") then settle Complete d
+    else if bytes_eq word (codes "abandon") then settle Abandon d
+    else if bytes_eq word (codes "defer") then settle Defer d
+    else if bytes_eq word (codes "dead-letter") then dead_letter d
+    else if bytes_eq word (codes "renew") then renew d
+    else session_act word d
+
+-- messages
+unfoldable pub message_act : List ℕ → Data → Result Act (List ℕ)
+message_act word d =
+    if bytes_eq word (codes "send") then send d
+    else if bytes_eq word (codes "cancel") then cancel d
+    else if bytes_eq word (codes "receive") then receive d
+    else if bytes_eq word (codes "receive-deferred") then receive_deferred d
+    else if bytes_eq word (codes "peek") then peek d
+    else lock_act word d
+
+-- entities and rules
+unfoldable pub act_named : List ℕ → Data → Result Act (List ℕ)
+act_named word d =
+    if bytes_eq word (codes "create-queue") then create_queue d
+    else if bytes_eq word (codes "create-topic") then create_topic d
+    else if bytes_eq word (codes "create-subscription") then create_subscription d
+    else if bytes_eq word (codes "create-rule") then create_rule d
+    else if bytes_eq word (codes "delete") then delete d
+    else if bytes_eq word (codes "delete-rule") then delete_rule d
+    else if bytes_eq word (codes "counts") then counts d
+    else message_act word d
+
+-- ---- the line
+
+-- the reading of the clock; absent counts as 0
+unfoldable pub reading_of : Data → Result ℕ (List ℕ)
+reading_of d = or_default (codes "at") 0 whole_in (get (codes "at") d)
+
+abbrev pub named_by : Data → Option Data → Result By (List ℕ)
+named_by client number =
+    then_by (or_key (codes "client") (as_str client)) (λ name.
+    then_by (or_key (codes "number") (option_and_then number_in number)) (λ n. Ok (record { client = name; number = n })))
+
+-- Both or neither, and neither on an act that takes no number.
+abbrev pub by_from : Bool → Option Data → Option Data → Result (Option By) (List ℕ)
+by_from takes None None = Ok None
+by_from takes None (Some n) = Err (codes "client")
+by_from false (Some c) n = Err (codes "client")
+by_from true (Some c) n = then_by (named_by c n) (λ by. Ok (Some by))
+
+abbrev pub by_of : Bool → Data → Result (Option By) (List ℕ)
+by_of takes d = by_from takes (get (codes "client") d) (get (codes "number") d)
+
+-- what stands beside the act: when it is asked for, and by whom
+unfoldable pub beside : Bool → Data → Result (ℕ × Option By) (List ℕ)
+beside takes d = then_by (reading_of d) (λ reading. then_by (by_of takes d) (λ by. Ok (reading, by)))
+
+-- whether a client may number the act of this name: not what only looks
+abbrev pub is_numbered : List ℕ → Bool
+is_numbered word = not (bytes_eq word (codes "peek") || bytes_eq word (codes "session-state") || bytes_eq word (codes "counts"))
+
+-- the act's name first, then the keys that it has not, then its fields, then what stands beside it
+unfoldable pub named_call : List ℕ → Data → Result TimedCall (List ℕ)
+named_call word d = then_by (act_named word d) (λ a. then_by (beside (is_numbered word) d) (λ x. Ok (record { reading = x.0; call = record { by = x.1; act = a } })))
+
+abbrev pub call_of : Data → Result TimedCall (List ℕ)
+call_of d = then_by (or_key (codes "do") (text_at (codes "do") d)) (λ word. named_call word d)
+
+-- this, if it is an object
+abbrev pub object_itself : Data → Option Data
+object_itself d = option_and_then (λ _. Some d) (as_object d)
+
+-- the call that this text spells, or the key at fault, which is empty where the text is no object
+abbrev pub line_of : List ℕ → Result TimedCall (List ℕ)
+line_of text = then_by (or_key [] (option_and_then object_itself (read text))) call_of

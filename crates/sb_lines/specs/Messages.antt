@@ -1,0 +1,177 @@
+-- Messages, and what a correlation filter asks for.
+use Rattle.std.specs.Prelude.{ℕ, List, [], ◌∷◌, ◌++◌, length, Bool, ◌||◌, nat_le, codes, bytes_eq, if◌then◌else◌, Option, Some, None, option_map, option_and_then, Result, Ok, Err}
+use Rattle.std.specs.Str.{str_to_ascii_lowercase}
+use Rattle.serde_json.specs.Data.{Data, null, boolean, number, string, array, object, Items, no_items, item, Members, no_members, member}
+use Rattle.serde_json.specs.Find.{get, as_str, as_i64, as_array, as_object}
+use Rattle.sb_model.specs.Effects.{with_user}
+use Rattle.sb_model.specs.SystemNames.{system_name}
+use Rattle.sb_model.specs.declared.message.Message.{Message}
+use Rattle.sb_model.specs.declared.message.Property.{Property}
+use Rattle.sb_model.specs.declared.message.PropertyValue.{PropertyValue}
+use Rattle.sb_model.specs.declared.message.PropertyValue.TheVariants.{Int, Text, Bool as Truth}
+use Rattle.sb_model.specs.declared.message.SystemName.{SystemName}
+use Rattle.sb_model.specs.declared.message.SystemName.TheVariants.{MessageId, Label, CorrelationId, SessionId, To, ReplyTo, ReplyToSessionId, ContentType}
+use Rattle.sb_model.specs.declared.message.SystemText.{SystemText}
+use Rattle.sb_machine.specs.Fields.{is_between, max_ttl}
+use Rattle.sb_machine.specs.declared.rule.Conditions.{Conditions}
+use Rattle.sb_lines.specs.declared.texts.Nulls.{Nulls}
+use Rattle.sb_lines.specs.declared.texts.Nulls.TheVariants.{Wrong, Absent}
+use Rattle.sb_lines.specs.declared.table.Either.{Either}
+use Rattle.sb_lines.specs.Faults.{or_key, then_by}
+use Rattle.sb_lines.specs.Fields.{whole_in}
+use Rattle.sb_lines.specs.Tables.{Field, text, digits, whole, ◌and◌, optional, at_most_one, either, made, object_of}
+
+-- ---- a member that may be null
+
+-- what isn't null
+abbrev pub unless_null : Data → Option Data
+unless_null null = None
+unless_null (boolean b) = Some (boolean b)
+unless_null (number n) = Some (number n)
+unless_null (string s) = Some (string s)
+unless_null (array ds) = Some (array ds)
+unless_null (object ms) = Some (object ms)
+
+-- the member of this name; a null is a value of another kind, or counts as absent
+abbrev pub member_at : Nulls → List ℕ → Data → Option Data
+member_at Wrong key d = get key d
+member_at Absent key d = option_and_then unless_null (get key d)
+
+-- ---- system texts
+
+-- behind those that are there; an empty text counts as absent
+abbrev pub with_text : SystemName → List ℕ → List SystemText → List SystemText
+with_text name [] sys = sys
+with_text name (b ∷ bs) sys = sys ++ record { name = name; text = b ∷ bs } ∷ []
+
+abbrev pub text_from : SystemName → Option Data → List SystemText → Result (List SystemText) (List ℕ)
+text_from name None sys = Ok sys
+text_from name (Some d) sys = then_by (or_key (system_name name) (as_str d)) (λ text. Ok (with_text name text sys))
+
+abbrev pub text_with : Nulls → SystemName → Data → List SystemText → Result (List SystemText) (List ℕ)
+text_with nulls name d sys = text_from name (member_at nulls (system_name name) d) sys
+
+-- the seven beside ContentType, in the order of their codes
+abbrev pub broker_texts : Nulls → Data → Result (List SystemText) (List ℕ)
+broker_texts nulls d =
+    then_by (text_with nulls MessageId d []) (λ sys1.
+    then_by (text_with nulls Label d sys1) (λ sys2.
+    then_by (text_with nulls CorrelationId d sys2) (λ sys3.
+    then_by (text_with nulls SessionId d sys3) (λ sys4.
+    then_by (text_with nulls To d sys4) (λ sys5.
+    then_by (text_with nulls ReplyTo d sys5) (λ sys6.
+    text_with nulls ReplyToSessionId d sys6))))))
+
+abbrev pub all_texts : Data → Result (List SystemText) (List ℕ)
+all_texts d = then_by (broker_texts Wrong d) (λ sys. text_with Wrong ContentType d sys)
+
+-- a system name as the service writes it
+abbrev pub is_system_key : List ℕ → Bool
+is_system_key k =
+    bytes_eq k (codes "MessageId") || bytes_eq k (codes "Label") || bytes_eq k (codes "CorrelationId") || bytes_eq k (codes "SessionId")
+    || bytes_eq k (codes "To") || bytes_eq k (codes "ReplyTo") || bytes_eq k (codes "ReplyToSessionId") || bytes_eq k (codes "ContentType")
+
+abbrev pub eight_texts : Field (List SystemText)
+eight_texts = record { knows = is_system_key; reads = all_texts }
+
+-- an object of such texts; none where the key isn't there
+abbrev pub texts_from : List ℕ → Option Data → Result (List SystemText) (List ℕ)
+texts_from key None = Ok []
+texts_from key (Some d) = then_by (or_key key (as_object d)) (λ _. object_of eight_texts d)
+
+abbrev pub system_texts : List ℕ → Field (List SystemText)
+system_texts key = record { knows = λ k. bytes_eq k key; reads = λ d. texts_from key (get key d) }
+
+-- ---- user properties
+
+-- a text, a whole number of 64 bits or a truth value
+abbrev pub value_in : Data → Option PropertyValue
+value_in (string text) = Some (Text text)
+value_in (number n) = option_map (λ z. Int z) (as_i64 n)
+value_in (boolean b) = Some (Truth b)
+value_in null = None
+value_in (array ds) = None
+value_in (object ms) = None
+
+-- the name is at fault, as it is written, where it or its value is
+abbrev pub property_from : List ℕ → Data → Result PropertyValue (List ℕ)
+property_from name d = if is_between 1 128 (length name) then or_key name (value_in d) else Err name
+
+-- One after the other, in byte order of the names as they are written: of two that fold alike the last stands.
+abbrev pub with_members : Members → List Property → Result (List Property) (List ℕ)
+with_members no_members props = Ok props
+with_members (member name d ms) props = then_by (property_from name d) (λ value. with_members ms (with_user (str_to_ascii_lowercase name) (Some value) props))
+
+-- an object of properties; none where the key isn't there
+abbrev pub properties_from : List ℕ → Option Data → Result (List Property) (List ℕ)
+properties_from key None = Ok []
+properties_from key (Some d) = then_by (or_key key (as_object d)) (λ ms. with_members ms [])
+
+abbrev pub user_properties : List ℕ → Field (List Property)
+user_properties key = record { knows = λ k. bytes_eq k key; reads = λ d. properties_from key (get key d) }
+
+-- ---- time to live, in s
+
+-- above its limit it counts as none
+abbrev pub capped : ℕ → Option ℕ
+capped n = if nat_le n max_ttl then Some n else None
+
+abbrev pub if_positive : ℕ → Option (Option ℕ)
+if_positive n = if nat_le 1 n then Some (capped n) else None
+
+abbrev pub lifetime_from : List ℕ → Option Data → Result (Option ℕ) (List ℕ)
+lifetime_from key None = Ok None
+lifetime_from key (Some d) = or_key key (option_and_then if_positive (whole_in d))
+
+abbrev pub lifetime_at : Nulls → List ℕ → Data → Result (Option ℕ) (List ℕ)
+lifetime_at nulls key d = lifetime_from key (member_at nulls key d)
+
+abbrev pub lifetime : List ℕ → Field (Option ℕ)
+lifetime key = record { knows = λ k. bytes_eq k key; reads = lifetime_at Wrong key }
+
+-- ---- bytes
+
+abbrev pub bytes_or_none : Option (Either (List ℕ) (List ℕ)) → Option (List ℕ)
+bytes_or_none said = option_map either said
+
+-- as text, its UTF-8 bytes, or as digits
+unfoldable pub bytes : List ℕ → List ℕ → Field (Option (List ℕ))
+bytes key hex_key = made bytes_or_none (at_most_one key (text key) hex_key (digits hex_key))
+
+abbrev pub or_empty : Option (List ℕ) → List ℕ
+or_empty None = []
+or_empty (Some b) = b
+
+-- ---- the whole
+
+unfoldable pub message_fields : Field Message
+message_fields =
+    made (λ x. record { body = or_empty x.0; sys = x.1.0; props = x.1.1.0; ttl = x.1.1.1.0; schedule = x.1.1.1.1 })
+    (bytes (codes "body") (codes "body_hex") and system_texts (codes "sys") and user_properties (codes "props") and lifetime (codes "ttl")
+    and optional (codes "schedule") (whole (codes "schedule")))
+
+abbrev pub message_of : Data → Result Message (List ℕ)
+message_of d = then_by (or_key (codes "messages") (as_object d)) (λ _. object_of message_fields d)
+
+abbrev pub before_those : List Message → Result (List Message) (List ℕ) → Result (List Message) (List ℕ)
+before_those first (Err key) = Err key
+before_those first (Ok ms) = Ok (first ++ ms)
+
+-- each in turn, or the first key at fault
+abbrev pub messages_of : Items → Result (List Message) (List ℕ)
+messages_of no_items = Ok []
+messages_of (item d ds) = then_by (message_of d) (λ m. before_those (m ∷ []) (messages_of ds))
+
+unfoldable pub messages : List ℕ → Field (List Message)
+messages key = record { knows = λ k. bytes_eq k key; reads = λ d. then_by (or_key key (option_and_then as_array (get key d))) messages_of }
+
+unfoldable pub condition_fields : Field Conditions
+condition_fields = made (λ x. record { sys = x.0; props = x.1 }) (system_texts (codes "sys") and user_properties (codes "props"))
+
+abbrev pub conditions_from : List ℕ → Option Data → Result Conditions (List ℕ)
+conditions_from key None = Err key
+conditions_from key (Some d) = then_by (or_key key (as_object d)) (λ _. object_of condition_fields d)
+
+-- what a correlation filter asks for
+unfoldable pub conditions : List ℕ → Field Conditions
+conditions key = record { knows = λ k. bytes_eq k key; reads = λ d. conditions_from key (get key d) }

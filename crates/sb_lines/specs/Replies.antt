@@ -1,0 +1,72 @@
+-- The line of a reply: one JSON object with no space and its keys in byte order, and a line feed.
+use Rattle.std.specs.Prelude.{ℕ, List, [], ◌∷◌, ◌++◌, codes, map, Option, Some, None, Result, Ok, Err}
+use Rattle.serde_json.specs.Data.{Data, null, number, unsigned, string, array, object, Members, no_members, member, put}
+use Rattle.serde_json.specs.View.{items_of}
+use Rattle.serde_json.specs.Written.{compact_text}
+use Rattle.sb_machine.specs.declared.call.Part.{Part}
+use Rattle.sb_machine.specs.declared.call.Part.TheVariants.{Main, Dead, Transfer}
+use Rattle.sb_machine.specs.declared.reply.Answered.{Answered}
+use Rattle.sb_machine.specs.declared.reply.Answered.TheVariants.{New, Kept}
+use Rattle.sb_machine.specs.declared.reply.Receipt.{Receipt}
+use Rattle.sb_machine.specs.declared.reply.Receipt.TheVariants.{Number, Duplicate}
+use Rattle.sb_machine.specs.declared.reply.Refusal.{Refusal}
+use Rattle.sb_machine.specs.declared.reply.Reply.{Reply}
+use Rattle.sb_machine.specs.declared.reply.Reply.TheVariants.{Done, Sent, Message, Empty, Copies, Expired, Session, Renewed, State, Begun, Queued, Committed, Aborted, Counts}
+use Rattle.sb_lines.specs.Refusals.{refusal_data, with_number, with_string}
+use Rattle.sb_lines.specs.Shown.{shown_data, with_bytes}
+use Rattle.sb_lines.specs.Tokens.{token_text}
+
+-- ---- parts of replies
+
+-- what was done, and these members behind it
+abbrev pub said_before : List ℕ → Members → Members
+said_before word rest = with_string (codes "ok") word rest
+
+abbrev pub said : List ℕ → Members
+said word = said_before word no_members
+
+-- the number of a message, or null for a duplicate
+abbrev pub receipt_data : Receipt → Data
+receipt_data (Number n) = number (unsigned n)
+receipt_data Duplicate = null
+
+abbrev pub part_name : Part → List ℕ
+part_name Main = codes "main"
+part_name Dead = codes "dead"
+part_name Transfer = codes "transfer"
+
+-- what a session remembers, under `state` or `state_hex`; null where it is nothing
+abbrev pub with_state : Option (List ℕ) → Members → Members
+with_state None ms = put (codes "state") null ms
+with_state (Some bytes) ms = with_bytes (codes "state") (codes "state_hex") bytes ms
+
+abbrev pub count_data : ℕ → ℕ → ℕ → Data
+count_data main dead transfer = object (with_number (codes "dead") dead (with_number (codes "main") main (with_number (codes "transfer") transfer no_members)))
+
+-- ---- what was done
+
+abbrev pub reply_data : Reply → Data
+reply_data Done = object (said (codes "done"))
+reply_data (Sent receipts) = object (member (codes "numbers") (array (items_of (map receipt_data receipts))) (said (codes "sent")))
+reply_data (Message copy) = object (member (codes "message") (shown_data copy) (said (codes "message")))
+reply_data Empty = object (said (codes "empty"))
+reply_data (Copies copies) = object (member (codes "copies") (array (items_of (map shown_data copies))) (said (codes "copies")))
+reply_data (Expired n) = object (said_before (codes "expired") (with_number (codes "seq") n no_members))
+reply_data (Session id token until) = object (with_string (codes "id") id (said_before (codes "session") (with_string (codes "session") (token_text token) (with_number (codes "until") until no_members))))
+reply_data (Renewed until) = object (said_before (codes "renewed") (with_number (codes "until") until no_members))
+reply_data (State state) = object (with_state state (said (codes "state")))
+reply_data (Begun txn) = object (said_before (codes "begun") (with_number (codes "txn") txn no_members))
+reply_data Queued = object (said (codes "queued"))
+reply_data Committed = object (said (codes "committed"))
+reply_data (Aborted part n) = object (said_before (codes "aborted") (with_string (codes "part") (part_name part) (with_number (codes "seq") n no_members)))
+reply_data (Counts main dead transfer) = object (member (codes "counts") (count_data main dead transfer) (said (codes "counts")))
+
+-- ---- the line
+
+abbrev pub answer_data : Result Answered Refusal → Data
+answer_data (Ok (New reply)) = reply_data reply
+answer_data (Ok (Kept reply)) = object (member (codes "kept") (reply_data reply) (said (codes "kept")))
+answer_data (Err refusal) = refusal_data refusal
+
+abbrev pub answer_line : Result Answered Refusal → List ℕ
+answer_line answer = compact_text (answer_data answer) ++ 10 ∷ []
