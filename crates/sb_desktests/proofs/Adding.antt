@@ -1,9 +1,9 @@
 -- A namespace goes on by one entry.
-use Rattle.std.proofs.Common.{◌≡◌, ℕ, ◌+◌, ◌≤◌, min, max, List, [], ◌∷◌, ◌++◌, length, filter, Bool, true, false, true≢false, is_some, Option, Some, None, Result, Ok, Err, refl, sym, ap, ◌∙◌, subst, arith, length-append, append_assoc}
+use Rattle.std.proofs.Common.{◌≡◌, ℕ, ◌+◌, List, [], ◌∷◌, ◌++◌, length, filter, true, false, true≢false, is_some, Option, Some, None, Result, Ok, Err, refl, sym, ap, ◌∙◌, subst, arith, length-append, append_assoc}
 use Rattle.std.proofs.lemmas.List.Elements.{filter-append}
 use Rattle.std.specs.Prelude.{if◌then◌else◌}
 use Rattle.sb_machine.specs.Accounts.{changing, event_of, is_machine}
-use Rattle.sb_machine.specs.Answers.{max_moment, moment_of}
+use Rattle.sb_machine.specs.Answers.{moment_of}
 use Rattle.sb_machine.specs.History.{Log, fresh_log, after_entry, after_entries, IsAllowed, IsLegalFrom}
 use Rattle.sb_machine.specs.Namespace.{empty_state}
 use Rattle.sb_machine.specs.Repeats.{outcome_of}

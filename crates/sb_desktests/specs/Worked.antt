@@ -1,5 +1,5 @@
 -- A history worked through: two seats ask for the same queue, one after the other.
-use Rattle.std.specs.Prelude.{◌≡◌, ℕ, List, [], ◌∷◌, ◌++◌, Some, Ok, Err}
+use Rattle.std.specs.Prelude.{◌≡◌, List, [], ◌∷◌, ◌++◌, Some, Ok, Err}
 use Rattle.sb_machine.specs.History.{entries_at}
 use Rattle.sb_machine.specs.Namespace.{empty_state}
 use Rattle.sb_machine.specs.declared.history.Entry.{Entry}

@@ -1,4 +1,4 @@
-use Rattle.std.proofs.Common.{rules, ◌≡◌, false, not}
+use Rattle.std.proofs.Common.{rules, ◌≡◌}
 use Rattle.sb_desktests.specs.Namespaces.{creation}
 use Rattle.sb_desktests.proofs.Adding.{makes, exists, wants}
 use Rattle.sb_desktests.proofs.one_queue.OneQueue.answer.Goals as goal
