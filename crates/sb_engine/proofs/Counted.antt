@@ -1,15 +1,15 @@
 -- The changes of a send: a copy enters an entity that is there, and none ends.
-use Rattle.std.proofs.Common.{◌≡◌, ℕ, ◌+◌, Bool, true, false, List, [], ◌∷◌, ◌++◌, map, find, Option, Some, None, is_some, refl, sym, ◌∙◌, ap, subst}
+use Rattle.std.proofs.Common.{◌≡◌, ℕ, ◌+◌, Bool, true, false, List, [], ◌∷◌, ◌++◌, Option, Some, None, is_some, refl, sym, ◌∙◌, ap}
 use Rattle.std.specs.Prelude.{nat_lt, if◌then◌else◌}
 use Rattle.sb_fanout.proofs.Places.{abouts_kept, about_kept, none_listed}
 use Rattle.sb_fanout.proofs.There.{both, visits_are_there}
 use Rattle.sb_fanout.specs.Lasts.{is_listed}
 use Rattle.sb_fanout.specs.Laws.{are_there}
-use Rattle.sb_machine.specs.Changes.{after, after_all, in_turn, noted}
+use Rattle.sb_machine.specs.Changes.{after, after_all, noted}
 use Rattle.sb_machine.specs.Delivery.{visit_change, visit_key, landing, carried, delivered}
 use Rattle.sb_machine.specs.Leaves.{leaf_after, seq_or}
 use Rattle.sb_machine.specs.Messages.{text_of}
-use Rattle.sb_machine.specs.Namespace.{entity_of, is_entity, key_of, last_at, leaf_of, listed, with_leaf}
+use Rattle.sb_machine.specs.Namespace.{entity_of, key_of, last_at, leaf_of, listed, with_leaf}
 use Rattle.sb_machine.specs.Sending.{coming, entering, is_repeat, message_changes, noting, send_changes, unscheduled, waiting}
 use Rattle.sb_machine.specs.Visits.{Lot, Visit, ends, stays, visits}
 use Rattle.sb_machine.specs.declared.call.Part.TheVariants.{Main}
@@ -107,6 +107,7 @@ mild_coming t e m read s same there = at m.schedule where
   late : (moment : ℕ) (b : Bool) → Mild t (if b then waiting e m moment else entering e m read) s
   late moment true = mild_waiting t e m moment s (ap (λ (es : List Listed). is_listed e.about.number es) same ∙ there)
   late moment false = mild_entering t e m read s same there
+
   at : (schedule : Option ℕ) → Mild t (elim schedule [ Some moment ↦ (if nat_lt t moment then waiting e m moment else entering e m read) | None ↦ entering e m read ]) s
   at (Some moment) = late moment (nat_lt t moment)
   at None = mild_entering t e m read s same there

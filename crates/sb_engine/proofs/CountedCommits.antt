@@ -1,5 +1,5 @@
 -- The changes of a commit: a copy enters an entity that is there, and one that ends stands where it does.
-use Rattle.std.proofs.Common.{◌≡◌, ℕ, ◌+◌, Bool, true, false, List, [], ◌∷◌, ◌++◌, map, find, Option, Some, None, is_some, refl, sym, ◌∙◌, ap, subst, arith}
+use Rattle.std.proofs.Common.{◌≡◌, ℕ, Bool, true, false, List, [], ◌∷◌, map, find, Option, Some, None, is_some, refl, ◌∙◌, ap}
 use Rattle.std.specs.Prelude.{◌==◌, ◌&&◌, ◌||◌, nat_le, not, if◌then◌else◌}
 use Rattle.std.specs.List.{list_all}
 use Rattle.sb_fanout.proofs.Deliveries.{number_itself, or_right}
@@ -10,9 +10,9 @@ use Rattle.sb_fanout.specs.Laws.{are_there}
 use Rattle.sb_laws.proofs.Lists.{found_behind, found_passes}
 use Rattle.sb_machine.specs.Changes.{after, after_all, in_turn}
 use Rattle.sb_machine.specs.Delivery.{in_part, back_to, dead_for, dead_lettered, expired, is_expired, raised, released}
-use Rattle.sb_machine.specs.Leases.{is_living, is_named, leased, was_deferred}
+use Rattle.sb_machine.specs.Leases.{is_living, is_named, was_deferred}
 use Rattle.sb_machine.specs.Leaves.{has_number}
-use Rattle.sb_machine.specs.Names.{is_main, is_same_entity}
+use Rattle.sb_machine.specs.Names.{is_same_entity}
 use Rattle.sb_machine.specs.Namespace.{entity_of, is_entity, key_of, leaf_of, listed}
 use Rattle.sb_machine.specs.Reasons.{for_reason, with_reason}
 use Rattle.sb_machine.specs.Settlement.{goes_with, settled}
@@ -31,7 +31,6 @@ use Rattle.sb_machine.specs.declared.change.Cause.TheVariants.{Completed, DeadLe
 use Rattle.sb_machine.specs.declared.change.Change.{Change}
 use Rattle.sb_machine.specs.declared.change.Change.TheVariants.{Drops}
 use Rattle.sb_machine.specs.declared.change.LeafChange.TheVariants.{Ends, Stands}
-use Rattle.sb_machine.specs.declared.reason.DeadReason.{DeadReason}
 use Rattle.sb_machine.specs.declared.reason.DeadReason.TheVariants.{Expired, TooOften}
 use Rattle.sb_machine.specs.declared.state.Entity.{Entity}
 use Rattle.sb_machine.specs.declared.state.Listed.{Listed}
@@ -43,6 +42,7 @@ use Rattle.sb_machine.specs.declared.state.Standing.TheVariants.{Deferred}
 use Rattle.sb_machine.specs.declared.state.StoredCopy.{StoredCopy}
 use Rattle.sb_machine.specs.declared.state.Transaction.{Transaction}
 use Rattle.sb_model.specs.declared.message.Message.{Message}
+use Rattle.sb_engine.specs.Commits.{goes_well}
 use Rattle.sb_engine.specs.Quotas.{AreCounted, copy_where}
 use Rattle.sb_engine.proofs.Counted.{Mild, IsThere, mild_append, mild_listed, mild_counted, listed_in_leaf, mild_carried, mild_delivered, mild_sends}
 
@@ -60,6 +60,7 @@ found_by_number p (x ∷ xs) c found = at (p x) refl (found_by_number p xs c) wh
   first : (b : Bool) → has_number c.number x ≡ b → is_some (find (has_number c.number) xs) ≡ true → is_some (find (has_number c.number) (x ∷ xs)) ≡ true
   first true is rest = rw is refl
   first false is rest = rw is rest
+
   at : (b : Bool) → p x ≡ b → (find p xs ≡ Some c → is_some (find (has_number c.number) xs) ≡ true) → is_some (find (has_number c.number) (x ∷ xs)) ≡ true
   at true is ih =
       let here : Some x ≡ Some c = rw is at found in
@@ -119,11 +120,6 @@ mild_settled t s e Transfer c (DeadLetter reason description) goes held = absurd
 
 -- ---- operations
 
--- a queued settlement goes with the part that it is on
-abbrev pub goes_well : Operation → Bool
-goes_well (Send to messages) = true
-goes_well (Settle from number token session how) = goes_with how from.part
-
 held_copy : (t : ℕ) (s : Space) (n : ℕ) (e : Entity) (from : Path) (number : ℕ) (token : Token) (c : StoredCopy) → entity_of n s ≡ Some e → queued_copy s t e from number token ≡ Some c → IsHeld s e from.part c
 held_copy t s n e from number token c there found =
     let same : e.about.number ≡ n = same_number e.about.number n (found_passes (is_entity n) e s.entities there) in
@@ -141,6 +137,7 @@ mild_settlement t s n from number token how goes = at (entity_of n s) refl where
   found : (e : Entity) → entity_of n s ≡ Some e → (o : Option StoredCopy) → queued_copy s t e from number token ≡ o → Mild t (settled_found s t e from how o) s
   found e there None is = tt
   found e there (Some c) is = mild_settled t s e from.part c how goes (held_copy t s n e from number token c there is)
+
   at : (o : Option Entity) → entity_of n s ≡ o → Mild t (elim o [ Some now ↦ settled_found s t now from how (queued_copy s t now from number token) | None ↦ [] ]) s
   at None is = tt
   at (Some e) is = found e is (queued_copy s t e from number token) refl

@@ -16,7 +16,7 @@ use Rattle.sb_fanout.specs.Laws.{keeps_numbers}
 use Rattle.sb_fanout.proofs.Keeping.{numbers_stand}
 use Rattle.sb_engine.specs.Growing.{Stands, IsGrown}
 
-after_both : (t : ℕ) (cs ds : List Change) (s : Space) → after_all t (cs ++ ds) s ≡ after_all t ds (after_all t cs s)
+pub after_both : (t : ℕ) (cs ds : List Change) (s : Space) → after_all t (cs ++ ds) s ≡ after_all t ds (after_all t cs s)
 after_both t [] ds s = refl
 after_both t (c ∷ cs) ds s = after_both t cs ds (after t c s)
 

@@ -1,11 +1,19 @@
-mod Growing
-mod PlannedRows
-mod Releases
-mod Claiming
+pub mod Growing
+pub mod PlannedRows
+pub mod Releases
+pub mod Claiming
+pub mod SendIds
+pub mod Sendings
+pub mod Sends
+pub mod Turns
+pub mod Commits
+pub mod AsFound
+pub mod SettledCommits
 mod Numbering
 mod Plannings
 pub mod Quotas
 pub mod Counted
 pub mod CountedCommits
 mod Rules
-mod Tests
+mod Small
+mod Exhausting

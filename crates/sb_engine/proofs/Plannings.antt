@@ -50,7 +50,7 @@ leads s t call (acted reply cs) p e = subst (λ (q : Planned). Leads s t call (a
 pub is_plan : (s : State) (t : ℕ) (call : Call) (p : Planned) → planned_of (client_of call) call.act (outcome_of s t call) ≡ Ok p → IsPlanOf s t call p
 is_plan s t call p e = let l = leads s t call (outcome_of s t call) p e in record { answer = l.0; change = l.1; state = l.2 }
 
-refuses_in : (by : Option By) (act : Act) (o : Outcome) (r : Refusal) → planned_of by act o ≡ Err r → answer_in o ≡ Err r
+pub refuses_in : (by : Option By) (act : Act) (o : Outcome) (r : Refusal) → planned_of by act o ≡ Err r → answer_in o ≡ Err r
 refuses_in by act (refused x) r e = cc
 refuses_in by act (repeated reply) r e = absurd cc
 refuses_in by act (acted reply cs) r e = absurd cc

@@ -2,6 +2,8 @@ pub mod Plans
 pub mod Drafts
 pub mod Heads
 pub mod Growing
+pub mod Sendings
+pub mod Commits
 pub mod Readings
 pub mod Removals
 pub mod Rules

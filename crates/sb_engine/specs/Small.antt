@@ -1,5 +1,5 @@
 -- Calls that are planned without memory.
-use Rattle.std.specs.Prelude.{Bool, true, false, ◌&&◌, Option, Some, None, is_none}
+use Rattle.std.specs.Prelude.{Bool, true, false, ◌&&◌, None, is_none}
 use Rattle.sb_machine.specs.Acts.{is_via_in}
 use Rattle.sb_machine.specs.Fields.{bad_field}
 use Rattle.sb_machine.specs.declared.call.Act.{Act}

@@ -9,6 +9,7 @@ ghost use Rattle.sb_engine.specs.Small.{is_small};
 
 mod accept;
 mod cancel;
+mod commit;
 mod create;
 mod delete;
 pub mod kinds;
@@ -17,6 +18,7 @@ mod receive;
 mod receive_deferred;
 mod renew;
 mod rules;
+mod send;
 mod session_close;
 mod session_renew;
 mod session_set;
@@ -27,6 +29,7 @@ mod transactions;
 use crate::Draft;
 use crate::acts::accept::plan_accept;
 use crate::acts::cancel::plan_cancel;
+use crate::acts::commit::plan_commit;
 use crate::acts::create::{plan_create, plan_create_subscription};
 use crate::acts::delete::plan_delete;
 use crate::acts::looks::{plan_counts, plan_peek};
@@ -34,6 +37,7 @@ use crate::acts::receive::plan_receive;
 use crate::acts::receive_deferred::plan_receive_deferred;
 use crate::acts::renew::plan_renew;
 use crate::acts::rules::{plan_create_rule, plan_delete_rule};
+use crate::acts::send::plan_send;
 use crate::acts::session_close::plan_session_close;
 use crate::acts::session_renew::plan_session_renew;
 use crate::acts::session_set::plan_session_set;
@@ -79,6 +83,7 @@ pub fn plan_act(alloc: Global, space: &SpaceStore, moment: u64, act: &Act) -> Re
         Act::Rollback { txn } => plan_rollback(alloc, space, *txn),
         Act::Peek { from, start, count } => plan_peek(alloc, space, from, *start, *count),
         Act::Counts { entity } => plan_counts(alloc, space, entity),
+        Act::Send { to, messages, txn } => plan_send(alloc, space, moment, to, messages, *txn),
         Act::Cancel { from, number } => plan_cancel(alloc, space, from, *number),
         Act::Receive {
             from,
@@ -117,7 +122,6 @@ pub fn plan_act(alloc: Global, space: &SpaceStore, moment: u64, act: &Act) -> Re
         Act::SessionState { from, session } => {
             plan_session_state(alloc, space, moment, from, *session)
         }
-        // not planned yet
-        Act::Send { .. } | Act::Commit { .. } => Err(Refusal::OutOfMemory),
+        Act::Commit { txn } => plan_commit(alloc, space, moment, *txn),
     }
 }

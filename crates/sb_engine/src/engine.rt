@@ -3,21 +3,24 @@ ghost use Rattle.std.specs.Prelude.{◌≡◌, ◌⊎◌, ◌≤◌, ◌<◌, �
 ghost use Rattle.std.specs.Option.{option_map};
 ghost use Rattle.std.specs.Result.{IsOk};
 ghost use Rattle.sb_entities.specs.Stores.{space_in, IsRoomFor};
-ghost use Rattle.sb_machine.specs.Acts.{row_of};
+ghost use Rattle.sb_machine.specs.Acts.{is_via_in, row_of};
 ghost use Rattle.sb_machine.specs.Answers.{answer_of, kept_as, with_kept, max_moment};
 ghost use Rattle.sb_machine.specs.Changes.{after_all, is_numbered};
 ghost use Rattle.sb_machine.specs.Due.{is_none_in};
+ghost use Rattle.sb_machine.specs.Fields.{bad_field};
 ghost use Rattle.sb_machine.specs.Namespace.{empty_state, live as live_of, made as made_of};
 ghost use Rattle.sb_machine.specs.Repeats as repeats;
+ghost use Rattle.sb_machine.specs.Rows.{refuses};
 ghost use Rattle.sb_machine.specs.Repeats.{acted};
 ghost use Rattle.sb_machine.specs.declared.reply.Answered.TheVariants.{Kept as Repeated};
 ghost use Rattle.sb_machine.specs.declared.reply.Refusal.TheVariants.{OutOfMemory};
 ghost use Rattle.sb_engine.specs.Engines.{engine_state, adds_nothing, carried_out, planned_of, summary_of, HasRoom, IsPlanOf, IsSound, PlansAs};
+ghost use Rattle.sb_engine.specs.Small.{is_small, takes_no_memory};
 
 use crate::calls::{Verdict, client_of, judge_number};
 use crate::copies::{copy_of_act, copy_of_reply};
-use crate::planning::plan_row;
 use crate::numbers::{live, made};
+use crate::planning::plan_row;
 use crate::{Draft, Plan, Summary};
 use sb_entities::SpaceStore;
 use sb_machine::{Act, Answered, By, Call, Changes, Kept, Refusal, Reply};
@@ -104,6 +107,7 @@ impl Engine {
     fn plan_acting(&self, moment: u64, by: Option<&By>, call: &Call) -> Result<Plan, Refusal>
         requires { moment ≤ max_moment }
         ensures plan { PlansAs result (planned_of (option_map (λ b. b.now) by.entry) call.now.act (repeats.of_row (row_of (engine_state self.now).space moment call.now.by call.now.act))) }
+        ensures free { option_map (λ b. b.now) by.entry ≡ None → bad_field (is_via_in (engine_state self.now).space call.now.act) call.now.act call.now.by ≡ None → is_small call.now.act ≡ true → IfErr result (λ r. row_of (engine_state self.now).space moment call.now.by call.now.act ≡ refuses r) }
         ensures sound { IfOk result (λ p. IsSound (engine_state self.now) moment p) }
     {
         let draft = plan_row(self.alloc, &self.space, moment, &call.by, &call.act)?;
@@ -132,6 +136,7 @@ impl Engine {
     fn plan_call(&self, moment: u64, call: &Call) -> Result<Plan, Refusal>
         requires { moment ≤ max_moment }
         ensures plan { PlansAs result (planned_of (repeats.client_of call.now) call.now.act (repeats.outcome_of (engine_state self.now) moment call.now)) }
+        ensures free { takes_no_memory (engine_state self.now).space call.now ≡ true → IfErr result (λ r. planned_of (repeats.client_of call.now) call.now.act (repeats.outcome_of (engine_state self.now) moment call.now) ≡ Err r) }
         ensures sound { IfOk result (λ p. IsSound (engine_state self.now) moment p) }
     {
         match client_of(call) {
@@ -146,6 +151,7 @@ impl Engine {
         requires { moment ≤ max_moment }
         ensures ok { IfOk result (λ p. IsPlanOf (engine_state self.now) moment call.now p × IsSound (engine_state self.now) moment p) }
         ensures err { IfErr result (λ r. (r ≡ OutOfMemory) ⊎ (answer_of (engine_state self.now) moment call.now ≡ Err r)) }
+        ensures free { takes_no_memory (engine_state self.now).space call.now ≡ true → IfErr result (λ r. answer_of (engine_state self.now) moment call.now ≡ Err r) }
     {
         self.plan_call(moment, call)
     }

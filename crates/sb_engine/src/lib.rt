@@ -19,6 +19,7 @@
 mod acts;
 mod calls;
 mod claims;
+mod committing;
 mod copies;
 mod draft;
 mod drafting;
@@ -36,9 +37,11 @@ mod queueing;
 mod quota;
 mod reading;
 mod release;
+mod sending;
 mod settling;
 mod sizes;
 mod summary;
+mod via;
 
 use draft::Draft;
 pub use engine::Engine;

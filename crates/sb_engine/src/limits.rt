@@ -15,6 +15,9 @@ pub const MAX_PEEKED: u64 = 100;
 /// User properties of one message.
 pub const MAX_USER_PROPERTIES: usize = 256;
 
+/// Bytes of a body, and of the bodies and properties of a send of two or more messages.
+pub const MAX_BODY: u64 = 262_144;
+
 /// Bytes of the properties of one message, and of the conditions of one filter.
 pub const MAX_PROPERTY_BYTES: u64 = 65_536;
 

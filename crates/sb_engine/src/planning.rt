@@ -6,10 +6,7 @@ ghost use Rattle.sb_machine.specs.Acts as acts;
 ghost use Rattle.sb_machine.specs.Answers.{max_moment};
 ghost use Rattle.sb_machine.specs.Changes as changes;
 ghost use Rattle.sb_machine.specs.Fields as fields;
-ghost use Rattle.sb_machine.specs.Names as names;
-ghost use Rattle.sb_machine.specs.Queueing.{open_in};
 ghost use Rattle.sb_machine.specs.Rows.{refuses};
-ghost use Rattle.sb_machine.specs.SendRow as sends;
 ghost use Rattle.sb_engine.specs.Plans.{PlansRow, Passes};
 ghost use Rattle.sb_engine.specs.Small.{is_small};
 
@@ -17,43 +14,11 @@ use crate::Draft;
 use crate::acts::plan_act;
 use crate::fields::bad_field;
 use crate::numbers::is_numbered;
+use crate::via::is_via;
 use sb_entities::SpaceStore;
-use sb_machine::{Act, By, Path, Refusal};
-use sb_model::{Name, Text};
+use sb_machine::{Act, By, Refusal};
+use sb_model::Text;
 use std::alloc::Global;
-
-// ---- a send in a transaction to another entity than the transaction's
-
-fn is_same_option(a: &Option<Name>, b: &Option<Name>) -> bool
-    ensures { result ≡ names.is_same_option a.now b.now }
-{
-    match (a, b) {
-        (None, None) => true,
-        (Some(a), Some(b)) => a.as_str() == b.as_str(),
-        _ => false,
-    }
-}
-
-fn is_same_entity(a: &Path, b: &Path) -> bool
-    ensures { result ≡ names.is_same_entity a.now b.now }
-{
-    a.name.as_str() == b.name.as_str() && is_same_option(&a.subscription, &b.subscription)
-}
-
-fn is_via(space: &SpaceStore, to: &Path, txn: Option<u64>) -> bool
-    ensures { result ≡ sends.is_via (space_in space.now) to.now (open_in txn (space_in space.now)) }
-{
-    let Some(number) = txn else {
-        return false;
-    };
-    let Some(open) = space.txns().get(number) else {
-        return false;
-    };
-    match space.entity(open.entity()) {
-        Some(entity) => !is_same_entity(to, &entity.about().path),
-        None => false,
-    }
-}
 
 fn is_via_in(space: &SpaceStore, act: &Act) -> bool
     ensures { result ≡ acts.is_via_in (space_in space.now) act.now }

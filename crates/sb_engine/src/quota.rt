@@ -111,7 +111,12 @@ fn live_exactly(space: &SpaceStore) -> Result<u64, AllocError>
     Ok(live)
 }
 
-fn live_later(space: &SpaceStore, before: u64, moment: u64, changes: &Changes) -> Result<u64, AllocError>
+fn live_later(
+    space: &SpaceStore,
+    before: u64,
+    moment: u64,
+    changes: &Changes,
+) -> Result<u64, AllocError>
     requires before { before ≡ namespace.live (space_in space.now) }
     requires counted { AreCounted moment changes.now (space_in space.now) }
     ensures { IfOk result (λ n. n ≡ namespace.live (after_all moment changes.now (space_in space.now))) }

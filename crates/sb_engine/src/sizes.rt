@@ -1,11 +1,13 @@
 // Sizes in bytes.
-ghost use Rattle.std.specs.Prelude.{◌≡◌, ◌+◌, IfOk};
+ghost use Rattle.std.specs.Prelude.{◌≡◌, ◌+◌, length, IfOk};
 ghost use Rattle.std.specs.List.{sum_by};
 ghost use Rattle.sb_machine.specs.Administration as administration;
+ghost use Rattle.sb_machine.specs.Messages as messages;
 ghost use Rattle.sb_model.specs.Effects as effects;
 
+use crate::limits::{MAX_BODY, MAX_PROPERTY_BYTES};
 use sb_machine::FilterText;
-use sb_model::{Property, PropertyValue, SystemText};
+use sb_model::{Message, Property, PropertyValue, SystemText};
 use std::alloc::AllocError;
 
 // Memory is wanting for a sum that passes 2^64 - 1, which nothing in memory comes to.
@@ -66,5 +68,86 @@ pub fn conditions_size(asked: &FilterText) -> Result<u64, AllocError>
             properties_size(conditions.props.as_slice())?,
             texts_size(conditions.sys.as_slice())?,
         ),
+    }
+}
+
+// ---- messages
+
+fn body_size(message: &Message) -> u64
+    ensures { result ≡ length message.now.body }
+{
+    message.body.len() as u64
+}
+
+fn message_properties_size(message: &Message) -> Result<u64, AllocError>
+    ensures { IfOk result (λ size. size ≡ effects.property_bytes message.now) }
+{
+    sum(
+        properties_size(message.props.as_slice())?,
+        texts_size(message.sys.as_slice())?,
+    )
+}
+
+fn message_size(message: &Message) -> Result<u64, AllocError>
+    ensures { IfOk result (λ size. size ≡ length message.now.body + effects.property_bytes message.now) }
+{
+    sum(body_size(message), message_properties_size(message)?)
+}
+
+fn all_sizes(sent: &[Message]) -> Result<u64, AllocError>
+    ensures { IfOk result (λ size. size ≡ messages.all_bytes sent.now) }
+{
+    let mut size = 0_u64;
+    'sent: for message in sent {
+        size = sum(size, message_size(message)?)?;
+    }
+    Ok(size)
+}
+
+fn above(most: u64, size: u64) -> Option<u64>
+    ensures { result ≡ messages.above most size }
+{
+    if size <= most { None } else { Some(size) }
+}
+
+fn large_in(message: &Message) -> Result<Option<u64>, AllocError>
+    ensures { IfOk result (λ size. size ≡ messages.large_in message.now) }
+{
+    match above(MAX_BODY, body_size(message)) {
+        Some(size) => Ok(Some(size)),
+        None => Ok(above(MAX_PROPERTY_BYTES, message_properties_size(message)?)),
+    }
+}
+
+fn large_one(sent: &[Message]) -> Result<Option<u64>, AllocError>
+    ensures { IfOk result (λ size. size ≡ messages.large_one sent.now) }
+{
+    for message in sent {
+        if let Some(size) = large_in(message)? {
+            return Ok(Some(size));
+        }
+    }
+    Ok(None)
+}
+
+fn large_together(sent: &[Message]) -> Result<Option<u64>, AllocError>
+    ensures { IfOk result (λ size. size ≡ messages.large_together sent.now) }
+{
+    if sent.len() > 1 {
+        Ok(above(MAX_BODY, all_sizes(sent)?))
+    } else {
+        Ok(None)
+    }
+}
+
+/// The first size of the messages of a send that is too large, in bytes: of a body, of a message's
+/// properties, and of all together where they are two or more (Microsoft Learn, "Service Bus
+/// quotas": 256 kB for a message and for a batch, 64 kB for its properties).
+pub fn large_size(sent: &[Message]) -> Result<Option<u64>, AllocError>
+    ensures { IfOk result (λ size. size ≡ messages.large_size sent.now) }
+{
+    match large_one(sent)? {
+        Some(size) => Ok(Some(size)),
+        None => large_together(sent),
     }
 }

@@ -2,7 +2,7 @@ use Rattle.std.proofs.Common.{inr, sym, ◌∙◌}
 use Rattle.sb_entities.specs.Stores.{space_in}
 use Rattle.sb_machine.specs.Acts.{act_row, bad_call, is_via_in}
 use Rattle.sb_machine.specs.Fields.{bad_field}
-use Rattle.sb_engine.proofs.Tests.{exhausted}
+use Rattle.sb_engine.proofs.Exhausting.{exhausted}
 use Rattle.sb_engine.proofs.planning.plan_row.Goals as goal
 
 pub returns-else-is_numbered-clause-row : goal.returns-else-is_numbered-clause-row
