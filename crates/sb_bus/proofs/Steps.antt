@@ -2,14 +2,14 @@
 use Rattle.std.proofs.Common.{◌≡◌, ℕ, List, Bool, true, false, Option, Some, None, Result, Ok, Err, refl, sym, ◌∙◌, ap, subst}
 use Rattle.std.specs.Prelude.{if◌then◌else◌, is_some, is_err}
 use Rattle.sb_outside.specs.Streams.{Gains}
-use Rattle.sb_model.specs.Answers.{answer_of, state_of, moment_of}
-use Rattle.sb_model.specs.History.{answered, is_fault, stops}
-use Rattle.sb_model.specs.declared.call.Call.{Call}
-use Rattle.sb_model.specs.declared.call.TimedCall.{TimedCall}
-use Rattle.sb_model.specs.declared.reply.Reply.{Reply}
-use Rattle.sb_model.specs.declared.reply.Refusal.{Refusal}
-use Rattle.sb_model.specs.declared.reply.Refusal.TheVariants.{DiskFault, Stopped, OutOfMemory}
-use Rattle.sb_model.specs.declared.state.State.{State}
+use Rattle.sb_first_machine.specs.Answers.{answer_of, state_of, moment_of}
+use Rattle.sb_first_machine.specs.History.{answered, is_fault, stops}
+use Rattle.sb_first_machine.specs.declared.call.Call.{Call}
+use Rattle.sb_first_machine.specs.declared.call.TimedCall.{TimedCall}
+use Rattle.sb_first_machine.specs.declared.reply.Reply.{Reply}
+use Rattle.sb_first_machine.specs.declared.reply.Refusal.{Refusal}
+use Rattle.sb_first_machine.specs.declared.reply.Refusal.TheVariants.{DiskFault, Stopped, OutOfMemory}
+use Rattle.sb_first_machine.specs.declared.state.State.{State}
 use Rattle.sb_node.specs.Nodes.{IsStep}
 use Rattle.sb_bus.specs.Outside.{Output}
 use Rattle.sb_script.specs.Replies.{answer_line}

@@ -2,7 +2,7 @@
 use Rattle.std.specs.Prelude.{◌≡◌, ℕ, List, [], ◌∷◌, ◌++◌, length, map, Bool, false, ◌==◌, ◌||◌, nat_lt, if◌then◌else◌, codes, Result, Ok, Err}
 use Rattle.std.specs.List.{list_all}
 use Rattle.std.specs.Str.{is_utf8}
-use Rattle.sb_model.specs.declared.call.TimedCall.{TimedCall}
+use Rattle.sb_first_machine.specs.declared.call.TimedCall.{TimedCall}
 use Rattle.sb_bus.specs.declared.script_line.ScriptLine.{ScriptLine}
 use Rattle.sb_bus.specs.declared.script_line.ScriptLine.TheVariants.{Blank, Malformed, Request}
 use Rattle.sb_script.specs.Lines.{line_of}

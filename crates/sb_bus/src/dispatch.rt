@@ -14,7 +14,8 @@ ghost use Rattle.sb_bus.specs.declared.script_line.ScriptLine.TheVariants.{Reque
 use crate::ending::RunEnd;
 use crate::final_line::write_final_line;
 use crate::script_line::ScriptLine;
-use sb_model::{Answer, Refusal, Text, TimedCall};
+use sb_first_machine::{Answer, Refusal, TimedCall};
+use sb_model::Text;
 use sb_node::Node;
 use sb_outside::{Disk, Sink, write_all};
 use sb_script::{disk_fault_line, out_of_memory_line, write_reply};

@@ -6,7 +6,8 @@ ghost use Rattle.sb_bus.specs.PartialLines.{StandsFor};
 ghost use Rattle.sb_script.specs.Lines.{line_of};
 
 use crate::partial_line::{PartialLine, is_blank_line};
-use sb_model::{Text, TimedCall};
+use sb_first_machine::TimedCall;
+use sb_model::Text;
 use sb_script::{LineFault, read_line};
 use std::alloc::{AllocError, Global};
 

@@ -4,15 +4,15 @@ use Rattle.std.specs.Prelude.{IfSome, IfOk}
 use Rattle.std.specs.Int.{w64}
 use Rattle.std.proofs.lemmas.Bool.{eqb-true}
 use Rattle.std.proofs.lemmas.List.{append-nil, nil_from_length}
-use Rattle.sb_model.specs.declared.call.Act.{Act}
-use Rattle.sb_model.specs.declared.call.Act.TheVariants.{CreateQueue, Send, Receive, Peek}
-use Rattle.sb_model.specs.declared.call.By.{By}
-use Rattle.sb_model.specs.declared.call.Description.{Description}
-use Rattle.sb_model.specs.declared.call.Event.{Event}
-use Rattle.sb_model.specs.declared.call.Event.TheVariants.{Tick, Called}
-use Rattle.sb_model.specs.declared.call.Mode.{Mode}
-use Rattle.sb_model.specs.declared.call.Path.{Path}
-use Rattle.sb_model.specs.declared.call.Token.{Token}
+use Rattle.sb_first_machine.specs.declared.call.Act.{Act}
+use Rattle.sb_first_machine.specs.declared.call.Act.TheVariants.{CreateQueue, Send, Receive, Peek}
+use Rattle.sb_first_machine.specs.declared.call.By.{By}
+use Rattle.sb_first_machine.specs.declared.call.Description.{Description}
+use Rattle.sb_first_machine.specs.declared.call.Event.{Event}
+use Rattle.sb_first_machine.specs.declared.call.Event.TheVariants.{Tick, Called}
+use Rattle.sb_first_machine.specs.declared.call.Mode.{Mode}
+use Rattle.sb_first_machine.specs.declared.call.Path.{Path}
+use Rattle.sb_first_machine.specs.declared.call.Token.{Token}
 use Rattle.sb_model.specs.declared.message.Message.{Message}
 use Rattle.sb_first_codec.specs.EventBytes.{sized, optional, listed, number64, mode_byte, path_bytes, token_bytes, by_bytes, description_bytes, act_bytes, event_bytes, message_bytes}
 use Rattle.sb_first_codec.specs.Readers.{both, mapped, number_at, optional_at, listed_at}

@@ -13,14 +13,14 @@ use Rattle.std.proofs.lemmas.Bool.{eqb-true, ltb-true, lt-ltb}
 use Rattle.std.proofs.lemmas.Int.{to_z-of_z, of_z-to_z}
 use Rattle.std.proofs.lemmas.List.Elements.{All-from_recursion}
 use Rattle.std.proofs.lemmas.Str.{IsUtf8-from_is_utf8, is_utf8-from_IsUtf8}
-use Rattle.sb_model.specs.declared.call.By.{By}
-use Rattle.sb_model.specs.declared.call.Description.{Description}
-use Rattle.sb_model.specs.declared.call.Mode.{Mode}
-use Rattle.sb_model.specs.declared.call.Mode.TheVariants.{Lock, Delete}
-use Rattle.sb_model.specs.declared.call.Part.{Part}
-use Rattle.sb_model.specs.declared.call.Part.TheVariants.{Main, Dead, Transfer}
-use Rattle.sb_model.specs.declared.call.Path.{Path}
-use Rattle.sb_model.specs.declared.call.Token.{Token}
+use Rattle.sb_first_machine.specs.declared.call.By.{By}
+use Rattle.sb_first_machine.specs.declared.call.Description.{Description}
+use Rattle.sb_first_machine.specs.declared.call.Mode.{Mode}
+use Rattle.sb_first_machine.specs.declared.call.Mode.TheVariants.{Lock, Delete}
+use Rattle.sb_first_machine.specs.declared.call.Part.{Part}
+use Rattle.sb_first_machine.specs.declared.call.Part.TheVariants.{Main, Dead, Transfer}
+use Rattle.sb_first_machine.specs.declared.call.Path.{Path}
+use Rattle.sb_first_machine.specs.declared.call.Token.{Token}
 use Rattle.sb_model.specs.declared.message.Message.{Message}
 use Rattle.sb_model.specs.declared.message.Property.{Property}
 use Rattle.sb_model.specs.declared.message.PropertyValue.{PropertyValue}

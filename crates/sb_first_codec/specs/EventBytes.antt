@@ -3,20 +3,20 @@ use Rattle.std.specs.Prelude.{ℕ, List, [], ◌∷◌, ◌++◌, length, Bool, 
 use Rattle.std.specs.List.{flat_map}
 use Rattle.std.specs.Int.{w32, w64, to_be_bytes, cast_unsigned}
 use Rattle.sb_model.specs.SystemNames.{system_code}
-use Rattle.sb_model.specs.declared.call.Act.{Act}
-use Rattle.sb_model.specs.declared.call.Act.TheVariants.{CreateQueue, Send, Receive, Peek}
-use Rattle.sb_model.specs.declared.call.By.{By}
-use Rattle.sb_model.specs.declared.call.Description.{Description}
-use Rattle.sb_model.specs.declared.call.Event.{Event}
-use Rattle.sb_model.specs.declared.call.Event.TheVariants.{Tick, Called}
-use Rattle.sb_model.specs.declared.call.EventRef.{EventRef}
-use Rattle.sb_model.specs.declared.call.EventRef.TheVariants.{Tick as TickRef, Called as CalledRef}
-use Rattle.sb_model.specs.declared.call.Mode.{Mode}
-use Rattle.sb_model.specs.declared.call.Mode.TheVariants.{Lock, Delete}
-use Rattle.sb_model.specs.declared.call.Part.{Part}
-use Rattle.sb_model.specs.declared.call.Part.TheVariants.{Main, Dead, Transfer}
-use Rattle.sb_model.specs.declared.call.Path.{Path}
-use Rattle.sb_model.specs.declared.call.Token.{Token}
+use Rattle.sb_first_machine.specs.declared.call.Act.{Act}
+use Rattle.sb_first_machine.specs.declared.call.Act.TheVariants.{CreateQueue, Send, Receive, Peek}
+use Rattle.sb_first_machine.specs.declared.call.By.{By}
+use Rattle.sb_first_machine.specs.declared.call.Description.{Description}
+use Rattle.sb_first_machine.specs.declared.call.Event.{Event}
+use Rattle.sb_first_machine.specs.declared.call.Event.TheVariants.{Tick, Called}
+use Rattle.sb_first_machine.specs.declared.call.EventRef.{EventRef}
+use Rattle.sb_first_machine.specs.declared.call.EventRef.TheVariants.{Tick as TickRef, Called as CalledRef}
+use Rattle.sb_first_machine.specs.declared.call.Mode.{Mode}
+use Rattle.sb_first_machine.specs.declared.call.Mode.TheVariants.{Lock, Delete}
+use Rattle.sb_first_machine.specs.declared.call.Part.{Part}
+use Rattle.sb_first_machine.specs.declared.call.Part.TheVariants.{Main, Dead, Transfer}
+use Rattle.sb_first_machine.specs.declared.call.Path.{Path}
+use Rattle.sb_first_machine.specs.declared.call.Token.{Token}
 use Rattle.sb_model.specs.declared.message.Message.{Message}
 use Rattle.sb_model.specs.declared.message.Property.{Property}
 use Rattle.sb_model.specs.declared.message.PropertyValue.{PropertyValue}

@@ -1,6 +1,6 @@
 -- Laws of the spelling, over all events.
 use Rattle.std.specs.Prelude.{◌≡◌, ℕ, List, [], ◌++◌, Some}
-use Rattle.sb_model.specs.declared.call.Event.{Event}
+use Rattle.sb_first_machine.specs.declared.call.Event.{Event}
 use Rattle.sb_first_codec.specs.EventBytes.{event_bytes}
 use Rattle.sb_first_codec.specs.Reading.{read_event}
 use Rattle.sb_first_codec.specs.Spelled.{HasSpelling}

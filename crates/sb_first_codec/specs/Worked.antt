@@ -1,11 +1,11 @@
 -- Events whose bytes were worked out by hand.
 use Rattle.std.specs.Prelude.{ℕ, List, [], ◌∷◌, codes, None}
-use Rattle.sb_model.specs.Namespace.{default_description, entity_path}
-use Rattle.sb_model.specs.declared.call.Act.{Act}
-use Rattle.sb_model.specs.declared.call.Act.TheVariants.{CreateQueue, Send, Receive}
-use Rattle.sb_model.specs.declared.call.Event.{Event}
-use Rattle.sb_model.specs.declared.call.Event.TheVariants.{Tick, Called}
-use Rattle.sb_model.specs.declared.call.Mode.TheVariants.{Delete}
+use Rattle.sb_first_machine.specs.Namespace.{default_description, entity_path}
+use Rattle.sb_first_machine.specs.declared.call.Act.{Act}
+use Rattle.sb_first_machine.specs.declared.call.Act.TheVariants.{CreateQueue, Send, Receive}
+use Rattle.sb_first_machine.specs.declared.call.Event.{Event}
+use Rattle.sb_first_machine.specs.declared.call.Event.TheVariants.{Tick, Called}
+use Rattle.sb_first_machine.specs.declared.call.Mode.TheVariants.{Delete}
 use Rattle.sb_model.specs.declared.message.Message.{Message}
 
 abbrev pub acted : ℕ → Act → Event

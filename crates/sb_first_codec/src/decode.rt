@@ -1,6 +1,6 @@
 // From bytes to the event that they spell.
 ghost use Rattle.std.specs.Prelude.{◌≡◌, Some, IfOk, IfSome};
-ghost use Rattle.sb_model.specs.declared.call.Event.{Event};
+ghost use Rattle.sb_first_machine.specs.declared.call.Event.{Event};
 ghost use Rattle.sb_first_codec.specs.EventBytes.{event_bytes};
 ghost use Rattle.sb_first_codec.specs.Readers.{Gives};
 ghost use Rattle.sb_first_codec.specs.Reading.{read_event};
@@ -8,7 +8,7 @@ ghost use Rattle.sb_first_codec.specs.Spelled.{HasSpelling};
 
 use crate::read_acts::event_of;
 use crate::unread::Unread;
-use sb_model::Event;
+use sb_first_machine::Event;
 use std::alloc::{AllocError, Global};
 
 #[tactic(auto, unfolding(crate::specs::Reading::read_event))]

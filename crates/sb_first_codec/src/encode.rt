@@ -6,7 +6,7 @@ ghost use Rattle.sb_first_codec.specs.Reading.{read_event};
 
 use crate::write_acts::{put_act, put_optional_by};
 use crate::write_fields::put_u64;
-use sb_model::EventRef;
+use sb_first_machine::EventRef;
 use std::alloc::AllocError;
 
 fn put_event(event: &EventRef<'_>, out: &mut Vec<u8>) -> Result<(), AllocError>

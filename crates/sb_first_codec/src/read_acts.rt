@@ -8,7 +8,7 @@ use crate::read_fields::{
 };
 use crate::read_messages::listed_messages_of;
 use crate::unread::Unread;
-use sb_model::{Act, By, Call, Description, Event, Mode, Part, Path, Token};
+use sb_first_machine::{Act, By, Call, Description, Event, Mode, Part, Path, Token};
 use std::alloc::Global;
 
 #[tactic(auto, unfolding(crate::specs::Reading::part_at))]

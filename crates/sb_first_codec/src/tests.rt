@@ -1,5 +1,5 @@
 use super::*;
-use sb_model::{Event, EventRef};
+use sb_first_machine::{Event, EventRef};
 use std::test::Fail;
 
 // At 5 a body `a` is sent to `q`, with a label, a property and a time to live.

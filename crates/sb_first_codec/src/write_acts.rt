@@ -7,7 +7,7 @@ use crate::write_fields::{
     put_optional_text, put_optional_u32, put_optional_u64, put_sized, put_truth, put_u32, put_u64,
 };
 use crate::write_messages::put_messages;
-use sb_model::{Act, By, Description, Mode, Part, Path, Token};
+use sb_first_machine::{Act, By, Description, Mode, Part, Path, Token};
 use std::alloc::AllocError;
 
 fn byte_of_part(part: Part) -> u8

@@ -107,7 +107,7 @@ module _ (C : Change → Type 0) (gives : IsGiving C) where
       go true = (closes (key_of part e) h.lock, tt)
       go false = tt
 
-  sessions_give : ((key : LeafKey) (l : ℕ) → C (InLeaf key (Closes l))) → (t : ℕ) (s : Space) → Each C (due_sessions t s)
+  pub sessions_give : ((key : LeafKey) (l : ℕ) → C (InLeaf key (Closes l))) → (t : ℕ) (s : Space) → Each C (due_sessions t s)
   sessions_give closes t s = each_flat (λ e. Unit {0}) C (λ e. closes_in t e Main ++ closes_in t e Dead ++ closes_in t e Transfer) s.entities
       (λ e any. each_append C (closes_in t e Main ++ closes_in t e Dead) (closes_in t e Transfer)
       (each_append C (closes_in t e Main) (closes_in t e Dead) (closes_give closes t e Main e.main.sessions) (closes_give closes t e Dead e.dead.sessions)) (closes_give closes t e Transfer e.transfer.sessions))

@@ -1,11 +1,3 @@
-pub mod Names
-pub mod Fields
-pub mod Namespace
-pub mod Answers
-pub mod History
-pub mod Consistent
-pub mod Laws
-pub mod Worked
 pub mod Truth
 pub mod Expressions
 pub mod Likes

@@ -1,8 +1,5 @@
-// Two scripts and some filters, worked through with the definitions alone.
+// Some filters, worked through with the definitions alone.
 ghost use Rattle.std.specs.Prelude.{◌≡◌, Ok, Err, codes, false};
-ghost use Rattle.sb_model.specs.Namespace.{empty_state};
-ghost use Rattle.sb_model.specs.History.{entries_of, state_after};
-ghost use Rattle.sb_model.specs.Worked.{first_script, second_script, first_answers, second_answers, answers_in, between};
 ghost use Rattle.sb_model.specs.Expressions.{constant, existing, unary, binary};
 ghost use Rattle.sb_model.specs.Meaning.{truth_on};
 ghost use Rattle.sb_model.specs.WorkedFilters.{number, user, equals, less_than_zero, one_or_b, with_a, is_not_red, by_zero, least, on_plain};
@@ -12,14 +9,6 @@ ghost use Rattle.sb_model.specs.declared.expression.UnaryOperator.TheVariants as
 ghost use Rattle.sb_model.specs.declared.expression.BinaryOperator.TheVariants as binary_operator;
 ghost use Rattle.sb_model.specs.declared.truth.Truth.TheVariants as truth;
 ghost use Rattle.sb_model.specs.declared.evaluation.EvalFault.TheVariants as fault;
-
-/// The definitions give the answers that were worked out by hand, also over two runs, and time
-/// comes up only to the moments at which something changed.
-pub fn worked_rows()
-    ensures first { answers_in (entries_of 0 (empty_state 0) first_script) ≡ first_answers }
-    ensures second { answers_in (entries_of 0 between second_script) ≡ second_answers }
-    ensures time { between.now ≡ 9 }
-{}
 
 /// What filters come to: division cuts towards zero, what isn't there is unknown, and all parts
 /// are evaluated.

@@ -5,9 +5,9 @@ use Rattle.std.specs.Result.{OnOk}
 use Rattle.std.specs.List.{slice_get}
 use Rattle.std.proofs.lemmas.List.{map-set}
 use Rattle.std.proofs.Math.Seq.{map-set_same}
-use Rattle.sb_model.specs.Answers.{with_copies}
-use Rattle.sb_model.specs.declared.state.Entity.{Entity}
-use Rattle.sb_model.specs.declared.state.StoredCopy.{StoredCopy}
+use Rattle.sb_first_machine.specs.Answers.{with_copies}
+use Rattle.sb_first_machine.specs.declared.state.Entity.{Entity}
+use Rattle.sb_first_machine.specs.declared.state.StoredCopy.{StoredCopy}
 use Rattle.sb_node.specs.declared.queue.Queue.{Queue}
 use Rattle.sb_node.specs.Queue.{entity_of, entities_of}
 use Rattle.sb_node.specs.Engine.{IsTaken}

@@ -8,25 +8,25 @@ use Rattle.std.proofs.lemmas.Str.{IsUtf8-from_ascii}
 use Rattle.std.proofs.lemmas.Bool.{eqb-true}
 use Rattle.std.proofs.lemmas.Bool.Decides.{nat_tests}
 use Rattle.std.proofs.lemmas.List.Sums.{sum_by-cons}
-use Rattle.sb_model.specs.Names.{is_name, is_name_byte, is_entity_path}
-use Rattle.sb_model.specs.Fields.{unless, bad_field, bad_in_act, bad_in_send, bad_in_receive, bad_in_message, bad_in_messages, bad_in_description}
-use Rattle.sb_model.specs.Answers.{Row, refuses, stays, moves, is_move, row_of, act_row, create_row, send_row, receive_row, peek_row, on_entity, asks, refused_by, bad_call, large_body, large_size, body_bytes, too_large}
-use Rattle.sb_model.specs.declared.call.Act.{Act}
-use Rattle.sb_model.specs.declared.call.Act.TheVariants.{CreateQueue, Send, Receive, Peek}
-use Rattle.sb_model.specs.declared.call.Call.{Call}
-use Rattle.sb_model.specs.declared.call.Description.{Description}
-use Rattle.sb_model.specs.declared.call.Event.TheVariants.{Called}
-use Rattle.sb_model.specs.declared.call.Path.{Path}
+use Rattle.sb_first_machine.specs.Names.{is_name, is_name_byte, is_entity_path}
+use Rattle.sb_first_machine.specs.Fields.{unless, bad_field, bad_in_act, bad_in_send, bad_in_receive, bad_in_message, bad_in_messages, bad_in_description}
+use Rattle.sb_first_machine.specs.Answers.{Row, refuses, stays, moves, is_move, row_of, act_row, create_row, send_row, receive_row, peek_row, on_entity, asks, refused_by, bad_call, large_body, large_size, body_bytes, too_large}
+use Rattle.sb_first_machine.specs.declared.call.Act.{Act}
+use Rattle.sb_first_machine.specs.declared.call.Act.TheVariants.{CreateQueue, Send, Receive, Peek}
+use Rattle.sb_first_machine.specs.declared.call.Call.{Call}
+use Rattle.sb_first_machine.specs.declared.call.Description.{Description}
+use Rattle.sb_first_machine.specs.declared.call.Event.TheVariants.{Called}
+use Rattle.sb_first_machine.specs.declared.call.Path.{Path}
 use Rattle.sb_model.specs.declared.message.Message.{Message}
-use Rattle.sb_model.specs.declared.reply.Refusal.{Refusal}
-use Rattle.sb_model.specs.declared.state.State.{State}
-use Rattle.sb_model.specs.declared.state.Entity.{Entity}
+use Rattle.sb_first_machine.specs.declared.reply.Refusal.{Refusal}
+use Rattle.sb_first_machine.specs.declared.state.State.{State}
+use Rattle.sb_first_machine.specs.declared.state.Entity.{Entity}
 use Rattle.sb_first_codec.specs.EventBytes.{event_bytes, act_bytes, by_bytes, description_bytes, path_bytes, token_bytes, sized, message_bytes, system_bytes, property_bytes, listed, optional, number32, number64, truth}
 use Rattle.sb_first_codec.specs.Spelled.{HasSpelling, Is32, Is64, IsText, IsPath, IsMessage, IsDescription, IsAct, IsToken, IsBy, AreSystemTexts, AreProperties}
-use Rattle.sb_model.specs.Namespace.{entity_named, numbers_made}
-use Rattle.sb_model.specs.Fields.{max_number}
-use Rattle.sb_model.specs.Answers.{sent, received, created}
-use Rattle.sb_model.specs.declared.reply.Refusal.TheVariants.{BadName, EntityNotFound, EntityExists, Exhausted}
+use Rattle.sb_first_machine.specs.Namespace.{entity_named, numbers_made}
+use Rattle.sb_first_machine.specs.Fields.{max_number}
+use Rattle.sb_first_machine.specs.Answers.{sent, received, created}
+use Rattle.sb_first_machine.specs.declared.reply.Refusal.TheVariants.{BadName, EntityNotFound, EntityExists, Exhausted}
 use Rattle.sb_node.proofs.Sizes.{small_first}
 use Rattle.sb_node.proofs.Tests.{first_none, unless_none, few_messages}
 
@@ -66,7 +66,7 @@ no_key (Some key) e = absurd cc
 no_size : (ms : List Message) → too_large ms ≡ None → large_size ms ≡ None
 no_size ms none = by_size (large_size ms) none
   where
-    by_size : (o : Option ℕ) → (elim o as (λ _. Option Refusal) [ Some size ↦ Some (Rattle.sb_model.specs.declared.reply.Refusal.TheVariants.TooLarge size) | None ↦ None ]) ≡ None → o ≡ None
+    by_size : (o : Option ℕ) → (elim o as (λ _. Option Refusal) [ Some size ↦ Some (Rattle.sb_first_machine.specs.declared.reply.Refusal.TheVariants.TooLarge size) | None ↦ None ]) ≡ None → o ≡ None
     by_size None e = refl
     by_size (Some size) e = absurd cc
 
@@ -268,7 +268,7 @@ send_spelled s t to ms txn good moving =
     sizes_of : (ms : List Message) → large_size ms ≡ None → (large_body ms ≡ None) × (body_bytes ms ≤ 262144)
     sizes_of ms e = by_large (large_body ms) (body_bytes ms) e
 
-receive_spelled : (s : State) (from : Path) (mode : Rattle.sb_model.specs.declared.call.Mode.Mode) (session : Option Rattle.sb_model.specs.declared.call.Token.Token) → bad_in_receive mode (is_some session) ≡ None → is_move (receive_row s from) ≡ true → IsShort (Receive from mode session)
+receive_spelled : (s : State) (from : Path) (mode : Rattle.sb_first_machine.specs.declared.call.Mode.Mode) (session : Option Rattle.sb_first_machine.specs.declared.call.Token.Token) → bad_in_receive mode (is_some session) ≡ None → is_move (receive_row s from) ≡ true → IsShort (Receive from mode session)
 receive_spelled s from mode session good moving =
     let addressed = entity_move s from (λ e. received s from.name e e.main.copies) moving in
     let path = path_spelled from addressed.0 in
@@ -283,13 +283,13 @@ receive_spelled s from mode session good moving =
       );
     }
   where
-    no_session : (o : Option Rattle.sb_model.specs.declared.call.Token.Token) → not (is_some o) ≡ true → is_none o ≡ true
+    no_session : (o : Option Rattle.sb_first_machine.specs.declared.call.Token.Token) → not (is_some o) ≡ true → is_none o ≡ true
     no_session None e = refl
     no_session (Some x) e = absurd cc
 
 peek_stays : (s : State) (from : Path) (start count : ℕ) → is_move (peek_row s from start count) ≡ true → ⊥
 peek_stays s from start count moving =
-    let next = λ (e : Entity). stays (Rattle.sb_model.specs.declared.reply.Reply.TheVariants.Copies (Rattle.sb_model.specs.Answers.peeked start count e.main.copies)) in
+    let next = λ (e : Entity). stays (Rattle.sb_first_machine.specs.declared.reply.Reply.TheVariants.Copies (Rattle.sb_first_machine.specs.Answers.peeked start count e.main.copies)) in
     let found = found_move (entity_named from.name s.entities) next (entity_move s from next moving).1 in
     let moved : false ≡ true = found.1 in
     absurd cc

@@ -4,10 +4,10 @@ use Rattle.sb_journal.specs.Text.{gate_after}
 use Rattle.sb_first_codec.specs.Reading.{read_event}
 use Rattle.std.specs.Prelude.{if◌then◌else◌, nat_le, ◌&&◌, Bool, true, false}
 use Rattle.std.proofs.lemmas.Bool.Decides.{nat_tests}
-use Rattle.sb_model.specs.Answers.{Row, refuses, stays, moves, row_of}
-use Rattle.sb_model.specs.declared.call.Event.{Event}
-use Rattle.sb_model.specs.declared.call.Event.TheVariants.{Tick, Called}
-use Rattle.sb_model.specs.declared.state.State.{State}
+use Rattle.sb_first_machine.specs.Answers.{Row, refuses, stays, moves, row_of}
+use Rattle.sb_first_machine.specs.declared.call.Event.{Event}
+use Rattle.sb_first_machine.specs.declared.call.Event.TheVariants.{Tick, Called}
+use Rattle.sb_first_machine.specs.declared.state.State.{State}
 use Rattle.sb_node.specs.Recovery.{next_state, moved, replay, reaches, breaks, Replayed}
 use Rattle.sb_node.proofs.Queues.{next_of}
 

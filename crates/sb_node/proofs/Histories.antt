@@ -7,15 +7,15 @@ use Rattle.sb_journal.specs.declared.journal.Journal.{Journal}
 use Rattle.sb_journal.specs.Journals.{journal_disks, HoldsFile}
 use Rattle.sb_journal.specs.Text.{File, with_payload}
 use Rattle.sb_first_codec.specs.Reading.{read_event}
-use Rattle.sb_model.specs.Answers.{refuses, row_of, moment_of, is_move}
-use Rattle.sb_model.specs.History.{answered, changes, is_fault}
-use Rattle.sb_model.specs.declared.call.Call.{Call}
-use Rattle.sb_model.specs.declared.call.Event.{Event}
-use Rattle.sb_model.specs.declared.call.Event.TheVariants.{Called}
-use Rattle.sb_model.specs.declared.reply.Reply.{Reply}
-use Rattle.sb_model.specs.declared.reply.Refusal.{Refusal}
-use Rattle.sb_model.specs.declared.reply.Refusal.TheVariants.{DiskFault, OutOfMemory}
-use Rattle.sb_model.specs.declared.state.State.{State}
+use Rattle.sb_first_machine.specs.Answers.{refuses, row_of, moment_of, is_move}
+use Rattle.sb_first_machine.specs.History.{answered, changes, is_fault}
+use Rattle.sb_first_machine.specs.declared.call.Call.{Call}
+use Rattle.sb_first_machine.specs.declared.call.Event.{Event}
+use Rattle.sb_first_machine.specs.declared.call.Event.TheVariants.{Called}
+use Rattle.sb_first_machine.specs.declared.reply.Reply.{Reply}
+use Rattle.sb_first_machine.specs.declared.reply.Refusal.{Refusal}
+use Rattle.sb_first_machine.specs.declared.reply.Refusal.TheVariants.{DiskFault, OutOfMemory}
+use Rattle.sb_first_machine.specs.declared.state.State.{State}
 use Rattle.sb_node.specs.Nodes.{events_of, events_on, IsLogged, IsUnrecorded}
 
 held_events : {D : Type 0} {B : Ghosts D} (j : Journal D B) (file : File) (salt : ℕ) → HoldsFile j file → events_on (journal_disks j) salt ≡ map read_event file.payloads

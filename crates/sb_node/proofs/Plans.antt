@@ -3,11 +3,11 @@ use Rattle.std.proofs.Common.{◌≡◌, ℕ, zero, suc, ◌<◌, ◌≤◌, Lis
 use Rattle.std.specs.Prelude.{if◌then◌else◌, IfSome}
 use Rattle.std.specs.List.{slice_get}
 use Rattle.std.proofs.lemmas.Bool.Decides.{nat_tests}
-use Rattle.sb_model.specs.Answers.{Row, refuses, stays, moves, is_move, state_in, max_moment}
-use Rattle.sb_model.specs.declared.reply.Reply.TheVariants.{Sent, Empty}
-use Rattle.sb_model.specs.declared.state.State.{State}
-use Rattle.sb_model.specs.declared.state.Entity.{Entity}
-use Rattle.sb_model.specs.declared.state.StoredCopy.{StoredCopy}
+use Rattle.sb_first_machine.specs.Answers.{Row, refuses, stays, moves, is_move, state_in, max_moment}
+use Rattle.sb_first_machine.specs.declared.reply.Reply.TheVariants.{Sent, Empty}
+use Rattle.sb_first_machine.specs.declared.state.State.{State}
+use Rattle.sb_first_machine.specs.declared.state.Entity.{Entity}
+use Rattle.sb_first_machine.specs.declared.state.StoredCopy.{StoredCopy}
 use Rattle.sb_node.specs.declared.engine.Plan.{Plan}
 use Rattle.sb_node.specs.declared.engine.Plan.TheVariants.{Answers, Creates, Sends, Receives}
 use Rattle.sb_node.specs.declared.engine.Engine.{Engine}

@@ -4,14 +4,14 @@ use Rattle.std.specs.Prelude.{sum_by}
 use Rattle.std.proofs.lemmas.List.{drop_more, drop_all}
 use Rattle.std.proofs.lemmas.List.Folds.{fold-map}
 use Rattle.std.proofs.lemmas.Bool.Decides.{nat_tests}
-use Rattle.sb_model.specs.Answers.{copies_of, receipts_of, peeked, shown}
+use Rattle.sb_first_machine.specs.Answers.{copies_of, receipts_of, peeked, shown}
 use Rattle.sb_model.specs.declared.message.Message.{Message}
-use Rattle.sb_model.specs.declared.state.StoredCopy.{StoredCopy}
-use Rattle.sb_model.specs.declared.reply.CopyShown.{CopyShown}
-use Rattle.sb_model.specs.declared.reply.CopyState.TheVariants.{Ready}
-use Rattle.sb_model.specs.declared.reply.Showing.TheVariants.{Browsed}
-use Rattle.sb_model.specs.declared.reply.Receipt.{Receipt}
-use Rattle.sb_model.specs.declared.reply.Receipt.TheVariants.{Number}
+use Rattle.sb_first_machine.specs.declared.state.StoredCopy.{StoredCopy}
+use Rattle.sb_first_machine.specs.declared.reply.CopyShown.{CopyShown}
+use Rattle.sb_first_machine.specs.declared.reply.CopyState.TheVariants.{Ready}
+use Rattle.sb_first_machine.specs.declared.reply.Showing.TheVariants.{Browsed}
+use Rattle.sb_first_machine.specs.declared.reply.Receipt.{Receipt}
+use Rattle.sb_first_machine.specs.declared.reply.Receipt.TheVariants.{Number}
 
 -- the element at a place, and those behind it
 pub next_of : {X : Type 0} (xs : List X) (i : ℕ) (x : X) → i < length xs → x ≡ get_or xs i x → drop i xs ≡ x ∷ drop (i + 1) xs

@@ -6,13 +6,13 @@ use Rattle.sb_journal.specs.Opened.{Opened, Stands, Damage, opened}
 use Rattle.sb_journal.specs.declared.found.Side.{Side}
 use Rattle.sb_journal.specs.Text.{File, first_gate}
 use Rattle.sb_first_codec.specs.Reading.{read_event}
-use Rattle.sb_model.specs.Answers.{Row, refuses, stays, moves, row_of, state_in}
-use Rattle.sb_model.specs.Consistent.{IsConsistent}
-use Rattle.sb_model.specs.Namespace.{empty_state}
-use Rattle.sb_model.specs.declared.call.Event.{Event}
-use Rattle.sb_model.specs.declared.call.Event.TheVariants.{Tick, Called}
-use Rattle.sb_model.specs.declared.state.State.{State}
-use Rattle.sb_model.proofs.Consistency.{stays_consistent}
+use Rattle.sb_first_machine.specs.Answers.{Row, refuses, stays, moves, row_of, state_in}
+use Rattle.sb_first_machine.specs.Consistent.{IsConsistent}
+use Rattle.sb_first_machine.specs.Namespace.{empty_state}
+use Rattle.sb_first_machine.specs.declared.call.Event.{Event}
+use Rattle.sb_first_machine.specs.declared.call.Event.TheVariants.{Tick, Called}
+use Rattle.sb_first_machine.specs.declared.state.State.{State}
+use Rattle.sb_first_machine.proofs.Consistency.{stays_consistent}
 use Rattle.sb_node.specs.Recovery.{next_state, moved, replay, reaches, breaks, Replayed, recovered, recovered_from, reached, recovers, Recovers}
 
 starts : (salt : ℕ) → IsConsistent (empty_state salt)

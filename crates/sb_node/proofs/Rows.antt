@@ -6,18 +6,18 @@ use Rattle.std.specs.List.{slice_get}
 use Rattle.std.proofs.lemmas.Bool.Decides.{nat_tests}
 use Rattle.std.proofs.lemmas.List.Sums.{sum_by-cons}
 use Rattle.std.proofs.lemmas.Option.{slice_get-map, slice_get_read}
-use Rattle.sb_model.specs.Names.{is_entity_path}
-use Rattle.sb_model.specs.Namespace.{entity_named, with_entity, numbers_made, made_in}
-use Rattle.sb_model.specs.Answers.{Row, refuses, moves, on_entity, asks, refused_by, send_row, sent, large_size, too_large, with_messages, copies_of, receipts_of}
-use Rattle.sb_model.specs.declared.call.Path.{Path}
+use Rattle.sb_first_machine.specs.Names.{is_entity_path}
+use Rattle.sb_first_machine.specs.Namespace.{entity_named, with_entity, numbers_made, made_in}
+use Rattle.sb_first_machine.specs.Answers.{Row, refuses, moves, on_entity, asks, refused_by, send_row, sent, large_size, too_large, with_messages, copies_of, receipts_of}
+use Rattle.sb_first_machine.specs.declared.call.Path.{Path}
 use Rattle.sb_model.specs.declared.message.Message.{Message}
-use Rattle.sb_model.specs.declared.reply.Refusal.{Refusal}
-use Rattle.sb_model.specs.declared.reply.Refusal.TheVariants.{BadName, EntityNotFound, Exhausted, TooLarge}
-use Rattle.sb_model.specs.declared.reply.Reply.TheVariants.{Sent}
-use Rattle.sb_model.specs.declared.reply.Receipt.{Receipt}
-use Rattle.sb_model.specs.declared.state.State.{State}
-use Rattle.sb_model.specs.declared.state.Entity.{Entity}
-use Rattle.sb_model.specs.declared.state.StoredCopy.{StoredCopy}
+use Rattle.sb_first_machine.specs.declared.reply.Refusal.{Refusal}
+use Rattle.sb_first_machine.specs.declared.reply.Refusal.TheVariants.{BadName, EntityNotFound, Exhausted, TooLarge}
+use Rattle.sb_first_machine.specs.declared.reply.Reply.TheVariants.{Sent}
+use Rattle.sb_first_machine.specs.declared.reply.Receipt.{Receipt}
+use Rattle.sb_first_machine.specs.declared.state.State.{State}
+use Rattle.sb_first_machine.specs.declared.state.Entity.{Entity}
+use Rattle.sb_first_machine.specs.declared.state.StoredCopy.{StoredCopy}
 use Rattle.sb_node.specs.declared.queue.Queue.{Queue}
 use Rattle.sb_node.specs.Queue.{entity_of, entities_of}
 use Rattle.sb_node.specs.Engine.{with_more}

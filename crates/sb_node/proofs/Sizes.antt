@@ -2,7 +2,7 @@
 use Rattle.std.proofs.Common.{◌≡◌, ℕ, ◌+◌, ◌<◌, ◌≤◌, List, length, get_or, drop, nat_le, Bool, true, false, Option, Some, None, refl, sym, ◌∙◌, ap, arith}
 use Rattle.std.specs.Prelude.{if◌then◌else◌}
 use Rattle.std.proofs.lemmas.Bool.Decides.{nat_tests}
-use Rattle.sb_model.specs.Answers.{large_body}
+use Rattle.sb_first_machine.specs.Answers.{large_body}
 use Rattle.sb_model.specs.declared.message.Message.{Message}
 use Rattle.sb_node.proofs.Queues.{next_of}
 

@@ -1,7 +1,7 @@
 -- What holds of a call whose fields are all in range.
 use Rattle.std.proofs.Common.{◌≡◌, ℕ, ◌≤◌, List, length, nat_le, Bool, true, false, Option, Some, None, refl, arith}
 use Rattle.std.proofs.lemmas.Bool.Decides.{nat_tests}
-use Rattle.sb_model.specs.Fields.{first_some, unless, bad_in_send}
+use Rattle.sb_first_machine.specs.Fields.{first_some, unless, bad_in_send}
 use Rattle.sb_model.specs.declared.message.Message.{Message}
 
 pub first_none : (a b : Option (List ℕ)) → first_some a b ≡ None → (a ≡ None) × (b ≡ None)

@@ -1,14 +1,14 @@
 -- The state that an engine in memory is, and what a plan does to it.
 use Rattle.std.specs.Prelude.{◌≡◌, ◌≢◌, ◌<◌, ◌≤◌, ◌^◌, ◌-◌, ℕ, ◌+◌, Bool, true, false, List, [], ◌∷◌, ◌++◌, length, slice_get, slice_set, Some, None, vec_len, vec_capacity, IfSome}
 use Rattle.std.specs.VecDeque.{deque_len, deque_capacity}
-use Rattle.sb_model.specs.Answers.{Row, stays, moves, shown, with_copies}
-use Rattle.sb_model.specs.declared.state.State.{State}
-use Rattle.sb_model.specs.declared.state.Entity.{Entity}
-use Rattle.sb_model.specs.declared.state.StoredCopy.{StoredCopy}
-use Rattle.sb_model.specs.declared.reply.Reply.TheVariants.{Done, Sent, Message as Given, Empty}
-use Rattle.sb_model.specs.declared.reply.Showing.TheVariants.{Removed}
-use Rattle.sb_model.specs.declared.reply.Refusal.{Refusal}
-use Rattle.sb_model.specs.declared.reply.Refusal.TheVariants.{DiskFault, Stopped}
+use Rattle.sb_first_machine.specs.Answers.{Row, stays, moves, shown, with_copies}
+use Rattle.sb_first_machine.specs.declared.state.State.{State}
+use Rattle.sb_first_machine.specs.declared.state.Entity.{Entity}
+use Rattle.sb_first_machine.specs.declared.state.StoredCopy.{StoredCopy}
+use Rattle.sb_first_machine.specs.declared.reply.Reply.TheVariants.{Done, Sent, Message as Given, Empty}
+use Rattle.sb_first_machine.specs.declared.reply.Showing.TheVariants.{Removed}
+use Rattle.sb_first_machine.specs.declared.reply.Refusal.{Refusal}
+use Rattle.sb_first_machine.specs.declared.reply.Refusal.TheVariants.{DiskFault, Stopped}
 use Rattle.sb_node.specs.declared.engine.Engine.{Engine}
 use Rattle.sb_node.specs.declared.engine.Plan.{Plan}
 use Rattle.sb_node.specs.declared.engine.Plan.TheVariants.{Answers, Creates, Sends, Receives}

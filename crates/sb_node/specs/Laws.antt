@@ -1,7 +1,7 @@
 -- Laws of what is recovered.
 use Rattle.std.specs.Prelude.{ℕ, List}
-use Rattle.sb_model.specs.Consistent.{IsConsistent}
-use Rattle.sb_model.specs.declared.state.State.{State}
+use Rattle.sb_first_machine.specs.Consistent.{IsConsistent}
+use Rattle.sb_first_machine.specs.declared.state.State.{State}
 use Rattle.sb_node.specs.Recovery.{recovered, Recovers}
 
 -- whatever stands on two disks, a state that it recovers is consistent

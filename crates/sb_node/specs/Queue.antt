@@ -1,7 +1,7 @@
 -- The entity that a queue in memory is.
 use Rattle.std.specs.Prelude.{List, map}
-use Rattle.sb_model.specs.Namespace.{empty_leaf}
-use Rattle.sb_model.specs.declared.state.Entity.{Entity}
+use Rattle.sb_first_machine.specs.Namespace.{empty_leaf}
+use Rattle.sb_first_machine.specs.declared.state.Entity.{Entity}
 use Rattle.sb_node.specs.declared.queue.Queue.{Queue}
 
 abbrev pub entity_of : Queue → Entity

@@ -1,10 +1,10 @@
 -- What a journal stands for: the state that its events lead to, or where it is damaged.
 use Rattle.std.specs.Prelude.{◌≡◌, ℕ, ◌+◌, ◌-◌, ◌&&◌, List, [], ◌∷◌, length, nat_le, if◌then◌else◌, Option, Some, None}
-use Rattle.sb_model.specs.Namespace.{empty_state}
-use Rattle.sb_model.specs.Answers.{Row, refuses, stays, moves, row_of, max_moment}
-use Rattle.sb_model.specs.declared.call.Event.{Event}
-use Rattle.sb_model.specs.declared.call.Event.TheVariants.{Tick, Called}
-use Rattle.sb_model.specs.declared.state.State.{State}
+use Rattle.sb_first_machine.specs.Namespace.{empty_state}
+use Rattle.sb_first_machine.specs.Answers.{Row, refuses, stays, moves, row_of, max_moment}
+use Rattle.sb_first_machine.specs.declared.call.Event.{Event}
+use Rattle.sb_first_machine.specs.declared.call.Event.TheVariants.{Tick, Called}
+use Rattle.sb_first_machine.specs.declared.state.State.{State}
 use Rattle.sb_first_codec.specs.Reading.{read_event}
 use Rattle.sb_journal.specs.Text.{File, first_gate, next_gate}
 use Rattle.sb_journal.specs.Opened.{Opened, Stands, Damage, opened}

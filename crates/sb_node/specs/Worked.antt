@@ -1,8 +1,8 @@
 -- A journal of one event, and what stands for what where it is cut or a byte is another, worked out by hand.
 use Rattle.std.specs.Prelude.{ℕ, ◌+◌, List, [], ◌∷◌, ◌++◌, codes, take, drop}
 use Rattle.sb_first_codec.specs.Worked.{made_bytes}
-use Rattle.sb_model.specs.Namespace.{new_entity, default_description}
-use Rattle.sb_model.specs.declared.state.State.{State}
+use Rattle.sb_first_machine.specs.Namespace.{new_entity, default_description}
+use Rattle.sb_first_machine.specs.declared.state.State.{State}
 
 -- a1b2c3d4e5f60718
 abbrev pub worked_salt : ℕ

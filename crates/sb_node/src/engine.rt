@@ -1,20 +1,19 @@
 // The namespace in memory: what a call would do, the room for it, and doing it.
 ghost use Rattle.std.specs.Prelude.{◌≡◌, ◌≢◌, ◌+◌, ◌^◌, ◌<◌, ◌≤◌, ◌∷◌, length, IfOk, IfErr, IfSome, OnOk, None, Ok, slice_get, slice_set, ◌⊎◌};
-ghost use Rattle.sb_model.specs.Answers as machine;
-ghost use Rattle.sb_model.specs.Answers.{with_copies};
-ghost use Rattle.sb_model.specs.Fields.{bad_in_act};
+ghost use Rattle.sb_first_machine.specs.Answers as machine;
+ghost use Rattle.sb_first_machine.specs.Answers.{with_copies};
+ghost use Rattle.sb_first_machine.specs.Fields.{bad_in_act};
 ghost use Rattle.std.specs.VecDeque.{deque_len, deque_capacity};
-ghost use Rattle.sb_model.specs.Namespace.{empty_state, entity_path, new_entity};
-ghost use Rattle.sb_model.specs.declared.reply.Refusal.TheVariants.{OutOfMemory, BadCall};
+ghost use Rattle.sb_first_machine.specs.Namespace.{empty_state, entity_path, new_entity};
+ghost use Rattle.sb_first_machine.specs.declared.reply.Refusal.TheVariants.{OutOfMemory, BadCall};
 ghost use Rattle.sb_node.specs.Queue.{entity_of, entities_of};
 ghost use Rattle.sb_node.specs.Engine.{engine_state, is_change, planned, HasRoom, IsFitting, IsPlannedRefusal, with_more, IsTaken};
 
 use crate::fields::bad_field;
 use crate::names::{is_entity_path, is_name};
 use crate::queue::{Queue, copies_from, made, peek, place_of, removed};
-use sb_model::{
-    Act, Call, Description, Message, Part, Path, Receipt, Refusal, Reply, Rows, StoredCopy, Text,
-};
+use sb_first_machine::{Act, Call, Description, Part, Path, Receipt, Refusal, Reply, StoredCopy};
+use sb_model::{Message, Rows, Text};
 use std::alloc::{AllocError, Global};
 use std::collections::VecDeque;
 

@@ -1,8 +1,9 @@
 // The first field of a call that is outside its range, or that no call may set yet.
 ghost use Rattle.std.specs.Prelude.{◌≡◌, option_map};
-ghost use Rattle.sb_model.specs.Fields as fields;
+ghost use Rattle.sb_first_machine.specs.Fields as fields;
 
-use sb_model::{Act, Call, Description, Message, Mode};
+use sb_first_machine::{Act, Call, Description, Mode};
+use sb_model::Message;
 
 const MAX_MESSAGES: usize = 100;
 

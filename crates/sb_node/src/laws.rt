@@ -1,7 +1,7 @@
 // Laws: each a function without effect whose contract is true of the definitions.
 ghost use Rattle.std.specs.Prelude.{◌≡◌, [], length, take};
 ghost use Rattle.sb_journal.specs.declared.found.Side.TheVariants.{A};
-ghost use Rattle.sb_model.specs.Namespace.{empty_state};
+ghost use Rattle.sb_first_machine.specs.Namespace.{empty_state};
 ghost use Rattle.sb_node.specs.Laws.{RecoversConsistent};
 ghost use Rattle.sb_node.specs.Recovery.{recovered, recovers, damaged};
 ghost use Rattle.sb_node.specs.Worked.{worked_file, worked_salt, with_byte, with_queue};

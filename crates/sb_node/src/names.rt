@@ -1,9 +1,9 @@
 // Names and addresses, tested as they are given.
 ghost use Rattle.std.specs.Prelude.{◌≡◌};
 ghost use Rattle.std.specs.List.{list_all};
-ghost use Rattle.sb_model.specs.Names as names;
+ghost use Rattle.sb_first_machine.specs.Names as names;
 
-use sb_model::{Part, Path};
+use sb_first_machine::{Part, Path};
 
 fn is_name_byte(b: u8) -> bool
     ensures { result ≡ names.is_name_byte b }

@@ -1,12 +1,13 @@
 // A queue in memory: its copies stand in a ring, so that taking the first moves no other.
 ghost use Rattle.std.specs.Prelude.{◌≡◌, ◌+◌, ◌<◌, ◌-◌, ◌^◌, length, min, sum_by, None, IfOk, IfSome, IfNone, bytes_eq, position, slice_get};
-ghost use Rattle.sb_model.specs.Answers.{peeked, copies_of, receipts_of, shown};
-ghost use Rattle.sb_model.specs.Namespace.{entity_named, made_in};
-ghost use Rattle.sb_model.specs.declared.reply.Showing.TheVariants.{Removed, Browsed};
-ghost use Rattle.sb_model.specs.declared.reply.CopyState.TheVariants.{Ready};
+ghost use Rattle.sb_first_machine.specs.Answers.{peeked, copies_of, receipts_of, shown};
+ghost use Rattle.sb_first_machine.specs.Namespace.{entity_named, made_in};
+ghost use Rattle.sb_first_machine.specs.declared.reply.Showing.TheVariants.{Removed, Browsed};
+ghost use Rattle.sb_first_machine.specs.declared.reply.CopyState.TheVariants.{Ready};
 ghost use Rattle.sb_node.specs.Queue.{entities_of};
 
-use sb_model::{CopyShown, CopyState, Description, Message, Path, Receipt, Showing, StoredCopy};
+use sb_first_machine::{CopyShown, CopyState, Description, Path, Receipt, Showing, StoredCopy};
+use sb_model::Message;
 use std::alloc::{AllocError, Global};
 use std::collections::VecDeque;
 

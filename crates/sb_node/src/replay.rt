@@ -2,7 +2,7 @@
 ghost use Rattle.std.specs.Bool.{MatchBool};
 ghost use Rattle.std.specs.Prelude.{◌≡◌, ◌^◌, ◌<◌, ℕ, Some, None, IfOk, IfErr, OnOk};
 ghost use Rattle.sb_first_codec.specs.Reading.{read_event};
-ghost use Rattle.sb_model.specs.declared.call.Event.TheVariants.{Called};
+ghost use Rattle.sb_first_machine.specs.declared.call.Event.TheVariants.{Called};
 ghost use Rattle.sb_journal.specs.Text.{gate_after};
 ghost use Rattle.sb_node.specs.Engine.{engine_state};
 ghost use Rattle.sb_node.specs.Recovery.{next_state, replay, reaches, breaks};
@@ -10,8 +10,8 @@ ghost use Rattle.sb_node.specs.declared.replay.ReplayFault.TheVariants.{NoEvent}
 
 use crate::engine::Engine;
 use sb_first_codec::decode_event;
+use sb_first_machine::{Call, Event, Refusal};
 use sb_journal::{Bytes, next_gate};
-use sb_model::{Call, Event, Refusal};
 use std::alloc::{AllocError, Global};
 
 /// The last moment that counts, in ms since 1970.

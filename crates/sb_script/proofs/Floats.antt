@@ -11,15 +11,15 @@ use Rattle.sb_model.specs.declared.message.Property.{Property}
 use Rattle.sb_model.specs.declared.message.PropertyValue.{PropertyValue}
 use Rattle.sb_model.specs.declared.message.PropertyValue.TheVariants.{Int, Text, Bool as Truth}
 use Rattle.sb_model.specs.declared.message.SystemText.{SystemText}
-use Rattle.sb_model.specs.declared.reply.CopyShown.{CopyShown}
-use Rattle.sb_model.specs.declared.reply.Showing.{Showing}
-use Rattle.sb_model.specs.declared.reply.Showing.TheVariants.{Removed, Browsed}
-use Rattle.sb_model.specs.declared.reply.Receipt.{Receipt}
-use Rattle.sb_model.specs.declared.reply.Receipt.TheVariants.{Number, Duplicate}
-use Rattle.sb_model.specs.declared.reply.Reply.{Reply}
-use Rattle.sb_model.specs.declared.reply.Reply.TheVariants.{Done, Sent, Message, Empty, Copies}
-use Rattle.sb_model.specs.declared.reply.Refusal.{Refusal}
-use Rattle.sb_model.specs.declared.reply.Refusal.TheVariants.{BadCall, EntityNotFound, EntityExists, BadName, TooLarge, Exhausted, DiskFault, Stopped, OutOfMemory}
+use Rattle.sb_first_machine.specs.declared.reply.CopyShown.{CopyShown}
+use Rattle.sb_first_machine.specs.declared.reply.Showing.{Showing}
+use Rattle.sb_first_machine.specs.declared.reply.Showing.TheVariants.{Removed, Browsed}
+use Rattle.sb_first_machine.specs.declared.reply.Receipt.{Receipt}
+use Rattle.sb_first_machine.specs.declared.reply.Receipt.TheVariants.{Number, Duplicate}
+use Rattle.sb_first_machine.specs.declared.reply.Reply.{Reply}
+use Rattle.sb_first_machine.specs.declared.reply.Reply.TheVariants.{Done, Sent, Message, Empty, Copies}
+use Rattle.sb_first_machine.specs.declared.reply.Refusal.{Refusal}
+use Rattle.sb_first_machine.specs.declared.reply.Refusal.TheVariants.{BadCall, EntityNotFound, EntityExists, BadName, TooLarge, Exhausted, DiskFault, Stopped, OutOfMemory}
 use Rattle.sb_model.specs.SystemNames.{system_name}
 use Rattle.sb_script.specs.Shown.{state_name, property_data, with_properties, with_texts, with_ttl, with_state, with_body, common_members, shown_data}
 use Rattle.sb_script.specs.Replies.{receipt_data, reply_data, refusal_data, answer_data}

@@ -3,8 +3,8 @@ use Rattle.std.specs.Prelude.{ℕ, List, Bool, nat_le, ◌&&◌, if◌then◌els
 use Rattle.std.specs.Str.{str_to_ascii_lowercase}
 use Rattle.serde_json.specs.Data.{Data, Members, no_members, member}
 use Rattle.serde_json.specs.Find.{get, as_str, as_number, as_u64, as_object}
-use Rattle.sb_model.specs.declared.call.Path.{Path}
-use Rattle.sb_model.specs.Namespace.{entity_path}
+use Rattle.sb_first_machine.specs.declared.call.Path.{Path}
+use Rattle.sb_first_machine.specs.Namespace.{entity_path}
 use Rattle.sb_script.specs.Faults.{or_key, then_by}
 
 -- the text at a key

@@ -2,8 +2,8 @@
 use Rattle.std.specs.Prelude.{◌≡◌, ℕ, List, Bool, true, not, ◌==◌, Result}
 use Rattle.std.specs.List.{list_all}
 use Rattle.serde_json.specs.Written.{compact_text}
-use Rattle.sb_model.specs.declared.reply.Reply.{Reply}
-use Rattle.sb_model.specs.declared.reply.Refusal.{Refusal}
+use Rattle.sb_first_machine.specs.declared.reply.Reply.{Reply}
+use Rattle.sb_first_machine.specs.declared.reply.Refusal.{Refusal}
 use Rattle.sb_script.specs.Replies.{answer_data}
 
 -- no line feed stands among these bytes

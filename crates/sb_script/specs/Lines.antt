@@ -3,13 +3,13 @@ use Rattle.std.specs.Prelude.{ℕ, List, [], Bool, ◌||◌, if◌then◌else◌
 use Rattle.serde_json.specs.Data.{Data}
 use Rattle.serde_json.specs.Read.{read}
 use Rattle.serde_json.specs.Find.{get, as_number, as_u64, as_object}
-use Rattle.sb_model.specs.declared.call.Act.{Act}
-use Rattle.sb_model.specs.declared.call.Act.TheVariants.{CreateQueue, Send, Receive, Peek}
-use Rattle.sb_model.specs.declared.call.Mode.{Mode}
-use Rattle.sb_model.specs.declared.call.Mode.TheVariants.{Delete}
-use Rattle.sb_model.specs.declared.call.TimedCall.{TimedCall}
-use Rattle.sb_model.specs.Fields.{max_number}
-use Rattle.sb_model.specs.Namespace.{default_description}
+use Rattle.sb_first_machine.specs.declared.call.Act.{Act}
+use Rattle.sb_first_machine.specs.declared.call.Act.TheVariants.{CreateQueue, Send, Receive, Peek}
+use Rattle.sb_first_machine.specs.declared.call.Mode.{Mode}
+use Rattle.sb_first_machine.specs.declared.call.Mode.TheVariants.{Delete}
+use Rattle.sb_first_machine.specs.declared.call.TimedCall.{TimedCall}
+use Rattle.sb_first_machine.specs.Fields.{max_number}
+use Rattle.sb_first_machine.specs.Namespace.{default_description}
 use Rattle.sb_script.specs.declared.keys.Kind.{Kind}
 use Rattle.sb_script.specs.declared.keys.Kind.TheVariants as kind
 use Rattle.sb_script.specs.declared.keys.Shape.{Shape}

@@ -3,12 +3,12 @@ use Rattle.std.specs.Prelude.{ℕ, List, [], ◌∷◌, ◌++◌, codes, map, Re
 use Rattle.serde_json.specs.Data.{Data, null, number, unsigned, string, array, object, Members, no_members, member}
 use Rattle.serde_json.specs.View.{items_of}
 use Rattle.serde_json.specs.Written.{compact_text}
-use Rattle.sb_model.specs.declared.reply.Receipt.{Receipt}
-use Rattle.sb_model.specs.declared.reply.Receipt.TheVariants.{Number, Duplicate}
-use Rattle.sb_model.specs.declared.reply.Reply.{Reply}
-use Rattle.sb_model.specs.declared.reply.Reply.TheVariants.{Done, Sent, Message, Empty, Copies}
-use Rattle.sb_model.specs.declared.reply.Refusal.{Refusal}
-use Rattle.sb_model.specs.declared.reply.Refusal.TheVariants.{BadCall, EntityNotFound, EntityExists, BadName, TooLarge, Exhausted, DiskFault, Stopped, OutOfMemory}
+use Rattle.sb_first_machine.specs.declared.reply.Receipt.{Receipt}
+use Rattle.sb_first_machine.specs.declared.reply.Receipt.TheVariants.{Number, Duplicate}
+use Rattle.sb_first_machine.specs.declared.reply.Reply.{Reply}
+use Rattle.sb_first_machine.specs.declared.reply.Reply.TheVariants.{Done, Sent, Message, Empty, Copies}
+use Rattle.sb_first_machine.specs.declared.reply.Refusal.{Refusal}
+use Rattle.sb_first_machine.specs.declared.reply.Refusal.TheVariants.{BadCall, EntityNotFound, EntityExists, BadName, TooLarge, Exhausted, DiskFault, Stopped, OutOfMemory}
 use Rattle.sb_script.specs.Shown.{shown_data}
 
 -- ---- what was done

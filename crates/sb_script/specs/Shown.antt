@@ -9,11 +9,11 @@ use Rattle.sb_model.specs.declared.message.Property.{Property}
 use Rattle.sb_model.specs.declared.message.PropertyValue.{PropertyValue}
 use Rattle.sb_model.specs.declared.message.PropertyValue.TheVariants.{Int, Text, Bool}
 use Rattle.sb_model.specs.declared.message.SystemText.{SystemText}
-use Rattle.sb_model.specs.declared.reply.CopyShown.{CopyShown}
-use Rattle.sb_model.specs.declared.reply.CopyState.{CopyState}
-use Rattle.sb_model.specs.declared.reply.CopyState.TheVariants.{Ready}
-use Rattle.sb_model.specs.declared.reply.Showing.{Showing}
-use Rattle.sb_model.specs.declared.reply.Showing.TheVariants.{Removed, Browsed}
+use Rattle.sb_first_machine.specs.declared.reply.CopyShown.{CopyShown}
+use Rattle.sb_first_machine.specs.declared.reply.CopyState.{CopyState}
+use Rattle.sb_first_machine.specs.declared.reply.CopyState.TheVariants.{Ready}
+use Rattle.sb_first_machine.specs.declared.reply.Showing.{Showing}
+use Rattle.sb_first_machine.specs.declared.reply.Showing.TheVariants.{Removed, Browsed}
 
 -- ---- names and values
 

@@ -1,7 +1,7 @@
 // The act that a line asks for.
 ghost use Rattle.std.specs.Prelude.{◌≡◌, codes, option_and_then};
 ghost use Rattle.serde_json.specs.View.{view};
-ghost use Rattle.sb_model.specs.Namespace as namespace;
+ghost use Rattle.sb_first_machine.specs.Namespace as namespace;
 ghost use Rattle.sb_script.specs.Faults.{Answers};
 ghost use Rattle.sb_script.specs.Fields as fields;
 ghost use Rattle.sb_script.specs.Lines as lines;
@@ -10,7 +10,7 @@ use crate::fault::{LineFault, bad};
 use crate::fields::{name_at, number_at, path_at, ranged_at, text_at};
 use crate::keys::{Kind, Shape, unknown_key};
 use crate::messages::messages_at;
-use sb_model::{Act, Description, Mode};
+use sb_first_machine::{Act, Description, Mode};
 use serde_json::Value;
 use std::alloc::Global;
 

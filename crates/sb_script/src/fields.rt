@@ -5,7 +5,8 @@ ghost use Rattle.sb_script.specs.Faults.{Answers};
 ghost use Rattle.sb_script.specs.Fields as fields;
 
 use crate::fault::{LineFault, bad};
-use sb_model::{Part, Path, Text};
+use sb_first_machine::{Part, Path};
+use sb_model::Text;
 use serde_json::Value;
 use std::alloc::Global;
 

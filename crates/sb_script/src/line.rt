@@ -7,7 +7,7 @@ ghost use Rattle.sb_script.specs.Lines as lines;
 
 use crate::acts::act_of;
 use crate::fault::{LineFault, bad};
-use sb_model::{Call, TimedCall};
+use sb_first_machine::{Call, TimedCall};
 use serde_json::Value;
 use serde_json::error::Category;
 use std::alloc::Global;

@@ -1,7 +1,7 @@
 // From an answer to the line of a reply.
 ghost use Rattle.std.specs.Prelude.{◌≡◌, ◌++◌, ◌∷◌, [], Err, IfOk, false, map, string_bytes};
 ghost use Rattle.serde_json.specs.Data.{array, object};
-ghost use Rattle.sb_model.specs.declared.reply.Refusal.TheVariants.{BadCall, DiskFault, OutOfMemory};
+ghost use Rattle.sb_first_machine.specs.declared.reply.Refusal.TheVariants.{BadCall, DiskFault, OutOfMemory};
 ghost use Rattle.serde_json.specs.View.{view, items_of};
 ghost use Rattle.serde_json.specs.Written.{has_float, compact_text};
 ghost use Rattle.sb_script.specs.Replies as replies;
@@ -9,7 +9,7 @@ ghost use Rattle.sb_script.specs.Shown.{shown_data};
 
 use crate::members::{tagged, tagged_with};
 use crate::shown::shown_value;
-use sb_model::{Answer, CopyShown, Receipt, Refusal, Reply};
+use sb_first_machine::{Answer, CopyShown, Receipt, Refusal, Reply};
 use serde_json::Value;
 use std::alloc::{AllocError, Global};
 

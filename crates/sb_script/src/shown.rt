@@ -6,7 +6,8 @@ ghost use Rattle.serde_json.specs.View.{view, members_view};
 ghost use Rattle.sb_script.specs.Shown as shown;
 
 use crate::members::{Members, put_number, put_text};
-use sb_model::{CopyShown, CopyState, Property, PropertyValue, Showing, SystemText};
+use sb_first_machine::{CopyShown, CopyState, Showing};
+use sb_model::{Property, PropertyValue, SystemText};
 use serde_json::{Map, Value, put};
 use std::alloc::{AllocError, Global};
 

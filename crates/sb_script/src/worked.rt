@@ -1,13 +1,13 @@
 // Rows worked through with the definitions alone.
 ghost use Rattle.std.specs.Prelude.{◌≡◌, ◌∷◌, [], codes, Ok, Err, None};
-ghost use Rattle.sb_model.specs.Namespace.{default_description, entity_path};
-ghost use Rattle.sb_model.specs.Worked.{at, body_only, copy_of, take_from};
-ghost use Rattle.sb_model.specs.declared.call.Act.TheVariants.{CreateQueue, Send, Peek};
-ghost use Rattle.sb_model.specs.declared.reply.CopyState.TheVariants.{Ready};
-ghost use Rattle.sb_model.specs.declared.reply.Showing.TheVariants.{Removed, Browsed};
-ghost use Rattle.sb_model.specs.declared.reply.Receipt.TheVariants.{Number};
-ghost use Rattle.sb_model.specs.declared.reply.Refusal.TheVariants.{BadCall};
-ghost use Rattle.sb_model.specs.declared.reply.Reply.TheVariants.{Sent, Message as Given, Copies};
+ghost use Rattle.sb_first_machine.specs.Namespace.{default_description, entity_path};
+ghost use Rattle.sb_first_machine.specs.Worked.{at, body_only, copy_of, take_from};
+ghost use Rattle.sb_first_machine.specs.declared.call.Act.TheVariants.{CreateQueue, Send, Peek};
+ghost use Rattle.sb_first_machine.specs.declared.reply.CopyState.TheVariants.{Ready};
+ghost use Rattle.sb_first_machine.specs.declared.reply.Showing.TheVariants.{Removed, Browsed};
+ghost use Rattle.sb_first_machine.specs.declared.reply.Receipt.TheVariants.{Number};
+ghost use Rattle.sb_first_machine.specs.declared.reply.Refusal.TheVariants.{BadCall};
+ghost use Rattle.sb_first_machine.specs.declared.reply.Reply.TheVariants.{Sent, Message as Given, Copies};
 ghost use Rattle.sb_script.specs.Lines.{line_of};
 ghost use Rattle.sb_script.specs.Replies.{answer_line};
 

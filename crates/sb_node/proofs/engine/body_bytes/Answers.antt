@@ -1,6 +1,6 @@
 use Rattle.std.proofs.Common.{arith, ◌≡◌, ◌+◌, ◌∙◌, ap, drop, length}
 use Rattle.std.proofs.lemmas.List.Sums.{sum_by-cons}
-use Rattle.sb_model.specs.Answers.{body_bytes}
+use Rattle.sb_first_machine.specs.Answers.{body_bytes}
 use Rattle.sb_model.specs.declared.message.Message.{Message}
 use Rattle.sb_node.proofs.Queues.{next_of}
 use Rattle.sb_node.proofs.Sizes.{small_next}

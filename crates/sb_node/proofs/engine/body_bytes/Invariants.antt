@@ -1,5 +1,5 @@
 use Rattle.std.proofs.Common.{◌≡◌, ◌≤◌, ◌+◌, ◌*◌, drop, None}
-use Rattle.sb_model.specs.Answers.{large_body, body_bytes}
+use Rattle.sb_first_machine.specs.Answers.{large_body, body_bytes}
 use Rattle.sb_node.proofs.engine.body_bytes.Given as goal
 
 -- the sum so far and what is left give the whole, and each body that is left is small

@@ -1,5 +1,5 @@
 use Rattle.std.proofs.Common.{◌≡◌, drop}
-use Rattle.sb_model.specs.Answers.{large_body}
+use Rattle.sb_first_machine.specs.Answers.{large_body}
 use Rattle.sb_node.proofs.engine.large_body.Given as goal
 
 abbrev pub invariant-loop-m : goal.invariant-loop-m

@@ -1,5 +1,5 @@
 use Rattle.std.proofs.Common.{◌≡◌, drop}
-use Rattle.sb_model.specs.Fields.{bad_in_messages}
+use Rattle.sb_first_machine.specs.Fields.{bad_in_messages}
 use Rattle.sb_node.proofs.fields.bad_in_messages.Given as goal
 
 -- no message so far has a bad field

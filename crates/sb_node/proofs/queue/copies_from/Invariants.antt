@@ -1,5 +1,5 @@
 use Rattle.std.proofs.Common.{◌≡◌, ◌+◌, ◌++◌, drop}
-use Rattle.sb_model.specs.Answers.{copies_of, receipts_of}
+use Rattle.sb_first_machine.specs.Answers.{copies_of, receipts_of}
 use Rattle.sb_node.proofs.queue.copies_from.Given as goal
 
 -- those so far and those of the messages that are left are all

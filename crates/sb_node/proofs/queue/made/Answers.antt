@@ -1,5 +1,5 @@
 use Rattle.std.proofs.Common.{◌∙◌, ap, min, ◌-◌, ◌^◌, sym}
-use Rattle.sb_model.specs.Namespace.{made_in}
+use Rattle.sb_first_machine.specs.Namespace.{made_in}
 use Rattle.sb_node.specs.Queue.{entity_of}
 use Rattle.sb_node.proofs.Queues.{summed, sum_by-map}
 use Rattle.sb_node.proofs.queue.made.Goals as goal

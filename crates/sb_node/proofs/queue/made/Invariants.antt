@@ -1,6 +1,6 @@
 use Rattle.std.proofs.Common.{◌≡◌, ◌≤◌, ◌+◌, ◌-◌, ◌^◌, min, drop}
 use Rattle.std.specs.Prelude.{sum_by}
-use Rattle.sb_model.specs.Namespace.{made_in}
+use Rattle.sb_first_machine.specs.Namespace.{made_in}
 use Rattle.sb_node.specs.Queue.{entity_of}
 use Rattle.sb_node.proofs.queue.made.Given as goal
 

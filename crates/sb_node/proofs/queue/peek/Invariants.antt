@@ -1,5 +1,5 @@
 use Rattle.std.proofs.Common.{◌≡◌, ◌++◌, drop}
-use Rattle.sb_model.specs.Answers.{peeked}
+use Rattle.sb_first_machine.specs.Answers.{peeked}
 use Rattle.sb_node.proofs.queue.peek.Given as goal
 
 -- those seen and those that are still to be seen are all

@@ -1,8 +1,8 @@
 use Rattle.std.proofs.Common.{◌≡◌, ℕ, ◌∙◌, sym, List, bytes_eq, position, Option, Some, None}
 use Rattle.std.specs.Option.{IfSome, IfNone}
 use Rattle.std.specs.List.{slice_get}
-use Rattle.sb_model.specs.Namespace.{entity_named}
-use Rattle.sb_model.specs.declared.state.Entity.{Entity}
+use Rattle.sb_first_machine.specs.Namespace.{entity_named}
+use Rattle.sb_first_machine.specs.declared.state.Entity.{Entity}
 use Rattle.sb_node.specs.Queue.{entity_of, entities_of}
 use Rattle.sb_node.proofs.Places.{position-map, position_there, position_nowhere}
 use Rattle.sb_node.proofs.queue.place_of.Goals as goal

@@ -1,6 +1,6 @@
 use Rattle.std.proofs.Common.{◌≡◌, ◌≤◌, sym, ◌∙◌, ap, Some, true, arith}
-use Rattle.sb_model.specs.Answers.{state_in, row_of}
-use Rattle.sb_model.specs.declared.state.State.{State}
+use Rattle.sb_first_machine.specs.Answers.{state_in, row_of}
+use Rattle.sb_first_machine.specs.declared.state.State.{State}
 use Rattle.sb_node.specs.Engine.{engine_state, is_change, planned}
 use Rattle.sb_node.specs.Recovery.{moved}
 use Rattle.sb_node.proofs.Plans.{planned_moves, in_time}

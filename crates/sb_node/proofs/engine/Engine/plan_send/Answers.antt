@@ -3,11 +3,11 @@ use Rattle.std.specs.Prelude.{sum_by}
 use Rattle.std.specs.Option.{IfSome}
 use Rattle.std.specs.List.{slice_get}
 use Rattle.std.proofs.lemmas.List.{length-map}
-use Rattle.sb_model.specs.Names.{is_entity_path}
-use Rattle.sb_model.specs.Namespace.{made_in, entity_named}
-use Rattle.sb_model.specs.declared.state.Entity.{Entity}
-use Rattle.sb_model.specs.declared.reply.Reply.TheVariants.{Sent, Empty}
-use Rattle.sb_model.specs.Answers.{Row, moves, stays, large_size}
+use Rattle.sb_first_machine.specs.Names.{is_entity_path}
+use Rattle.sb_first_machine.specs.Namespace.{made_in, entity_named}
+use Rattle.sb_first_machine.specs.declared.state.Entity.{Entity}
+use Rattle.sb_first_machine.specs.declared.reply.Reply.TheVariants.{Sent, Empty}
+use Rattle.sb_first_machine.specs.Answers.{Row, moves, stays, large_size}
 use Rattle.sb_node.specs.declared.queue.Queue.{Queue}
 use Rattle.sb_node.specs.Queue.{entity_of, entities_of}
 use Rattle.sb_node.specs.Engine.{engine_state, with_more}

@@ -5,8 +5,8 @@ use Rattle.sb_journal.specs.Text.{first_gate}
 use Rattle.sb_journal.specs.Unopened.{unopened_disks}
 use Rattle.sb_journal.specs.Journals.{journal_disks, fault_disks}
 use Rattle.sb_journal.proofs.Pairs.{still_honest, fault_on, opening_stays_pair, opening_finishes_pair}
-use Rattle.sb_model.specs.Namespace.{empty_state}
-use Rattle.sb_model.specs.declared.state.State.{State}
+use Rattle.sb_first_machine.specs.Namespace.{empty_state}
+use Rattle.sb_first_machine.specs.declared.state.State.{State}
 use Rattle.sb_node.specs.Engine.{engine_state}
 use Rattle.sb_node.specs.Recovery.{recovered_from, reached, replay, reaches}
 use Rattle.sb_node.proofs.Crashes.{kept_leads}

@@ -1,5 +1,5 @@
 use Rattle.std.proofs.Common.{refl}
-use Rattle.sb_model.proofs.worked.worked_rows.Goals as goal
+use Rattle.sb_first_machine.proofs.worked.worked_rows.Goals as goal
 
 pub returns-clause-first : goal.returns-clause-first
 returns-clause-first c = refl

@@ -1,4 +1,5 @@
-use crate::{Description, Message, Path, Rows};
+use crate::{Description, Path};
+use sb_model::{Message, Rows};
 
 /// A copy that an entity holds.
 #[derive(Debug, Drop)]

@@ -1,14 +1,14 @@
 -- Histories: the entries of a namespace, which of them are legal, and the state that they lead to.
 use Rattle.std.specs.Prelude.{◌≡◌, ℕ, List, [], ◌∷◌, ◌++◌, Bool, true, false, ◌&&◌, not, if◌then◌else◌, Result, Err}
-use Rattle.sb_model.specs.Answers.{moment_of, answer_of, state_of, row_of, is_move}
-use Rattle.sb_model.specs.declared.call.Call.{Call}
-use Rattle.sb_model.specs.declared.call.TimedCall.{TimedCall}
-use Rattle.sb_model.specs.declared.call.Event.{Event}
-use Rattle.sb_model.specs.declared.call.Event.TheVariants.{Called}
-use Rattle.sb_model.specs.declared.reply.Reply.{Reply}
-use Rattle.sb_model.specs.declared.reply.Refusal.{Refusal}
-use Rattle.sb_model.specs.declared.reply.Refusal.TheVariants.{DiskFault, Stopped, OutOfMemory}
-use Rattle.sb_model.specs.declared.state.State.{State}
+use Rattle.sb_first_machine.specs.Answers.{moment_of, answer_of, state_of, row_of, is_move}
+use Rattle.sb_first_machine.specs.declared.call.Call.{Call}
+use Rattle.sb_first_machine.specs.declared.call.TimedCall.{TimedCall}
+use Rattle.sb_first_machine.specs.declared.call.Event.{Event}
+use Rattle.sb_first_machine.specs.declared.call.Event.TheVariants.{Called}
+use Rattle.sb_first_machine.specs.declared.reply.Reply.{Reply}
+use Rattle.sb_first_machine.specs.declared.reply.Refusal.{Refusal}
+use Rattle.sb_first_machine.specs.declared.reply.Refusal.TheVariants.{DiskFault, Stopped, OutOfMemory}
+use Rattle.sb_first_machine.specs.declared.state.State.{State}
 
 -- One entry: at this seat time went on to a moment, or a call was made at this reading of the clock and answered.
 pub data Entry : Type 0 where

@@ -1,9 +1,9 @@
 -- What a name is, and which addresses name an entity.
 use Rattle.std.specs.Prelude.{ℕ, List, length, Bool, false, true, nat_le, ◌&&◌, ◌||◌, ◌==◌, is_none}
 use Rattle.std.specs.List.{list_all}
-use Rattle.sb_model.specs.declared.call.Path.{Path}
-use Rattle.sb_model.specs.declared.call.Part.{Part}
-use Rattle.sb_model.specs.declared.call.Part.TheVariants.{Main, Dead, Transfer}
+use Rattle.sb_first_machine.specs.declared.call.Path.{Path}
+use Rattle.sb_first_machine.specs.declared.call.Part.{Part}
+use Rattle.sb_first_machine.specs.declared.call.Part.TheVariants.{Main, Dead, Transfer}
 
 -- a small letter, a digit, `.`, `-` or `_`
 abbrev pub is_name_byte : ℕ → Bool

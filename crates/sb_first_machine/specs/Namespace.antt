@@ -1,11 +1,11 @@
 -- The state: finding an entity, changing one, and the numbers given.
 use Rattle.std.specs.Prelude.{ℕ, ◌+◌, List, [], length, bytes_eq, find, position, slice_set, sum_by, Option, Some, None, true, false}
-use Rattle.sb_model.specs.declared.call.Description.{Description}
-use Rattle.sb_model.specs.declared.call.Path.{Path}
-use Rattle.sb_model.specs.declared.call.Part.TheVariants.{Main}
-use Rattle.sb_model.specs.declared.state.State.{State}
-use Rattle.sb_model.specs.declared.state.Entity.{Entity}
-use Rattle.sb_model.specs.declared.state.Leaf.{Leaf}
+use Rattle.sb_first_machine.specs.declared.call.Description.{Description}
+use Rattle.sb_first_machine.specs.declared.call.Path.{Path}
+use Rattle.sb_first_machine.specs.declared.call.Part.TheVariants.{Main}
+use Rattle.sb_first_machine.specs.declared.state.State.{State}
+use Rattle.sb_first_machine.specs.declared.state.Entity.{Entity}
+use Rattle.sb_first_machine.specs.declared.state.Leaf.{Leaf}
 
 abbrev pub empty_leaf : Leaf
 empty_leaf = record { last = 0; copies = [] }

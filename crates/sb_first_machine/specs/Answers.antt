@@ -1,27 +1,27 @@
 -- The machine: what each call is answered, and what it leaves.
 use Rattle.std.specs.Prelude.{ℕ, ◌+◌, List, [], ◌∷◌, ◌++◌, length, Bool, true, false, nat_le, if◌then◌else◌, map, filter, take, sum_by, min, max, Option, Some, None, Result, Ok, Err}
-use Rattle.sb_model.specs.Names.{is_name, is_entity_path}
-use Rattle.sb_model.specs.Fields.{bad_field, max_number}
-use Rattle.sb_model.specs.Namespace.{entity_named, with_entity, new_entity, numbers_made}
-use Rattle.sb_model.specs.declared.call.Act.{Act}
-use Rattle.sb_model.specs.declared.call.Act.TheVariants.{CreateQueue, Send, Receive, Peek}
-use Rattle.sb_model.specs.declared.call.Call.{Call}
-use Rattle.sb_model.specs.declared.call.Path.{Path}
-use Rattle.sb_model.specs.declared.call.Description.{Description}
+use Rattle.sb_first_machine.specs.Names.{is_name, is_entity_path}
+use Rattle.sb_first_machine.specs.Fields.{bad_field, max_number}
+use Rattle.sb_first_machine.specs.Namespace.{entity_named, with_entity, new_entity, numbers_made}
+use Rattle.sb_first_machine.specs.declared.call.Act.{Act}
+use Rattle.sb_first_machine.specs.declared.call.Act.TheVariants.{CreateQueue, Send, Receive, Peek}
+use Rattle.sb_first_machine.specs.declared.call.Call.{Call}
+use Rattle.sb_first_machine.specs.declared.call.Path.{Path}
+use Rattle.sb_first_machine.specs.declared.call.Description.{Description}
 use Rattle.sb_model.specs.declared.message.Message.{Message}
-use Rattle.sb_model.specs.declared.reply.CopyShown.{CopyShown}
-use Rattle.sb_model.specs.declared.reply.CopyState.TheVariants.{Ready}
-use Rattle.sb_model.specs.declared.reply.Showing.{Showing}
-use Rattle.sb_model.specs.declared.reply.Showing.TheVariants.{Removed, Browsed}
-use Rattle.sb_model.specs.declared.reply.Receipt.{Receipt}
-use Rattle.sb_model.specs.declared.reply.Receipt.TheVariants.{Number}
-use Rattle.sb_model.specs.declared.reply.Reply.{Reply}
-use Rattle.sb_model.specs.declared.reply.Reply.TheVariants.{Done, Sent, Message as Given, Empty, Copies}
-use Rattle.sb_model.specs.declared.reply.Refusal.{Refusal}
-use Rattle.sb_model.specs.declared.reply.Refusal.TheVariants.{BadCall, EntityNotFound, EntityExists, BadName, TooLarge, Exhausted}
-use Rattle.sb_model.specs.declared.state.State.{State}
-use Rattle.sb_model.specs.declared.state.Entity.{Entity}
-use Rattle.sb_model.specs.declared.state.StoredCopy.{StoredCopy}
+use Rattle.sb_first_machine.specs.declared.reply.CopyShown.{CopyShown}
+use Rattle.sb_first_machine.specs.declared.reply.CopyState.TheVariants.{Ready}
+use Rattle.sb_first_machine.specs.declared.reply.Showing.{Showing}
+use Rattle.sb_first_machine.specs.declared.reply.Showing.TheVariants.{Removed, Browsed}
+use Rattle.sb_first_machine.specs.declared.reply.Receipt.{Receipt}
+use Rattle.sb_first_machine.specs.declared.reply.Receipt.TheVariants.{Number}
+use Rattle.sb_first_machine.specs.declared.reply.Reply.{Reply}
+use Rattle.sb_first_machine.specs.declared.reply.Reply.TheVariants.{Done, Sent, Message as Given, Empty, Copies}
+use Rattle.sb_first_machine.specs.declared.reply.Refusal.{Refusal}
+use Rattle.sb_first_machine.specs.declared.reply.Refusal.TheVariants.{BadCall, EntityNotFound, EntityExists, BadName, TooLarge, Exhausted}
+use Rattle.sb_first_machine.specs.declared.state.State.{State}
+use Rattle.sb_first_machine.specs.declared.state.Entity.{Entity}
+use Rattle.sb_first_machine.specs.declared.state.StoredCopy.{StoredCopy}
 
 -- the last moment that counts, in ms since 1970: the begin of the last day of the year 9999
 abbrev pub max_moment : ℕ

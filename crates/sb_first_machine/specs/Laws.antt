@@ -1,12 +1,12 @@
 -- Laws of the machine, over all states and histories.
 use Rattle.std.specs.Prelude.{◌≡◌, ◌≤◌, ℕ, List, [], ◌∷◌, ◌++◌, false}
-use Rattle.sb_model.specs.Namespace.{empty_state}
-use Rattle.sb_model.specs.Answers.{answer_of, state_of, moment_of, max_moment}
-use Rattle.sb_model.specs.History.{Entry, IsAllowed, IsLegal, IsFaultless, entries_of, is_fault, state_after, stopped_after}
-use Rattle.sb_model.specs.Consistent.{IsConsistent}
-use Rattle.sb_model.specs.declared.call.Call.{Call}
-use Rattle.sb_model.specs.declared.call.TimedCall.{TimedCall}
-use Rattle.sb_model.specs.declared.state.State.{State}
+use Rattle.sb_first_machine.specs.Namespace.{empty_state}
+use Rattle.sb_first_machine.specs.Answers.{answer_of, state_of, moment_of, max_moment}
+use Rattle.sb_first_machine.specs.History.{Entry, IsAllowed, IsLegal, IsFaultless, entries_of, is_fault, state_after, stopped_after}
+use Rattle.sb_first_machine.specs.Consistent.{IsConsistent}
+use Rattle.sb_first_machine.specs.declared.call.Call.{Call}
+use Rattle.sb_first_machine.specs.declared.call.TimedCall.{TimedCall}
+use Rattle.sb_first_machine.specs.declared.state.State.{State}
 
 -- one more entry behind a legal history is legal where it may stand there
 abbrev pub GoesOn : Type 0

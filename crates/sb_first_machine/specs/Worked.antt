@@ -1,20 +1,20 @@
 -- Two scripts worked through: their calls, and what they must be answered.
 use Rattle.std.specs.Prelude.{ℕ, List, [], ◌∷◌, codes, Result, Ok, None}
-use Rattle.sb_model.specs.Namespace.{default_description, entity_path, empty_state}
-use Rattle.sb_model.specs.History.{Entry, ticked, answered, entries_of, state_after}
-use Rattle.sb_model.specs.declared.call.Act.TheVariants.{CreateQueue, Send, Receive, Peek}
-use Rattle.sb_model.specs.declared.call.Act.{Act}
-use Rattle.sb_model.specs.declared.call.Mode.TheVariants.{Delete}
-use Rattle.sb_model.specs.declared.call.TimedCall.{TimedCall}
+use Rattle.sb_first_machine.specs.Namespace.{default_description, entity_path, empty_state}
+use Rattle.sb_first_machine.specs.History.{Entry, ticked, answered, entries_of, state_after}
+use Rattle.sb_first_machine.specs.declared.call.Act.TheVariants.{CreateQueue, Send, Receive, Peek}
+use Rattle.sb_first_machine.specs.declared.call.Act.{Act}
+use Rattle.sb_first_machine.specs.declared.call.Mode.TheVariants.{Delete}
+use Rattle.sb_first_machine.specs.declared.call.TimedCall.{TimedCall}
 use Rattle.sb_model.specs.declared.message.Message.{Message}
-use Rattle.sb_model.specs.declared.reply.CopyShown.{CopyShown}
-use Rattle.sb_model.specs.declared.reply.CopyState.TheVariants.{Ready}
-use Rattle.sb_model.specs.declared.reply.Showing.TheVariants.{Removed, Browsed}
-use Rattle.sb_model.specs.declared.reply.Receipt.TheVariants.{Number}
-use Rattle.sb_model.specs.declared.reply.Reply.{Reply}
-use Rattle.sb_model.specs.declared.reply.Reply.TheVariants.{Done, Sent, Message as Given, Empty, Copies}
-use Rattle.sb_model.specs.declared.reply.Refusal.{Refusal}
-use Rattle.sb_model.specs.declared.state.State.{State}
+use Rattle.sb_first_machine.specs.declared.reply.CopyShown.{CopyShown}
+use Rattle.sb_first_machine.specs.declared.reply.CopyState.TheVariants.{Ready}
+use Rattle.sb_first_machine.specs.declared.reply.Showing.TheVariants.{Removed, Browsed}
+use Rattle.sb_first_machine.specs.declared.reply.Receipt.TheVariants.{Number}
+use Rattle.sb_first_machine.specs.declared.reply.Reply.{Reply}
+use Rattle.sb_first_machine.specs.declared.reply.Reply.TheVariants.{Done, Sent, Message as Given, Empty, Copies}
+use Rattle.sb_first_machine.specs.declared.reply.Refusal.{Refusal}
+use Rattle.sb_first_machine.specs.declared.state.State.{State}
 
 abbrev pub at : ℕ → Act → TimedCall
 at reading act = record { reading = reading; call = record { by = None; act = act } }
@@ -37,7 +37,7 @@ first_script =
 abbrev pub second_script : List TimedCall
 second_script = at 9 (take_from (codes "q")) ∷ at 9 (take_from (codes "q")) ∷ []
 
-abbrev pub copy_of : ℕ → ℕ → List ℕ → Rattle.sb_model.specs.declared.reply.Showing.Showing → CopyShown
+abbrev pub copy_of : ℕ → ℕ → List ℕ → Rattle.sb_first_machine.specs.declared.reply.Showing.Showing → CopyShown
 copy_of number delivery body showing = record { number = number; enqueued_seq = number; enqueued = 5; delivery = delivery; message = body_only body; showing = showing }
 
 abbrev pub answers_in : List Entry → List (Result Reply Refusal)

@@ -1,11 +1,11 @@
 -- The first field of a call that is outside its range, or that no call may set yet.
 use Rattle.std.specs.Prelude.{ℕ, List, [], ◌∷◌, length, Bool, true, false, nat_le, ◌==◌, ◌&&◌, not, if◌then◌else◌, codes, Option, Some, None, is_none, is_some}
-use Rattle.sb_model.specs.declared.call.Description.{Description}
-use Rattle.sb_model.specs.declared.call.Mode.{Mode}
-use Rattle.sb_model.specs.declared.call.Mode.TheVariants.{Lock, Delete}
-use Rattle.sb_model.specs.declared.call.Act.{Act}
-use Rattle.sb_model.specs.declared.call.Act.TheVariants.{CreateQueue, Send, Receive, Peek}
-use Rattle.sb_model.specs.declared.call.Call.{Call}
+use Rattle.sb_first_machine.specs.declared.call.Description.{Description}
+use Rattle.sb_first_machine.specs.declared.call.Mode.{Mode}
+use Rattle.sb_first_machine.specs.declared.call.Mode.TheVariants.{Lock, Delete}
+use Rattle.sb_first_machine.specs.declared.call.Act.{Act}
+use Rattle.sb_first_machine.specs.declared.call.Act.TheVariants.{CreateQueue, Send, Receive, Peek}
+use Rattle.sb_first_machine.specs.declared.call.Call.{Call}
 use Rattle.sb_model.specs.declared.message.Message.{Message}
 
 -- the greatest number that the namespace gives

@@ -1,13 +1,13 @@
 -- What holds of a state between entries.
 use Rattle.std.specs.Prelude.{◌≡◌, ℕ, ◌≤◌, ◌<◌, List, [], ◌∷◌, true, false, bytes_eq}
-use Rattle.sb_model.specs.Names.{is_entity_path}
-use Rattle.sb_model.specs.Fields.{max_number}
-use Rattle.sb_model.specs.Namespace.{numbers_made, default_description, empty_leaf}
-use Rattle.sb_model.specs.Answers.{max_moment}
-use Rattle.sb_model.specs.declared.state.State.{State}
-use Rattle.sb_model.specs.declared.state.Entity.{Entity}
-use Rattle.sb_model.specs.declared.state.Leaf.{Leaf}
-use Rattle.sb_model.specs.declared.state.StoredCopy.{StoredCopy}
+use Rattle.sb_first_machine.specs.Names.{is_entity_path}
+use Rattle.sb_first_machine.specs.Fields.{max_number}
+use Rattle.sb_first_machine.specs.Namespace.{numbers_made, default_description, empty_leaf}
+use Rattle.sb_first_machine.specs.Answers.{max_moment}
+use Rattle.sb_first_machine.specs.declared.state.State.{State}
+use Rattle.sb_first_machine.specs.declared.state.Entity.{Entity}
+use Rattle.sb_first_machine.specs.declared.state.Leaf.{Leaf}
+use Rattle.sb_first_machine.specs.declared.state.StoredCopy.{StoredCopy}
 
 -- copies in rising number, above the one and up to the other, enqueued no later than now
 abbrev pub AreCopies : ℕ → ℕ → ℕ → List StoredCopy → Type 0

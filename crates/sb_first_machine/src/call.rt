@@ -1,4 +1,4 @@
-use crate::{Message, Name, Rows, Text};
+use sb_model::{Message, Name, Rows, Text};
 
 /// Which of an entity's three queues is meant.
 #[derive(Clone, Copy, Debug, PartialEq, Eq)]

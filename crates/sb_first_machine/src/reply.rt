@@ -1,4 +1,4 @@
-use crate::{Message, Rows, Text};
+use sb_model::{Message, Rows, Text};
 
 /// The state in which a copy is seen when it is looked at.
 #[derive(Clone, Copy, Debug, PartialEq, Eq)]

@@ -1,14 +1,14 @@
 -- Histories that go on.
 use Rattle.std.proofs.Common.{◌≡◌, refl, subst, rules, List, [], ◌∷◌, ◌++◌, ℕ, Bool, true, false, Result, Ok, Err, sym}
 use Rattle.std.specs.Prelude.{if◌then◌else◌}
-use Rattle.sb_model.specs.declared.call.Call.{Call}
-use Rattle.sb_model.specs.declared.call.TimedCall.{TimedCall}
-use Rattle.sb_model.specs.declared.state.State.{State}
-use Rattle.sb_model.specs.declared.reply.Reply.{Reply}
-use Rattle.sb_model.specs.declared.reply.Refusal.{Refusal}
-use Rattle.sb_model.specs.declared.reply.Refusal.TheVariants.{DiskFault, Stopped}
-use Rattle.sb_model.specs.Answers.{answer_of, moment_of, state_of}
-use Rattle.sb_model.specs.History.{Entry, IsAllowed, IsLegalFrom, IsFaultless, after_entry, state_after, stopped_after, entry_stops, is_fault, stops, entries_of}
+use Rattle.sb_first_machine.specs.declared.call.Call.{Call}
+use Rattle.sb_first_machine.specs.declared.call.TimedCall.{TimedCall}
+use Rattle.sb_first_machine.specs.declared.state.State.{State}
+use Rattle.sb_first_machine.specs.declared.reply.Reply.{Reply}
+use Rattle.sb_first_machine.specs.declared.reply.Refusal.{Refusal}
+use Rattle.sb_first_machine.specs.declared.reply.Refusal.TheVariants.{DiskFault, Stopped}
+use Rattle.sb_first_machine.specs.Answers.{answer_of, moment_of, state_of}
+use Rattle.sb_first_machine.specs.History.{Entry, IsAllowed, IsLegalFrom, IsFaultless, after_entry, state_after, stopped_after, entry_stops, is_fault, stops, entries_of}
 
 pub goes_on_from : (stopped : Bool) (s : State) (h : List Entry) (e : Entry) → IsLegalFrom stopped s h → IsAllowed (stopped_after stopped h) (state_after s h) e → IsLegalFrom stopped s (h ++ e ∷ [])
 goes_on_from stopped s [] e legal here = (here, tt)

@@ -3,23 +3,23 @@ use Rattle.std.proofs.Common.{◌≡◌, ◌≤◌, ◌<◌, ◌+◌, ◌++◌, 
 use Rattle.std.specs.Prelude.{find, sum_by, bytes_eq, is_none, nat_le, ◌==◌}
 use Rattle.std.proofs.lemmas.Bool.Decides.{nat_tests}
 use Rattle.std.proofs.lemmas.Grind.{common_steps}
-use Rattle.sb_model.specs.Names.{is_name}
-use Rattle.sb_model.specs.Fields.{max_number, first_some, unless, bad_in_description, bad_in_act, bad_field}
-use Rattle.sb_model.specs.Namespace.{entity_named, with_entity, new_entity, numbers_made, default_description, made_in}
-use Rattle.sb_model.specs.Answers.{Row, refuses, stays, moves, refused_by, asks, on_entity, max_moment, moment_of, copies_of, created, sent, received, act_row, bad_call, row_of, state_in, state_of, too_large}
-use Rattle.sb_model.specs.Consistent.{AreCopies, IsLeaf, IsEntity, AreEntities, NoneNamed, NamesDiffer, IsConsistent}
-use Rattle.sb_model.specs.declared.call.Act.{Act}
-use Rattle.sb_model.specs.declared.call.Act.TheVariants.{CreateQueue, Send, Receive, Peek}
-use Rattle.sb_model.specs.declared.call.Call.{Call}
-use Rattle.sb_model.specs.declared.call.Path.{Path}
-use Rattle.sb_model.specs.declared.call.Description.{Description}
+use Rattle.sb_first_machine.specs.Names.{is_name}
+use Rattle.sb_first_machine.specs.Fields.{max_number, first_some, unless, bad_in_description, bad_in_act, bad_field}
+use Rattle.sb_first_machine.specs.Namespace.{entity_named, with_entity, new_entity, numbers_made, default_description, made_in}
+use Rattle.sb_first_machine.specs.Answers.{Row, refuses, stays, moves, refused_by, asks, on_entity, max_moment, moment_of, copies_of, created, sent, received, act_row, bad_call, row_of, state_in, state_of, too_large}
+use Rattle.sb_first_machine.specs.Consistent.{AreCopies, IsLeaf, IsEntity, AreEntities, NoneNamed, NamesDiffer, IsConsistent}
+use Rattle.sb_first_machine.specs.declared.call.Act.{Act}
+use Rattle.sb_first_machine.specs.declared.call.Act.TheVariants.{CreateQueue, Send, Receive, Peek}
+use Rattle.sb_first_machine.specs.declared.call.Call.{Call}
+use Rattle.sb_first_machine.specs.declared.call.Path.{Path}
+use Rattle.sb_first_machine.specs.declared.call.Description.{Description}
 use Rattle.sb_model.specs.declared.message.Message.{Message}
-use Rattle.sb_model.specs.declared.reply.Refusal.{Refusal}
-use Rattle.sb_model.specs.declared.state.State.{State}
-use Rattle.sb_model.specs.declared.state.Entity.{Entity}
-use Rattle.sb_model.specs.declared.state.Leaf.{Leaf}
-use Rattle.sb_model.specs.declared.state.StoredCopy.{StoredCopy}
-use Rattle.sb_model.proofs.Replaced.{replaced, put-replaced, found_here, found_behind, none_found, differs_too, sum_by-head}
+use Rattle.sb_first_machine.specs.declared.reply.Refusal.{Refusal}
+use Rattle.sb_first_machine.specs.declared.state.State.{State}
+use Rattle.sb_first_machine.specs.declared.state.Entity.{Entity}
+use Rattle.sb_first_machine.specs.declared.state.Leaf.{Leaf}
+use Rattle.sb_first_machine.specs.declared.state.StoredCopy.{StoredCopy}
+use Rattle.sb_first_machine.proofs.Replaced.{replaced, put-replaced, found_here, found_behind, none_found, differs_too, sum_by-head}
 
 -- Copies
 

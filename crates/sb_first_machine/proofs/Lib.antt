@@ -1,0 +1,3 @@
+pub mod Consistency
+pub mod Histories
+pub mod Replaced

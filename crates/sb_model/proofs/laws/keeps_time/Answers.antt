@@ -1,5 +1,0 @@
-use Rattle.sb_model.proofs.Consistency.{keeps_time}
-use Rattle.sb_model.proofs.laws.keeps_time.Goals as goal
-
-pub returns : goal.returns
-returns c s reading call early = keeps_time s reading call early
