@@ -2,7 +2,7 @@
 use Rattle.std.proofs.Common.{ℕ, ◌∙◌, inl, inr, subst}
 use Rattle.sb_outside.specs.Causes.{RoseByOne}
 use Rattle.sb_journal.specs.Disks.{Disks, AreQuiet, HaveFailed, SameHonesty}
-use Rattle.sb_node.specs.Nodes.{IsEither, StayEither}
+use Rattle.sb_first_node.specs.Nodes.{IsEither, StayEither}
 use Rattle.sb_first_machine.specs.declared.state.State.{State}
 
 pub quiet_on : (was mid now : Disks) → AreQuiet was mid → AreQuiet mid now → AreQuiet was now

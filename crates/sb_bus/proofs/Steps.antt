@@ -10,7 +10,7 @@ use Rattle.sb_first_machine.specs.declared.reply.Reply.{Reply}
 use Rattle.sb_first_machine.specs.declared.reply.Refusal.{Refusal}
 use Rattle.sb_first_machine.specs.declared.reply.Refusal.TheVariants.{DiskFault, Stopped, OutOfMemory}
 use Rattle.sb_first_machine.specs.declared.state.State.{State}
-use Rattle.sb_node.specs.Nodes.{IsStep}
+use Rattle.sb_first_node.specs.Nodes.{IsStep}
 use Rattle.sb_bus.specs.Outside.{Output}
 use Rattle.sb_script.specs.Replies.{answer_line}
 use Rattle.sb_bus.specs.declared.script_line.ScriptLine.TheVariants.{Request}

@@ -2,8 +2,8 @@
 use Rattle.sb_outside.specs.declared.disk.Disk.{Ghosts as Disk}
 use Rattle.sb_outside.specs.declared.streams.Source.{Ghosts as Source}
 use Rattle.sb_outside.specs.declared.streams.Sink.{Ghosts as Sink}
-use Rattle.sb_node.specs.declared.node.Node.{Node}
-use Rattle.sb_node.specs.Nodes.{node_state, node_journal, node_disks, IsKept}
+use Rattle.sb_first_node.specs.declared.node.Node.{Node}
+use Rattle.sb_first_node.specs.Nodes.{node_state, node_journal, node_disks, IsKept}
 use Rattle.sb_bus.specs.Outside.{Outside, input_of, output_of}
 
 abbrev pub outside_with : {D S K : Type 0} {disk : Disk D} → Source S → Sink K → Node D disk → S → K → Outside

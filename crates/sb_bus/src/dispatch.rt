@@ -3,7 +3,7 @@ ghost use Rattle.std.specs.Prelude.{◌≡◌, ◌≢◌, None, Ok, Err, OnOk, I
 ghost use Rattle.sb_outside.specs.Streams.{Gains};
 ghost use Rattle.sb_script.specs.Replies.{answer_line};
 ghost use Rattle.sb_journal.specs.Disks.{HaveFailed, AreQuiet, SameHonesty};
-ghost use Rattle.sb_node.specs.Nodes.{node_state, node_stopped, node_journal, node_disk_b, IsKept, IsEither, StayEither, node_disks};
+ghost use Rattle.sb_first_node.specs.Nodes.{node_state, node_stopped, node_journal, node_disk_b, IsKept, IsEither, StayEither, node_disks};
 ghost use Rattle.sb_bus.specs.Outside.{output_of};
 ghost use Rattle.sb_bus.specs.Nodes.{IsSafe};
 ghost use Rattle.sb_bus.specs.Runs.{kind_of, state_by, IsAnswered};
@@ -15,8 +15,8 @@ use crate::ending::RunEnd;
 use crate::final_line::write_final_line;
 use crate::script_line::ScriptLine;
 use sb_first_machine::{Answer, Refusal, TimedCall};
+use sb_first_node::Node;
 use sb_model::Text;
-use sb_node::Node;
 use sb_outside::{Disk, Sink, write_all};
 use sb_script::{disk_fault_line, out_of_memory_line, write_reply};
 use std::alloc::Global;

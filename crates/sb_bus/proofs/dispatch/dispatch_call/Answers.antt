@@ -1,5 +1,5 @@
 use Rattle.std.proofs.Common.{sym}
-use Rattle.sb_node.specs.Nodes.{node_state, node_stopped, node_disks}
+use Rattle.sb_first_node.specs.Nodes.{node_state, node_stopped, node_disks}
 use Rattle.sb_bus.specs.Outside.{output_of}
 use Rattle.sb_bus.specs.declared.script_line.ScriptLine.TheVariants.{Request}
 use Rattle.sb_bus.proofs.Steps.{accepted_answer, refused_answer, stepped, answered_call, still_runs_wanting}

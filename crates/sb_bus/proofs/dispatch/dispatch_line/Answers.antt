@@ -1,7 +1,7 @@
 use Rattle.std.proofs.Common.{sym, subst}
-use Rattle.sb_node.specs.Nodes.{node_state, IsEither, StayEither, node_disks}
+use Rattle.sb_first_node.specs.Nodes.{node_state, IsEither, StayEither, node_disks}
 use Rattle.sb_bus.specs.Outside.{output_of}
-use Rattle.sb_node.proofs.Crashes.{untouched_moments}
+use Rattle.sb_first_node.proofs.Crashes.{untouched_moments}
 use Rattle.sb_bus.specs.declared.script_line.ScriptLine.{ScriptLine}
 use Rattle.sb_bus.specs.Runs.{state_by}
 use Rattle.sb_bus.proofs.Cuts.{malformed_cut}

@@ -1,6 +1,6 @@
 use Rattle.std.proofs.Common.{◌≡◌, ◌≢◌, Option, Err, refl, arith, sym, ◌∙◌, ap, subst}
 use Rattle.sb_journal.specs.Disks.{AreQuiet, HaveFailed}
-use Rattle.sb_node.specs.Nodes.{node_state, node_disks}
+use Rattle.sb_first_node.specs.Nodes.{node_state, node_disks}
 use Rattle.sb_bus.specs.Outside.{output_of}
 use Rattle.sb_bus.specs.Nodes.{outside_with, IsSafe}
 use Rattle.sb_bus.specs.declared.partial_line.PartialLine.{PartialLine}
