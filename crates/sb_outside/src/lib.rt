@@ -7,12 +7,14 @@
 mod adapters;
 mod bytes;
 mod clock;
+mod conn;
 mod disk;
 mod door;
 mod faults;
 mod images;
 mod link;
 mod memory;
+mod memory_conn;
 mod memory_streams;
 mod step_clock;
 mod streams;
@@ -20,15 +22,18 @@ mod streams;
 mod tests;
 
 pub use adapters::{
-    FileDisk, HeldStreams, Reading, SystemClock, Writing, hold_streams, open_disk, sync_folder,
+    Connected, FileDisk, HeldStreams, Reading, SystemClock, Writing, hold_streams, open_disk,
+    sync_folder,
 };
 pub use bytes::Bytes;
 pub use clock::Clock;
+pub use conn::{Conn, NoConn};
 pub use disk::{Disk, DiskFault, LONGEST_DISK};
-pub use door::{Door, DoorFault, NoConn, NoDoor};
+pub use door::{Door, DoorFault, NoDoor};
 pub use images::{cuts_keep_images, rest_has_one_image, writes_keep_images};
 pub use link::{Link, LinkFault, NoLink};
 pub use memory::MemDisk;
+pub use memory_conn::MemConn;
 pub use memory_streams::{MemSink, MemSource, SureSource};
 pub use step_clock::StepClock;
 pub use streams::{ReadFault, Sink, Source, WriteFault, write_all};

@@ -1,9 +1,11 @@
 // What no contract says: that memory is found, and what a real file does.
 use crate::{
-    Bytes, Clock, Disk, DiskFault, MemDisk, MemSink, MemSource, Reading, Sink, Source, StepClock,
-    SystemClock, Writing, open_disk, sync_folder, write_all,
+    Bytes, Clock, Conn, Connected, Disk, DiskFault, MemConn, MemDisk, MemSink, MemSource, NoConn,
+    Reading, Sink, Source, StepClock, SystemClock, WriteFault, Writing, open_disk, sync_folder,
+    write_all,
 };
 use std::fs;
+use std::fs::OpenOptions;
 use std::test::Fail;
 
 // Writes twice, cuts, syncs, and reads from the second byte on. A thread may take the disk.
@@ -19,6 +21,13 @@ fn change<D: Disk + Send>(disk: &mut D, piece: &mut [u8]) -> Result<usize, DiskF
 fn reads<C: Clock + Sync>(clock: &C) -> u64 {
     clock.pause();
     clock.now()
+}
+
+// Writes back what it reads. A thread may take the connection.
+fn echo<N: Conn + Send>(conn: &mut N) -> Result<usize, WriteFault> {
+    let mut piece = [0u8; 8];
+    let count = conn.read(&mut piece).unwrap_or(0);
+    conn.write(&piece[..count])
 }
 
 #[test]
@@ -66,5 +75,25 @@ fn makes_each_object(rt: HostRuntime) -> Result<(), Fail> {
     assert_eq!(rt; reads(&StepClock::new(5, 2)), 7);
     let year_2020_ms = 1_577_836_800_000;
     assert!(rt; reads(&SystemClock::new(rt)) > year_2020_ms);
+    Ok(())
+}
+
+#[test]
+fn makes_each_connection(rt: HostRuntime) -> Result<(), Fail> {
+    let name = "sb_outside_test.conn";
+    let file = OpenOptions::new()
+        .read(true)
+        .write(true)
+        .create(true)
+        .open(&rt, name)?;
+    assert_eq!(rt; echo(&mut Connected::new(file)), Ok(0));
+    fs::remove_file(&rt, name)?;
+    let sent = vec![in rt.alloc(); b'h', b'i']?;
+    let source = MemSource::new(sent, 8, Vec::new(rt.alloc()));
+    let sink = MemSink::new(rt.alloc(), 2, Vec::new(rt.alloc()))?;
+    let mut conn = MemConn::new(source, sink);
+    assert_eq!(rt; echo(&mut conn), Ok(2));
+    assert_eq!(rt; conn.bytes(), b"hi".as_slice());
+    assert_eq!(rt; echo(&mut NoConn::new()), Ok(0));
     Ok(())
 }
