@@ -17,3 +17,6 @@ pub mod CountedCommits
 mod Rules
 mod Small
 mod Exhausting
+pub mod Dues
+pub mod Turning
+pub mod Items

@@ -1,4 +1,5 @@
 pub mod Plans
+pub mod Deadlines
 pub mod Drafts
 pub mod Heads
 pub mod Growing
@@ -13,3 +14,4 @@ pub mod Calls
 pub mod Planned
 pub mod Small
 pub mod Engines
+pub mod Sweeps

@@ -6,21 +6,26 @@ ghost use Rattle.sb_entities.specs.Stores.{space_in, IsRoomFor};
 ghost use Rattle.sb_machine.specs.Acts.{is_via_in, row_of};
 ghost use Rattle.sb_machine.specs.Answers.{answer_of, kept_as, with_kept, max_moment};
 ghost use Rattle.sb_machine.specs.Changes.{after_all, is_numbered};
+ghost use Rattle.sb_machine.specs.Due as due;
 ghost use Rattle.sb_machine.specs.Due.{is_none_in};
 ghost use Rattle.sb_machine.specs.Fields.{bad_field};
+ghost use Rattle.sb_machine.specs.History.{advanced, is_spent};
 ghost use Rattle.sb_machine.specs.Namespace.{empty_state, live as live_of, made as made_of};
 ghost use Rattle.sb_machine.specs.Repeats as repeats;
 ghost use Rattle.sb_machine.specs.Rows.{refuses};
 ghost use Rattle.sb_machine.specs.Repeats.{acted};
 ghost use Rattle.sb_machine.specs.declared.reply.Answered.TheVariants.{Kept as Repeated};
-ghost use Rattle.sb_machine.specs.declared.reply.Refusal.TheVariants.{OutOfMemory};
+ghost use Rattle.sb_machine.specs.declared.reply.Refusal.TheVariants.{Exhausted, OutOfMemory};
+ghost use Rattle.sb_laws.specs.Sweepable.{IsSweepable};
 ghost use Rattle.sb_engine.specs.Engines.{engine_state, adds_nothing, carried_out, planned_of, summary_of, HasRoom, IsPlanOf, IsSound, PlansAs};
 ghost use Rattle.sb_engine.specs.Small.{is_small, takes_no_memory};
 
 use crate::calls::{Verdict, client_of, judge_number};
 use crate::copies::{copy_of_act, copy_of_reply};
+use crate::due::is_due;
 use crate::numbers::{live, made};
 use crate::planning::plan_row;
+use crate::ticks::plan_tick;
 use crate::{Draft, Plan, Summary};
 use sb_entities::SpaceStore;
 use sb_machine::{Act, Answered, By, Call, Changes, Kept, Refusal, Reply};
@@ -154,6 +159,26 @@ impl Engine {
         ensures free { takes_no_memory (engine_state self.now).space call.now ≡ true → IfErr result (λ r. answer_of (engine_state self.now) moment call.now ≡ Err r) }
     {
         self.plan_call(moment, call)
+    }
+
+    // ---- time
+
+    /// Whether something is due at a moment, in ms since 1970: this looks at each copy.
+    pub fn is_due(&self, moment: u64) -> bool
+        ensures { result ≡ due.is_due moment (engine_state self.now).space }
+    {
+        is_due(&self.space, moment)
+    }
+
+    /// What happens as time comes up to a moment, in ms since 1970; nobody waits for its answer.
+    /// It changes nothing, and looks at each copy.
+    pub fn plan_tick(&self, moment: u64) -> Result<Plan, Refusal>
+        requires sweepable { IsSweepable (engine_state self.now).space }
+        ensures ok { IfOk result (λ p. (carried_out moment p (engine_state self.now) ≡ advanced (engine_state self.now) moment) × (is_spent (engine_state self.now) moment ≡ false) × IsSound (engine_state self.now) moment p) }
+        ensures err { IfErr result (λ r. (r ≡ OutOfMemory) ⊎ ((r ≡ Exhausted) × (is_spent (engine_state self.now) moment ≡ true))) }
+    {
+        let changes = plan_tick(self.alloc, &self.space, moment)?;
+        Ok(Plan::new(changes, Answered::New(Reply::Done), None))
     }
 
     // ---- carrying out

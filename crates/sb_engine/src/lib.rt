@@ -7,6 +7,9 @@
 //! [`Engine::plan`] gives what the machine makes of a call, or its refusal. `reserve` takes all
 //! memory that the [`Plan`] needs, and `commit` takes none and can't fail.
 //!
+//! Where something is due at a moment, a tick comes before the call: `plan_tick` finds all that is
+//! due in the namespace as it is, and its plan is reserved and committed as each other.
+//!
 //! ```text
 //! let plan = engine.plan(moment, &call)?;          // nothing is changed yet
 //! if plan.is_changing() {
@@ -21,10 +24,13 @@ mod calls;
 mod claims;
 mod committing;
 mod copies;
+mod deadlines;
 mod draft;
 mod drafting;
+mod due;
 mod engine;
 mod fields;
+mod finding;
 mod handing;
 mod heads;
 mod holding;
@@ -41,6 +47,8 @@ mod sending;
 mod settling;
 mod sizes;
 mod summary;
+mod sweeps;
+mod ticks;
 mod via;
 
 use draft::Draft;
