@@ -47,7 +47,7 @@ right : (a b : Bool) → (a || b) ≡ false → b ≡ false
 right true b h = absurd cc
 right false b h = h
 
-put_whole : (k : List ℕ) (d : Data) (ms : Members) → has_float d ≡ false → members_have_float ms ≡ false → members_have_float (put k d ms) ≡ false
+pub put_whole : (k : List ℕ) (d : Data) (ms : Members) → has_float d ≡ false → members_have_float ms ≡ false → members_have_float (put k d ms) ≡ false
 put_whole k d no_members whole rest = neither _ _ whole rest
 put_whole k d (member l e ms) whole rest =
     either_way (slice_cmp nat_cmp k l) _ _ _ (neither _ _ whole rest) (neither _ _ whole (right (has_float e) _ rest))

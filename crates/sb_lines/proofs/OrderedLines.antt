@@ -51,10 +51,10 @@ text_from_holds k name (Some d) sys less is = at (as_str d) where
 text_with_holds : (k : ℕ) (nulls : Nulls) (name : SystemName) (d : Data) (sys : List SystemText) → nat_lt k (system_code name) ≡ true → UpTo k sys → Holds (UpTo (system_code name)) (msg.text_with nulls name d sys)
 text_with_holds k nulls name d sys less is = text_from_holds k name (msg.member_at nulls (system_name name) d) sys less is
 
-none_yet : UpTo 0 []
+pub none_yet : UpTo 0 []
 none_yet = record { rising = tt; set = refl; below = refl }
 
-broker_holds : (nulls : Nulls) (d : Data) → Holds (UpTo 7) (msg.broker_texts nulls d)
+pub broker_holds : (nulls : Nulls) (d : Data) → Holds (UpTo 7) (msg.broker_texts nulls d)
 broker_holds nulls d =
     then_holds (UpTo 1) (UpTo 7) _ _ (text_with_holds 0 nulls MessageId d [] refl none_yet) (λ sys1 is1.
     then_holds (UpTo 2) (UpTo 7) _ _ (text_with_holds 1 nulls Label d sys1 refl is1) (λ sys2 is2.
@@ -143,7 +143,7 @@ fields_hold d =
 message_holds : (d : Data) → Holds IsInOrder (msg.message_of d)
 message_holds d = known_holds IsInOrder (or_key (codes "messages") (as_object d)) (λ _. object_of msg.message_fields d) (λ _. object_holds IsInOrder msg.message_fields d (fields_hold d))
 
-before_holds : (m : Message) (r : Result (List Message) (List ℕ)) → IsInOrder m → Holds (Each IsInOrder) r → Holds (Each IsInOrder) (msg.before_those (m ∷ []) r)
+pub before_holds : (m : Message) (r : Result (List Message) (List ℕ)) → IsInOrder m → Holds (Each IsInOrder) r → Holds (Each IsInOrder) (msg.before_those (m ∷ []) r)
 before_holds m (Ok ms) one all = (one, all)
 before_holds m (Err key) one all = tt
 
