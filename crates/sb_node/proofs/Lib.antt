@@ -1,0 +1,12 @@
+pub mod Order
+pub mod Machine
+pub mod Taking
+pub mod Recovered
+pub mod Gates
+pub mod Crashes
+pub mod Keeping
+pub mod Histories
+pub mod Stepping
+pub mod Whole
+pub mod Numbers
+pub mod Merely

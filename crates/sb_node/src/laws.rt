@@ -1,0 +1,39 @@
+// Laws: each a function without effect whose contract is true of the definitions.
+ghost use Rattle.std.specs.Prelude.{◌≡◌, [], length, take};
+ghost use Rattle.sb_journal.specs.declared.found.Side.TheVariants.{A};
+ghost use Rattle.sb_machine.specs.Namespace.{empty_state};
+ghost use Rattle.sb_node.specs.Laws.{RecoversConsistent};
+ghost use Rattle.sb_node.specs.Recovery.{recovered, recovers, damaged};
+ghost use Rattle.sb_node.specs.Worked.{worked_file, worked_salt, with_byte, with_queue, ticked_file};
+
+/// Whatever stands on two disks, a state that it recovers is consistent: a damaged journal is never
+/// taken for a namespace that calls can't lead to.
+pub fn recovers_consistent()
+    ensures { RecoversConsistent }
+{}
+
+/// A journal of one event, worked through with the definitions alone: it recovers its queue, also
+/// with its end gate missing, and each kind of damage has the place that was worked out by hand.
+pub fn worked_journal()
+    ensures length { length worked_file ≡ 87 }
+    ensures whole { recovered worked_file [] 0 ≡ recovers with_queue 1 }
+    ensures no_end_gate { recovered (take 86 worked_file) [] 0 ≡ recovers with_queue 1 }
+    ensures gate_closed { recovered (with_byte 42 0) [] 0 ≡ recovers (empty_state worked_salt) 0 }
+    ensures no_journal { (recovered (with_byte 0 0) [] 5 ≡ recovers (empty_state 5) 0) × (recovered (take 42 worked_file) [] 5 ≡ recovers (empty_state 5) 0) }
+    ensures magic { recovered (with_byte 8 0) [] 0 ≡ damaged A 1 }
+    ensures version { recovered (with_byte 9 2) [] 0 ≡ damaged A 9 }
+    ensures generation { (recovered (with_byte 25 0) [] 0 ≡ damaged A 18) × (recovered (with_byte 18 0x40) [] 0 ≡ damaged A 18) }
+    ensures first { (recovered (with_byte 33 0) [] 0 ≡ damaged A 26) × (recovered (with_byte 26 0x40) [] 0 ≡ damaged A 26) }
+    ensures base { recovered (with_byte 41 1) [] 0 ≡ damaged A 42 }
+    ensures cut { (recovered (take 85 worked_file) [] 0 ≡ damaged A 42) × (recovered (take 43 worked_file) [] 0 ≡ damaged A 42) }
+    ensures too_long { recovered (with_byte 44 0x11) [] 0 ≡ damaged A 42 }
+    ensures number { recovered (with_byte 54 2) [] 0 ≡ damaged A 42 }
+    ensures no_event { recovered (with_byte 55 2) [] 0 ≡ damaged A 42 }
+    // The name is none that a queue may have.
+    ensures refused { recovered (with_byte 70 0x20) [] 0 ≡ damaged A 42 }
+    // The moment is past the last one.
+    ensures late { recovered (with_byte 56 1) [] 0 ≡ damaged A 42 }
+    ensures gate_open { recovered (with_byte 86 1) [] 0 ≡ damaged A 86 }
+    // Time goes on only where something is due.
+    ensures idle { recovered ticked_file [] 0 ≡ damaged A 86 }
+{}

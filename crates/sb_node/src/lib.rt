@@ -1,0 +1,21 @@
+//! A namespace over its journal: each change is on the disk before it is answered.
+//!
+//! `Node` joins the engine, which plans, reserves and commits in memory, with the journal, which is
+//! between planning and committing. A step makes one call: where something is due at its moment,
+//! time goes on first, as an event of its own, and then the call acts. What a journal says is
+//! carried out again (`replay`) as it is opened.
+//!
+//! ```text
+//! let mut node = Node::open(alloc, disk_a, disk_b, salt)?;
+//! let answer = node.step(1_700_000_000_000, &call); // safe on the disk, once it is answered
+//! let (disk_a, disk_b) = node.close();
+//! ```
+#![tactic(auto)]
+
+mod laws;
+mod node;
+mod replay;
+
+pub use laws::{recovers_consistent, worked_journal};
+pub use node::Node;
+pub use sb_engine::Summary;

@@ -1,0 +1,142 @@
+// Carrying out again what a journal says.
+ghost use Rattle.std.specs.Bool.{MatchBool};
+ghost use Rattle.std.specs.Prelude.{◌≡◌, ◌≢◌, ◌^◌, ◌<◌, ℕ, false, Some, None, IfOk, IfErr, OnOk};
+ghost use Rattle.sb_codec.specs.EventBytes.{read_event};
+ghost use Rattle.sb_engine.specs.Engines.{engine_state, carried_out, IsSound};
+ghost use Rattle.sb_journal.specs.Text.{gate_after};
+ghost use Rattle.sb_laws.specs.Sweepable.{IsSweepable};
+ghost use Rattle.sb_machine.specs.Consistent.{IsConsistent};
+ghost use Rattle.sb_machine.specs.declared.call.Event.TheVariants.{Tick, Called};
+ghost use Rattle.sb_machine.specs.declared.reply.Refusal.TheVariants.{OutOfMemory};
+ghost use Rattle.sb_node.specs.Recovery.{next_state, replay, reaches, breaks};
+ghost use Rattle.sb_node.specs.declared.replay.ReplayFault.TheVariants.{NoEvent};
+
+use sb_codec::decode_event;
+use sb_engine::{Engine, Plan};
+use sb_journal::{Bytes, next_gate};
+use sb_machine::{Call, Event, Refusal};
+use std::alloc::{AllocError, Global};
+use std::collections::VecDeque;
+
+/// The last moment that counts, in ms since 1970.
+pub const MAX_MOMENT: u64 = 253_402_214_400_000;
+
+/// Why a journal wasn't carried out again.
+#[derive(Clone, Copy, Debug, PartialEq, Eq)]
+pub enum ReplayFault {
+    /// The record behind the gate at this place is no changing event of the state so far.
+    NoEvent(u64),
+    OutOfMemory,
+}
+
+// What is refused isn't taken, but for want of memory.
+fn untaken(refusal: &Refusal) -> Result<bool, AllocError>
+    ensures { IfOk result (λ b. (b ≡ false) × (refusal.now ≢ OutOfMemory)) }
+{
+    match refusal {
+        Refusal::OutOfMemory => Err(AllocError),
+        _ => Ok(false),
+    }
+}
+
+// Carries out a plan; where memory is wanting, all stays.
+fn carry_out(engine: &mut Engine, moment: u64, plan: Plan) -> Result<(), AllocError>
+    requires { IsSound (engine_state engine.old) moment plan }
+    ensures { OnOk result (engine_state engine.new ≡ carried_out moment plan (engine_state engine.old)) }
+{
+    engine.reserve(moment, &plan)?;
+    let _answered = engine.commit(moment, plan);
+    Ok(())
+}
+
+// Lets time go on as a journal says; `false` where it may not.
+fn take_tick(engine: &mut Engine, moment: u64) -> Result<bool, AllocError>
+    requires { IsSweepable (engine_state engine.old).space }
+    ensures done { IfOk result (λ b. MatchBool b (next_state (engine_state engine.old) (Some (Tick moment)) ≡ Some (engine_state engine.new))
+        (next_state (engine_state engine.old) (Some (Tick moment)) ≡ None)) }
+{
+    if moment < engine.moment() || moment > MAX_MOMENT {
+        return Ok(false);
+    }
+    if !engine.is_due(moment) {
+        return Ok(false);
+    }
+    let plan = match engine.plan_tick(moment) {
+        Ok(plan) => plan,
+        Err(refusal) => return untaken(&refusal),
+    };
+    carry_out(engine, moment, plan)?;
+    Ok(true)
+}
+
+// Carries out a call that a journal names; `false` where it changes nothing, or time has to go on first.
+fn take_call(engine: &mut Engine, moment: u64, call: &Call) -> Result<bool, AllocError>
+    ensures done { IfOk result (λ b. MatchBool b (next_state (engine_state engine.old) (Some (Called moment call.now)) ≡ Some (engine_state engine.new))
+        (next_state (engine_state engine.old) (Some (Called moment call.now)) ≡ None)) }
+{
+    if moment < engine.moment() || moment > MAX_MOMENT {
+        return Ok(false);
+    }
+    if engine.is_due(moment) {
+        return Ok(false);
+    }
+    let plan = match engine.plan(moment, call) {
+        Ok(plan) => plan,
+        Err(refusal) => return untaken(&refusal),
+    };
+    if !plan.is_changing() {
+        return Ok(false);
+    }
+    carry_out(engine, moment, plan)?;
+    Ok(true)
+}
+
+// Carries out an event; `false` where it changes nothing.
+fn take_event(engine: &mut Engine, event: &Event) -> Result<bool, AllocError>
+    requires { IsSweepable (engine_state engine.old).space }
+    ensures done { IfOk result (λ b. MatchBool b (next_state (engine_state engine.old) (Some event.now) ≡ Some (engine_state engine.new))
+        (next_state (engine_state engine.old) (Some event.now) ≡ None)) }
+{
+    match event {
+        Event::Called { moment, call } => take_call(engine, *moment, call),
+        Event::Tick { moment } => take_tick(engine, *moment),
+    }
+}
+
+// Carries out the event that a payload spells; `false` where it is none that changes the state.
+fn take_payload(alloc: Global, engine: &mut Engine, payload: &[u8]) -> Result<bool, AllocError>
+    requires { IsSweepable (engine_state engine.old).space }
+    ensures done { IfOk result (λ b. MatchBool b (next_state (engine_state engine.old) (read_event payload.now) ≡ Some (engine_state engine.new))
+        (next_state (engine_state engine.old) (read_event payload.now) ≡ None)) }
+{
+    match decode_event(alloc, payload)? {
+        Some(event) => take_event(engine, &event),
+        None => Ok(false),
+    }
+}
+
+/// Carries these payloads out, one after another, and lets each go then; `place` is that of the
+/// first one's gate.
+pub fn replay_all(
+    alloc: Global,
+    engine: &mut Engine,
+    place: u64,
+    payloads: Vec<Bytes>,
+) -> Result<(), ReplayFault>
+    requires gates { gate_after place payloads.items < 2 ^ 64 }
+    requires consistent { IsConsistent (engine_state engine.old) }
+    ensures ok { OnOk result (replay (engine_state engine.old) place payloads.items ≡ reaches (engine_state engine.new)) }
+    ensures broken { IfErr result (λ e. (n : ℕ) → e ≡ NoEvent n → replay (engine_state engine.old) place payloads.items ≡ breaks n) }
+{
+    let mut left = VecDeque::from_vec(payloads);
+    let mut gate = place;
+    while let Some(payload) = left.pop_front() {
+        let bytes = payload.as_slice();
+        match take_payload(alloc, engine, bytes) {
+            Ok(true) => gate = next_gate(gate, bytes),
+            Ok(false) => return Err(ReplayFault::NoEvent(gate)),
+            Err(_) => return Err(ReplayFault::OutOfMemory),
+        }
+    }
+    Ok(())
+}
