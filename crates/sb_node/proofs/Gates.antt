@@ -1,5 +1,5 @@
 -- Payloads one after another, with the places of their gates.
-use Rattle.std.proofs.Common.{◌≡◌, ℕ, ◌+◌, ◌<◌, ◌≤◌, List, [], ◌∷◌, ◌++◌, length, Option, Some, None, refl, sym, ◌∙◌, ap, subst, arith}
+use Rattle.std.proofs.Common.{◌≡◌, ℕ, ◌+◌, ◌<◌, ◌≤◌, List, [], ◌∷◌, ◌++◌, length, Option, Some, None, sym, ◌∙◌, ap, subst, arith}
 use Rattle.sb_journal.specs.Text.{gate_after}
 use Rattle.sb_codec.specs.EventBytes.{read_event}
 use Rattle.sb_machine.specs.declared.state.State.{State}

@@ -15,12 +15,12 @@ use Rattle.sb_machine.specs.Repeats.{client_of, outcome_of}
 use Rattle.sb_machine.specs.declared.call.Call.{Call}
 use Rattle.sb_machine.specs.declared.call.Event.{Event}
 use Rattle.sb_machine.specs.declared.call.Event.TheVariants.{Tick, Called}
-use Rattle.sb_machine.specs.declared.history.Entry.TheVariants.{Ticked, Answered as Replied}
+use Rattle.sb_machine.specs.declared.history.Entry.TheVariants.{Answered as Replied}
 use Rattle.sb_machine.specs.declared.reply.Answered.{Answered}
 use Rattle.sb_machine.specs.declared.reply.Refusal.{Refusal}
 use Rattle.sb_machine.specs.declared.reply.Refusal.TheVariants.{DiskFault, OutOfMemory, Exhausted}
 use Rattle.sb_machine.specs.declared.state.State.{State}
-use Rattle.sb_node.specs.Nodes.{HoldsState, events_of, events_on, IsLogged}
+use Rattle.sb_node.specs.Nodes.{events_of, events_on, IsLogged}
 use Rattle.sb_node.specs.Steps.{log_of, entries_with, tick_events, call_events, IsTicked, IsTickFault}
 
 held_events : {D : Type 0} {B : Ghosts D} (j : Journal D B) (file : File) (salt : ℕ) → HoldsFile j file → events_on (journal_disks j) salt ≡ map read_event file.payloads

@@ -1,5 +1,5 @@
 -- What the laws of the machine and of event bytes say of a step.
-use Rattle.std.proofs.Common.{◌≡◌, ◌≤◌, ℕ, length, true, false}
+use Rattle.std.proofs.Common.{◌≡◌, ◌≤◌, ℕ, length, false}
 use Rattle.sb_codec.specs.EventBytes.{event_bytes, IsSpellable}
 use Rattle.sb_codec.proofs.ActsAsked.{tick_asked}
 use Rattle.sb_codec.proofs.Short.{tick_short}

@@ -1,6 +1,6 @@
 -- What bytes are read as has its lists in order.
-use Rattle.std.proofs.Common.{◌≡◌, ℕ, zero, suc, List, [], ◌∷◌, length, Bool, true, false, cond, eqb, ◌&&◌, Option, Some, None, refl, ap, subst, ◌∙◌, arith}
-use Rattle.std.specs.Prelude.{◌==◌, nat_lt, IfSome}
+use Rattle.std.proofs.Common.{◌≡◌, ℕ, zero, suc, List, [], ◌∷◌, length, Bool, true, false, cond, eqb, Option, Some, None, refl, ap, subst, arith}
+use Rattle.std.specs.Prelude.{◌==◌}
 use Rattle.std.specs.List.{list_all}
 use Rattle.std.specs.Ordering.{nat_cmp, is_lt}
 use Rattle.std.specs.Cmp.Lexicographic.{slice_cmp}
@@ -15,11 +15,8 @@ use Rattle.sb_model.specs.declared.message.Property.{Property}
 use Rattle.sb_model.specs.declared.message.SystemText.{SystemText}
 use Rattle.sb_machine.specs.Each.{Each}
 use Rattle.sb_machine.specs.Ordered.{IsActInOrder, IsFilterInOrder, asked_of}
-use Rattle.sb_machine.specs.declared.call.Act.{Act}
-use Rattle.sb_machine.specs.declared.call.Act.TheVariants.{Send}
 use Rattle.sb_machine.specs.declared.call.Event.{Event}
 use Rattle.sb_machine.specs.declared.call.Event.TheVariants.{Tick, Called}
-use Rattle.sb_machine.specs.declared.call.FilterText.{FilterText}
 use Rattle.sb_codec.specs.Acts as acts
 use Rattle.sb_codec.specs.Acts.{any_act, any_act_choice}
 use Rattle.sb_codec.specs.Choices.{filter_text, sql, correlation}
@@ -27,7 +24,7 @@ use Rattle.sb_codec.specs.EventBytes.{a_call, event, tick, called, read_event}
 use Rattle.sb_codec.specs.Forms.{Row, Choice, ◌or◌, ◌then◌, no_row, chosen_at, Follow, blob, text, number64, optional, listed}
 use Rattle.sb_codec.specs.Pieces.{path, by}
 use Rattle.sb_codec.specs.Messages.{system, systems, is_next_system, property, properties, is_next_property, conditions, message, any_next}
-use Rattle.sb_codec.specs.Readers.{Reader, ◌>>=◌, both, mapped, tested, number_at, items_at, listed_at}
+use Rattle.sb_codec.specs.Readers.{Reader, both, mapped, tested, number_at, items_at, listed_at}
 use Rattle.sb_codec.proofs.Exact.{bind_some, when_some}
 use Rattle.sb_codec.proofs.Passed.{both as both_of, both_true}
 

@@ -1,17 +1,17 @@
 -- What the parts of a step are together.
-use Rattle.std.proofs.Common.{◌≡◌, ◌≢◌, ◌⊎◌, inl, inr, ℕ, ◌≤◌, Bool, true, false, List, [], ◌∷◌, Option, Some, None, Result, Ok, Err, refl, sym, ◌∙◌, ap, subst, arith, max, min}
-use Rattle.std.specs.Prelude.{is_some, if◌then◌else◌, not}
+use Rattle.std.proofs.Common.{◌≡◌, ◌≢◌, ◌⊎◌, inl, inr, ℕ, ◌≤◌, Bool, true, false, [], Option, Some, None, Result, Ok, Err, refl, sym, ◌∙◌, ap, subst, arith, max, min}
+use Rattle.std.specs.Prelude.{is_some, not}
 use Rattle.std.specs.Bool.{MatchBool}
 use Rattle.sb_machine.specs.Answers.{answer_of, state_of, is_change, moment_of, max_moment}
 use Rattle.sb_machine.specs.Due.{is_due}
-use Rattle.sb_machine.specs.History.{Log, IsLegalFrom, IsAnswer, after_entries, after_call, advanced, is_fault, is_spent, stops}
+use Rattle.sb_machine.specs.History.{Log, IsAnswer, after_call, advanced, is_fault, is_spent, stops}
 use Rattle.sb_machine.specs.Repeats.{client_of, outcome_of}
 use Rattle.sb_machine.specs.declared.call.Call.{Call}
 use Rattle.sb_machine.specs.declared.reply.Answered.{Answered}
 use Rattle.sb_machine.specs.declared.reply.Refusal.{Refusal}
 use Rattle.sb_machine.specs.declared.reply.Refusal.TheVariants.{DiskFault, Stopped, OutOfMemory, Exhausted}
 use Rattle.sb_machine.specs.declared.state.State.{State}
-use Rattle.sb_node.specs.Steps.{log_of, entries_with, is_still, ticked_to, time_to, called_at, call_events, IsStep, IsTicked, IsTickFault, IsAnswered}
+use Rattle.sb_node.specs.Steps.{log_of, entries_with, is_still, ticked_to, time_to, call_events, IsStep, IsTicked, IsTickFault, IsAnswered}
 use Rattle.sb_node.proofs.Histories.{later_on, call_fault, call_still}
 use Rattle.sb_node.proofs.Machine.{no_fault}
 use Rattle.sb_node.proofs.Taking.{refused_still, still_stays, time_went, time_idle}

@@ -1,24 +1,21 @@
 -- When an event is the next one, and the state that it leads to.
-use Rattle.std.proofs.Common.{◌≡◌, ◌≢◌, ◌≤◌, ◌⊎◌, inl, inr, ℕ, nat_le, Bool, true, false, cond, ◌&&◌, not, Option, Some, None, Result, Ok, Err, refl, sym, ◌∙◌, ap, subst, arith}
+use Rattle.std.proofs.Common.{◌≡◌, ◌≢◌, ◌≤◌, ◌⊎◌, inl, inr, ℕ, nat_le, Bool, true, false, cond, ◌&&◌, not, Option, Some, None, Result, Ok, Err, refl, arith}
 use Rattle.std.specs.Bool.{MatchBool}
-use Rattle.std.specs.Prelude.{if◌then◌else◌, IfOk}
+use Rattle.std.specs.Prelude.{IfOk}
 use Rattle.std.proofs.lemmas.Bool.Decides.{nat_tests}
-use Rattle.sb_machine.specs.Answers.{answer_in, answer_of, state_in, state_of, is_change, max_moment}
+use Rattle.sb_machine.specs.Answers.{answer_in, state_in, state_of, is_change, max_moment}
 use Rattle.sb_machine.specs.Due.{is_due}
-use Rattle.sb_machine.specs.History.{advanced, is_spent, is_fault}
+use Rattle.sb_machine.specs.History.{advanced, is_spent}
 use Rattle.sb_machine.specs.Repeats.{Outcome, refused, repeated, acted, client_of, outcome_of}
 use Rattle.sb_machine.specs.declared.call.Call.{Call}
 use Rattle.sb_machine.specs.declared.call.By.{By}
 use Rattle.sb_machine.specs.declared.call.Event.TheVariants.{Tick, Called}
-use Rattle.sb_machine.specs.declared.change.Change.{Change}
-use Rattle.sb_machine.specs.declared.reply.Answered.{Answered}
 use Rattle.sb_machine.specs.declared.reply.Refusal.{Refusal}
 use Rattle.sb_machine.specs.declared.reply.Refusal.TheVariants.{OutOfMemory}
-use Rattle.sb_machine.specs.declared.reply.Reply.{Reply}
 use Rattle.sb_machine.specs.declared.state.State.{State}
 use Rattle.sb_codec.proofs.Passed.{both}
 use Rattle.sb_node.specs.Recovery.{is_in_time, is_next_tick, is_next_call, next_state}
-use Rattle.sb_node.specs.Steps.{is_ticking, time_to, called_at}
+use Rattle.sb_node.specs.Steps.{time_to}
 
 pub in_time : (now t : ℕ) → now ≤ t → t ≤ max_moment → (nat_le now t && nat_le t max_moment) ≡ true
 in_time now t later counts = grind (arith, nat_tests)

@@ -11,7 +11,7 @@ use Rattle.sb_machine.specs.Accounts.{changing}
 use Rattle.sb_machine.specs.Answers.{state_of, is_change, max_moment, moment_of}
 use Rattle.sb_machine.specs.Consistent.{IsConsistent}
 use Rattle.sb_machine.specs.Due.{is_due}
-use Rattle.sb_machine.specs.History.{advanced, is_fault}
+use Rattle.sb_machine.specs.History.{is_fault}
 use Rattle.sb_machine.specs.Ordered.{IsActInOrder}
 use Rattle.sb_machine.specs.Repeats.{client_of, outcome_of}
 use Rattle.sb_machine.specs.declared.call.Call.{Call}

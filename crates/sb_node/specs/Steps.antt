@@ -1,5 +1,5 @@
 -- What a step adds to a history.
-use Rattle.std.specs.Prelude.{◌≡◌, ℕ, ◌&&◌, not, Bool, true, false, List, [], ◌∷◌, if◌then◌else◌, Option, Some, None, is_some, Result, Err}
+use Rattle.std.specs.Prelude.{◌≡◌, ℕ, ◌&&◌, not, Bool, true, false, List, [], ◌∷◌, if◌then◌else◌, Option, Some, None, is_some, Result}
 use Rattle.sb_machine.specs.Answers.{answer_of, state_of, is_change}
 use Rattle.sb_machine.specs.Due.{is_due}
 use Rattle.sb_machine.specs.History.{Log, IsLegalFrom, after_entries, advanced, is_fault, is_spent, stops}

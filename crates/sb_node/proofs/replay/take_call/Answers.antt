@@ -1,4 +1,3 @@
-use Rattle.std.proofs.Common.{sym}
 use Rattle.sb_engine.specs.Engines.{engine_state}
 use Rattle.sb_machine.specs.Repeats.{client_of, outcome_of}
 use Rattle.sb_node.proofs.Taking.{call_still, refused_still, refused_none, not_memory}

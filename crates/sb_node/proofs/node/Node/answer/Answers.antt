@@ -1,6 +1,6 @@
-use Rattle.std.proofs.Common.{◌≡◌, List, ◌++◌, map, Some, None, Ok, true, false, sym, ap, ◌∙◌, subst, refl}
+use Rattle.std.proofs.Common.{◌≡◌, List, ◌++◌, map, Some, Ok, true, false, sym, ap, ◌∙◌, subst, refl}
 use Rattle.std.proofs.Math.Logic.{∥∥₁_map}
-use Rattle.sb_engine.specs.Engines.{engine_state, carried_out, is_changing}
+use Rattle.sb_engine.specs.Engines.{engine_state, carried_out}
 use Rattle.sb_machine.specs.Answers.{state_of, is_change}
 use Rattle.sb_machine.specs.Consistent.{IsConsistent}
 use Rattle.sb_machine.specs.Repeats.{client_of, outcome_of}

@@ -1,4 +1,4 @@
-use Rattle.std.proofs.Common.{◌≡◌, Some, true, false, sym, ap, ◌∙◌, subst}
+use Rattle.std.proofs.Common.{◌≡◌, Some, true, sym, ap, ◌∙◌, subst}
 use Rattle.std.proofs.Math.Logic.{∥∥₁_map}
 use Rattle.sb_engine.specs.Engines.{engine_state, carried_out}
 use Rattle.sb_machine.specs.Consistent.{IsConsistent}
@@ -6,7 +6,6 @@ use Rattle.sb_machine.specs.Due.{is_due}
 use Rattle.sb_machine.specs.History.{advanced}
 use Rattle.sb_machine.specs.declared.call.Event.TheVariants.{Tick}
 use Rattle.sb_machine.specs.declared.state.State.{State}
-use Rattle.sb_node.specs.Recovery.{next_state}
 use Rattle.sb_node.specs.Nodes.{node_disks}
 use Rattle.sb_node.specs.Steps.{time_to}
 use Rattle.sb_laws.proofs.StaysWhole.{ticks_consistent}
