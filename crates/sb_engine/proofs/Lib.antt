@@ -20,3 +20,5 @@ mod Exhausting
 pub mod Dues
 pub mod Turning
 pub mod Items
+pub mod Later
+pub mod Sooner

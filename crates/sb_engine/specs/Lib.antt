@@ -1,5 +1,6 @@
 pub mod Plans
 pub mod Deadlines
+pub mod Soonest
 pub mod Drafts
 pub mod Heads
 pub mod Growing

@@ -1,6 +1,7 @@
 // When one thing comes due by itself, in ms since 1970.
 ghost use Rattle.std.specs.Prelude.{◌≡◌};
 ghost use Rattle.sb_engine.specs.Deadlines as spec;
+ghost use Rattle.sb_engine.specs.Soonest as moments;
 
 use sb_machine::{Hold, Part, Session, Standing, StoredCopy};
 
@@ -64,5 +65,15 @@ pub fn has_passed(deadline: Option<u64>, moment: u64) -> bool
     match deadline {
         Some(deadline) => deadline <= moment,
         None => false,
+    }
+}
+
+/// The lesser of both.
+pub fn sooner(deadline: Option<u64>, soonest: u64) -> u64
+    ensures { result ≡ moments.sooner deadline soonest }
+{
+    match deadline {
+        Some(deadline) => deadline.min(soonest),
+        None => soonest,
     }
 }

@@ -18,16 +18,16 @@ ghost use Rattle.sb_machine.specs.declared.reply.Answered.TheVariants.{Kept as R
 ghost use Rattle.sb_machine.specs.declared.reply.Refusal.TheVariants.{Exhausted, OutOfMemory};
 ghost use Rattle.sb_laws.specs.Sweepable.{IsSweepable};
 ghost use Rattle.sb_engine.specs.Engines.{engine_state, adds_nothing, carried_out, planned_of, summary_of, HasRoom, IsPlanOf, IsSound, PlansAs};
+ghost use Rattle.sb_engine.specs.Plans.{PlansRow};
 ghost use Rattle.sb_engine.specs.Small.{is_small, takes_no_memory};
 
 use crate::calls::{Verdict, client_of, judge_number};
 use crate::copies::{copy_of_act, copy_of_reply};
-use crate::due::is_due;
 use crate::numbers::{live, made};
 use crate::planning::plan_row;
 use crate::ticks::plan_tick;
+use crate::watched::Watched;
 use crate::{Draft, Plan, Summary};
-use sb_entities::SpaceStore;
 use sb_machine::{Act, Answered, By, Call, Changes, Kept, Refusal, Reply};
 use sb_repeats::Clients;
 use std::alloc::{AllocError, Global};
@@ -38,7 +38,27 @@ pub struct Engine {
     alloc: Global,
     moment: u64,
     clients: Clients,
-    space: SpaceStore,
+    space: Watched,
+}
+
+// What an act would do here, with all its tests.
+fn plan_in(alloc: Global, space: &Watched, moment: u64, call: &Call) -> Result<Draft, Refusal>
+    requires { moment ≤ max_moment }
+    ensures row { PlansRow result (row_of (space_in space.now) moment call.now.by call.now.act) }
+    ensures free { bad_field (is_via_in (space_in space.now) call.now.act) call.now.act call.now.by ≡ None → is_small call.now.act ≡ true → IfErr result (λ r. row_of (space_in space.now) moment call.now.by call.now.act ≡ refuses r) }
+    ensures numbers { IfOk result (λ d. is_numbered moment d.changes (space_in space.now) ≡ true) }
+{
+    plan_row(alloc, space.as_store(), moment, &call.by, &call.act)
+}
+
+// What happens here as time comes up to a moment.
+fn tick_in(alloc: Global, space: &Watched, moment: u64) -> Result<Changes, Refusal>
+    requires { IsSweepable (space_in space.now) }
+    ensures changes { IfOk result (λ cs. cs ≡ due.tick_changes moment (space_in space.now)) }
+    ensures numbered { IfOk result (λ cs. is_numbered moment cs (space_in space.now) ≡ true) }
+    ensures err { IfErr result (λ r. (r ≡ OutOfMemory) ⊎ ((r ≡ Exhausted) × (is_numbered moment (due.tick_changes moment (space_in space.now)) (space_in space.now) ≡ false))) }
+{
+    plan_tick(alloc, space.as_store(), moment)
 }
 
 // What is kept of an accepted call.
@@ -95,7 +115,7 @@ impl Engine {
             alloc,
             moment: 0,
             clients: Clients::new(alloc),
-            space: SpaceStore::new(alloc, salt),
+            space: Watched::new(alloc, salt),
         }
     }
 
@@ -115,7 +135,7 @@ impl Engine {
         ensures free { option_map (λ b. b.now) by.entry ≡ None → bad_field (is_via_in (engine_state self.now).space call.now.act) call.now.act call.now.by ≡ None → is_small call.now.act ≡ true → IfErr result (λ r. row_of (engine_state self.now).space moment call.now.by call.now.act ≡ refuses r) }
         ensures sound { IfOk result (λ p. IsSound (engine_state self.now) moment p) }
     {
-        let draft = plan_row(self.alloc, &self.space, moment, &call.by, &call.act)?;
+        let draft = plan_in(self.alloc, &self.space, moment, call)?;
         match plan_draft(self.alloc, by, &call.act, draft) {
             Ok(plan) => Ok(plan),
             Err(_) => Err(Refusal::OutOfMemory),
@@ -163,11 +183,12 @@ impl Engine {
 
     // ---- time
 
-    /// Whether something is due at a moment, in ms since 1970: this looks at each copy.
+    /// Whether something is due at a moment, in ms since 1970. Before a moment that is kept, before
+    /// which nothing comes due, this looks at nothing, from then on at each copy.
     pub fn is_due(&self, moment: u64) -> bool
         ensures { result ≡ due.is_due moment (engine_state self.now).space }
     {
-        is_due(&self.space, moment)
+        self.space.is_due(moment)
     }
 
     /// What happens as time comes up to a moment, in ms since 1970; nobody waits for its answer.
@@ -177,7 +198,7 @@ impl Engine {
         ensures ok { IfOk result (λ p. (carried_out moment p (engine_state self.now) ≡ advanced (engine_state self.now) moment) × (is_spent (engine_state self.now) moment ≡ false) × IsSound (engine_state self.now) moment p) }
         ensures err { IfErr result (λ r. (r ≡ OutOfMemory) ⊎ ((r ≡ Exhausted) × (is_spent (engine_state self.now) moment ≡ true))) }
     {
-        let changes = plan_tick(self.alloc, &self.space, moment)?;
+        let changes = tick_in(self.alloc, &self.space, moment)?;
         Ok(Plan::new(changes, Answered::New(Reply::Done), None))
     }
 
@@ -197,7 +218,8 @@ impl Engine {
         self.space.reserve(moment, plan.changes())
     }
 
-    /// Carries a plan out at a moment, in ms since 1970; it takes no memory.
+    /// Carries a plan out at a moment, in ms since 1970; it takes no memory. Where the moment that is
+    /// kept for `is_due` has come, this looks at each copy.
     pub fn commit(&mut self, moment: u64, plan: Plan) -> Answered
         requires room { HasRoom self.old moment plan }
         ensures state { engine_state self.new ≡ carried_out moment plan (engine_state self.old) }
@@ -219,17 +241,17 @@ impl Engine {
         ensures { result ≡ summary_of (engine_state self.now) 0 }
     {
         Summary {
-            copies: live(&self.space),
-            entities: self.space.entities().len() as u64,
+            copies: live(self.space.as_store()),
+            entities: self.space.as_store().entities().len() as u64,
             events: 0,
-            made: made(&self.space),
+            made: made(self.space.as_store()),
             now: self.moment,
         }
     }
 }
 
 // Changes are carried out where there are any.
-fn carry_changes(space: &mut SpaceStore, moment: u64, changes: Changes)
+fn carry_changes(space: &mut Watched, moment: u64, changes: Changes)
     requires room { IsRoomFor moment changes space.old }
     requires numbered { is_none_in changes ≡ false → is_numbered moment changes (space_in space.old) ≡ true }
     ensures { space_in space.new ≡ after_all moment changes (space_in space.old) }

@@ -20,6 +20,7 @@
 #![tactic(auto)]
 
 mod acts;
+mod behind;
 mod calls;
 mod claims;
 mod committing;
@@ -46,10 +47,12 @@ mod release;
 mod sending;
 mod settling;
 mod sizes;
+mod soonest;
 mod summary;
 mod sweeps;
 mod ticks;
 mod via;
+mod watched;
 
 use draft::Draft;
 pub use engine::Engine;
