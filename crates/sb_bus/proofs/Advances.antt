@@ -3,7 +3,7 @@ use Rattle.std.proofs.Common.{◌≡◌, ◌≤◌, ◌⊎◌, inl, inr, ℕ, Li
 use Rattle.std.proofs.lemmas.List.{append-nil, map-append}
 use Rattle.sb_outside.specs.Streams.{Gains}
 use Rattle.sb_outside.proofs.Gains.{gains-gains, gains-none}
-use Rattle.sb_first_machine.specs.declared.state.State.{State}
+use Rattle.sb_machine.specs.declared.state.State.{State}
 use Rattle.sb_bus.specs.declared.partial_line.PartialLine.{PartialLine}
 use Rattle.sb_bus.specs.declared.reader.Reader.{Reader}
 use Rattle.sb_bus.specs.declared.script_line.ScriptLine.{ScriptLine}

@@ -5,10 +5,10 @@ use Rattle.sb_outside.specs.Causes.{Rose, RoseByOne}
 use Rattle.sb_journal.specs.declared.found.Side.{Side}
 use Rattle.sb_journal.specs.declared.found.OpenWhy.{OpenWhy}
 use Rattle.sb_journal.specs.declared.found.OpenWhy.TheVariants.{Damaged, DiskFault as FailedDisk, OutOfMemory as NoMemory}
-use Rattle.sb_first_machine.specs.declared.state.State.{State}
+use Rattle.sb_machine.specs.declared.state.State.{State}
 use Rattle.sb_journal.specs.Disks.{Disks, AreHonest, AreUnwritten, IsAtRest, KeepFound, HaveFailed, AreQuiet, SameHonesty}
-use Rattle.sb_first_node.specs.Recovery.{damaged, Recovers, recovered_on}
-use Rattle.sb_first_node.specs.Nodes.{IsDurable}
+use Rattle.sb_node.specs.Recovery.{damaged, Recovers, recovered_on}
+use Rattle.sb_node.specs.Nodes.{IsDurable}
 use Rattle.sb_bus.specs.Outside.{Input, Output, Outside}
 use Rattle.sb_bus.specs.declared.ending.RunEnd.{RunEnd}
 use Rattle.sb_bus.specs.declared.ending.RunEnd.TheVariants.{ReadFault, WriteFault, DiskFault, OutOfMemory, LongInput}

@@ -1,9 +1,9 @@
 -- Counts of faults, honesty and images of two disks, from one moment to the next.
-use Rattle.std.proofs.Common.{ℕ, ◌∙◌, inl, inr, subst}
+use Rattle.std.proofs.Common.{ℕ, ◌∙◌, inl, inr, subst, List}
 use Rattle.sb_outside.specs.Causes.{RoseByOne}
 use Rattle.sb_journal.specs.Disks.{Disks, AreQuiet, HaveFailed, SameHonesty}
-use Rattle.sb_first_node.specs.Nodes.{IsEither, StayEither}
-use Rattle.sb_first_machine.specs.declared.state.State.{State}
+use Rattle.sb_node.specs.Nodes.{IsOneOf, StayOneOf}
+use Rattle.sb_machine.specs.declared.state.State.{State}
 
 pub quiet_on : (was mid now : Disks) → AreQuiet was mid → AreQuiet mid now → AreQuiet was now
 quiet_on was mid now first next = (next.0 ∙ first.0, next.1 ∙ first.1)
@@ -16,5 +16,5 @@ pub honest_on : (was mid now : Disks) → SameHonesty was mid → SameHonesty mi
 honest_on was mid now first next = (next.0 ∙ first.0, next.1 ∙ first.1)
 
 -- what is so at each moment since is so now
-pub present_either : (was now : Disks) (before after : State) → StayEither was now before after → IsEither now before after
-present_either was now before after stay = λ x y left right. (stay.present x left).present y right
+pub present_one : (was now : Disks) (states : List State) → StayOneOf was now states → IsOneOf now states
+present_one was now states stay = λ x y left right. (stay.present x left).present y right

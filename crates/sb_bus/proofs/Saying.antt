@@ -9,7 +9,7 @@ use Rattle.sb_bus.specs.declared.script_line.ScriptLine.{ScriptLine}
 use Rattle.sb_bus.specs.declared.script_line.ScriptLine.TheVariants.{Blank, Malformed}
 use Rattle.sb_bus.specs.Limits.{max_line}
 use Rattle.sb_bus.specs.Lines.{is_blank, script_line, script_line_of}
-use Rattle.sb_script.specs.Lines.{line_of}
+use Rattle.sb_lines.specs.Lines.{line_of}
 
 short : (n : ℕ) → n ≤ 2097152 → nat_lt 2097152 n ≡ false
 short n le = grind (arith, nat_tests)

@@ -1,12 +1,14 @@
 // Answering a line of the script.
 ghost use Rattle.std.specs.Prelude.{◌≡◌, ◌≢◌, None, Ok, Err, OnOk, IfOk, IfErr};
 ghost use Rattle.sb_outside.specs.Streams.{Gains};
-ghost use Rattle.sb_script.specs.Replies.{answer_line};
+ghost use Rattle.sb_machine.specs.Consistent.{IsConsistent};
+ghost use Rattle.sb_machine.specs.Ordered.{IsActInOrder};
+ghost use Rattle.sb_lines.specs.Replies.{answer_line};
 ghost use Rattle.sb_journal.specs.Disks.{HaveFailed, AreQuiet, SameHonesty};
-ghost use Rattle.sb_first_node.specs.Nodes.{node_state, node_stopped, node_journal, node_disk_b, IsKept, IsEither, StayEither, node_disks};
+ghost use Rattle.sb_node.specs.Nodes.{node_state, node_stopped, node_disk_b, node_disks, IsKept, IsOneOf, StayOneOf};
 ghost use Rattle.sb_bus.specs.Outside.{output_of};
-ghost use Rattle.sb_bus.specs.Nodes.{IsSafe};
-ghost use Rattle.sb_bus.specs.Runs.{kind_of, state_by, IsAnswered};
+ghost use Rattle.sb_bus.specs.Lines.{IsLineInOrder};
+ghost use Rattle.sb_bus.specs.Runs.{kind_of, states_of, IsAnswered};
 ghost use Rattle.sb_bus.specs.Endings.{IsReplyCut, IsCutAt};
 ghost use Rattle.sb_bus.specs.declared.ending.RunEnd.TheVariants.{DiskFault};
 ghost use Rattle.sb_bus.specs.declared.script_line.ScriptLine.TheVariants.{Request};
@@ -14,11 +16,11 @@ ghost use Rattle.sb_bus.specs.declared.script_line.ScriptLine.TheVariants.{Reque
 use crate::ending::RunEnd;
 use crate::final_line::write_final_line;
 use crate::script_line::ScriptLine;
-use sb_first_machine::{Answer, Refusal, TimedCall};
-use sb_first_node::Node;
+use sb_lines::{disk_fault_line, out_of_memory_line, reply_line};
+use sb_machine::{Answer, Refusal, TimedCall};
 use sb_model::Text;
+use sb_node::Node;
 use sb_outside::{Disk, Sink, write_all};
-use sb_script::{disk_fault_line, out_of_memory_line, write_reply};
 use std::alloc::Global;
 
 /// What kind of answer a call got.
@@ -47,7 +49,7 @@ fn write_answer<K: Sink>(alloc: Global, answer: &Answer, output: &mut K) -> Resu
     ensures err { IfErr result (λ e. IsReplyCut (answer_line answer.now) (output_of K.Sink output.old) (output_of K.Sink output.new) e) }
     ensures passed { OnOk result (K.count output.new ≡ K.count output.old) }
 {
-    let Ok(line) = write_reply(alloc, answer) else {
+    let Ok(line) = reply_line(alloc, answer) else {
         return Err(RunEnd::OutOfMemory);
     };
     match write_all(output, line.as_bytes()) {
@@ -63,15 +65,18 @@ fn dispatch_call<D: Disk, K: Sink>(
     asked: &TimedCall,
     output: &mut K,
 ) -> Result<bool, RunEnd>
-    requires { node_stopped node.old ≡ None }
+    requires running { node_stopped node.old ≡ None }
+    requires consistent { IsConsistent (node_state node.old) }
+    requires order { IsActInOrder asked.now.call.act }
     ensures done { IfOk result (IsAnswered (node_state node.old) (Request asked.now) (output_of K.Sink output.old) (output_of K.Sink output.new) (node_state node.new)) }
     ensures cut { IfErr result (IsCutAt (node_state node.old) (Request asked.now) (output_of K.Sink output.old) (output_of K.Sink output.new) (node_state node.new)) }
     ensures running { OnOk result (node_stopped node.new ≡ None) }
-    ensures kept { IsSafe node.old → result ≢ Err DiskFault → IsKept (node_journal node.new) (node_state node.new) }
-    ensures undecided { IsSafe node.old → result ≡ Err DiskFault → IsEither (node_disks node.new) (node_state node.old) (state_by (node_state node.old) (Request asked.now)) }
+    ensures consistent { IsConsistent (node_state node.new) }
+    ensures kept { IsKept node.old → result ≢ Err DiskFault → IsKept node.new }
+    ensures undecided { IsKept node.old → result ≡ Err DiskFault → IsOneOf (node_disks node.new) (states_of (node_state node.old) (Request asked.now)) }
 
-    // At each moment a crash leads to the state before the line or to the one after it.
-    ensures any_moment { IsSafe node.old → StayEither (node_disks node.old) (node_disks node.new) (node_state node.old) (state_by (node_state node.old) (Request asked.now)) }
+    // At each moment a crash leads to the state before the line, to that with its tick or to the one after it.
+    ensures any_moment { IsKept node.old → StayOneOf (node_disks node.old) (node_disks node.new) (states_of (node_state node.old) (Request asked.now)) }
     ensures passed { OnOk result (AreQuiet (node_disks node.old) (node_disks node.new) × (K.count output.new ≡ K.count output.old)) }
     ensures disk_fault { result ≡ Err DiskFault → HaveFailed (node_disks node.old) (node_disks node.new) }
     ensures disk_quiet { IfErr result (λ e. e ≢ DiskFault → AreQuiet (node_disks node.old) (node_disks node.new)) }
@@ -106,15 +111,18 @@ pub fn dispatch_line<D: Disk, K: Sink>(
     line: ScriptLine,
     output: &mut K,
 ) -> Result<bool, RunEnd>
-    requires { node_stopped node.old ≡ None }
+    requires running { node_stopped node.old ≡ None }
+    requires consistent { IsConsistent (node_state node.old) }
+    requires order { IsLineInOrder line }
     ensures done { IfOk result (IsAnswered (node_state node.old) line (output_of K.Sink output.old) (output_of K.Sink output.new) (node_state node.new)) }
     ensures cut { IfErr result (IsCutAt (node_state node.old) line (output_of K.Sink output.old) (output_of K.Sink output.new) (node_state node.new)) }
     ensures running { OnOk result (node_stopped node.new ≡ None) }
-    ensures kept { IsSafe node.old → result ≢ Err DiskFault → IsKept (node_journal node.new) (node_state node.new) }
-    ensures undecided { IsSafe node.old → result ≡ Err DiskFault → IsEither (node_disks node.new) (node_state node.old) (state_by (node_state node.old) line) }
+    ensures consistent { IsConsistent (node_state node.new) }
+    ensures kept { IsKept node.old → result ≢ Err DiskFault → IsKept node.new }
+    ensures undecided { IsKept node.old → result ≡ Err DiskFault → IsOneOf (node_disks node.new) (states_of (node_state node.old) line) }
 
-    // At each moment a crash leads to the state before the line or to the one after it.
-    ensures any_moment { IsSafe node.old → StayEither (node_disks node.old) (node_disks node.new) (node_state node.old) (state_by (node_state node.old) line) }
+    // At each moment a crash leads to the state before the line, to that with its tick or to the one after it.
+    ensures any_moment { IsKept node.old → StayOneOf (node_disks node.old) (node_disks node.new) (states_of (node_state node.old) line) }
     ensures passed { OnOk result (AreQuiet (node_disks node.old) (node_disks node.new) × (K.count output.new ≡ K.count output.old)) }
     ensures disk_fault { result ≡ Err DiskFault → HaveFailed (node_disks node.old) (node_disks node.new) }
     ensures disk_quiet { IfErr result (λ e. e ≢ DiskFault → AreQuiet (node_disks node.old) (node_disks node.new)) }

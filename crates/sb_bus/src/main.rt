@@ -1,7 +1,7 @@
 //! The program `bus`: a message broker over a journal in a folder.
 //!
 //! It cuts its input into script lines, has each answered by a namespace over its journal
-//! (`sb_first_node`), and writes the reply line (`sb_script`). `top` is the whole program over whatever
+//! (`sb_node`), and writes the reply line (`sb_lines`). `top` is the whole program over whatever
 //! disks, streams, clock, doors and link it is handed, and its one contract says what a call does to
 //! them (`IsCarriedOut` in `specs/Tops.antt`); `outside` makes the real ones, and calls it.
 //!

@@ -1,14 +1,14 @@
 // What a line of the script asks for.
 ghost use Rattle.std.specs.Prelude.{◌≡◌, ◌≤◌, ℕ, List, length, IfOk};
 ghost use Rattle.sb_bus.specs.Limits.{max_line};
-ghost use Rattle.sb_bus.specs.Lines.{script_line, script_line_of};
+ghost use Rattle.sb_bus.specs.Lines.{script_line, script_line_of, IsLineInOrder};
 ghost use Rattle.sb_bus.specs.PartialLines.{StandsFor};
-ghost use Rattle.sb_script.specs.Lines.{line_of};
+ghost use Rattle.sb_lines.specs.Lines.{line_of};
 
 use crate::partial_line::{PartialLine, is_blank_line};
-use sb_first_machine::TimedCall;
+use sb_lines::{LineFault, read_line};
+use sb_machine::TimedCall;
 use sb_model::Text;
-use sb_script::{LineFault, read_line};
 use std::alloc::{AllocError, Global};
 
 /// What a line asks for: nothing, no call by the fault of a key, or a call.
@@ -20,7 +20,8 @@ pub enum ScriptLine {
 }
 
 fn parse_text(alloc: Global, text: &str) -> Result<ScriptLine, AllocError>
-    ensures { IfOk result (λ x. x ≡ script_line_of (line_of text.now)) }
+    ensures says { IfOk result (λ x. x ≡ script_line_of (line_of text.now)) }
+    ensures order { IfOk result IsLineInOrder }
 {
     match read_line(alloc, text) {
         Ok(call) => Ok(ScriptLine::Request(call)),
@@ -30,7 +31,8 @@ fn parse_text(alloc: Global, text: &str) -> Result<ScriptLine, AllocError>
 }
 
 fn parse_bytes(alloc: Global, line: &[u8]) -> Result<ScriptLine, AllocError>
-    ensures { length line.now ≤ max_line → IfOk result (λ x. x ≡ script_line line.now) }
+    ensures says { length line.now ≤ max_line → IfOk result (λ x. x ≡ script_line line.now) }
+    ensures order { IfOk result IsLineInOrder }
 {
     if is_blank_line(line) {
         return Ok(ScriptLine::Blank);
@@ -43,7 +45,8 @@ fn parse_bytes(alloc: Global, line: &[u8]) -> Result<ScriptLine, AllocError>
 
 /// What a line that was read asks for.
 pub fn parse_line(alloc: Global, partial: PartialLine) -> Result<ScriptLine, AllocError>
-    ensures { (line : List ℕ) → StandsFor partial line → IfOk result (λ x. x ≡ script_line line) }
+    ensures says { (line : List ℕ) → StandsFor partial line → IfOk result (λ x. x ≡ script_line line) }
+    ensures order { IfOk result IsLineInOrder }
 {
     match partial {
         PartialLine::Short(kept) => parse_bytes(alloc, &kept),

@@ -67,6 +67,27 @@ const RECEIVE_LOST: &str = r#"
 {"refused":"EntityNotFound"}
 "#;
 
+const RECEIVE_LOCKED: &str = r#"
+{"at":9,"do":"receive","from":"q","mode":"lock"}
+{"message":{"body":"a","delivery":1,"enqueued":5,"enqueued_seq":1,"props":{},"seq":1,"sys":{},"token":"a1b2c3d4-e5f6-0718-0000-000000000001","until":60009},"ok":"message"}
+"#;
+
+// The lock lives for a minute.
+const PEEK_HELD: &str = r#"
+{"at":60008,"do":"peek","from":"q","start":1,"count":1}
+{"copies":[{"body":"a","delivery":0,"enqueued":5,"enqueued_seq":1,"props":{},"seq":1,"state":"held","sys":{}}],"ok":"copies"}
+"#;
+
+const PEEK_FREED: &str = r#"
+{"at":60009,"do":"peek","from":"q","start":1,"count":1}
+{"copies":[{"body":"a","delivery":1,"enqueued":5,"enqueued_seq":1,"props":{},"seq":1,"state":"ready","sys":{}}],"ok":"copies"}
+"#;
+
+// Behind the end gate of three records: the fourth one, a tick at 60,009, and a closed gate.
+const TICK_RECORD: [u8; 23] = [
+    0x01, 0, 0, 0, 9, 0, 0, 0, 0, 0, 0, 0, 4, 0, 0, 0, 0, 0, 0, 0, 0xea, 0x69, 0,
+];
+
 // Lines that are refused.
 const BAD_LINES: &str = r#"
 [
@@ -221,6 +242,23 @@ fn later_runs_go_on(rt: HostRuntime) -> Result<(), Fail> {
     let taken = left_by(&rt, &left, &[RECEIVE_AGAIN, RECEIVE_NONE], 0)?;
     let after = left_by(&rt, &taken, &[RECEIVE_LOST], 1)?;
     assert_eq!(rt; after.as_slice(), taken.as_slice());
+    Ok(())
+}
+
+// Where a lock has ended by the time of a call, that is journaled before the call, once, and stays so in a later run.
+#[test]
+fn time_goes_on_first(rt: HostRuntime) -> Result<(), Fail> {
+    let held = left_by(&rt, &[], &[CREATE, SEND, RECEIVE_LOCKED], 0)?;
+    let same = left_by(&rt, &held, &[PEEK_HELD], 0)?;
+    assert_eq!(rt; same.as_slice(), held.as_slice());
+    let freed = left_by(&rt, &held, &[PEEK_FREED], 0)?;
+    let (front, end) = freed
+        .split_at_checked(held.len().saturating_sub(1))
+        .ok_or("the file goes on")?;
+    assert_eq!(rt; end, &TICK_RECORD[..]);
+    assert!(rt; held.starts_with(front));
+    let after = left_by(&rt, &freed, &[PEEK_FREED], 0)?;
+    assert_eq!(rt; after.as_slice(), freed.as_slice());
     Ok(())
 }
 

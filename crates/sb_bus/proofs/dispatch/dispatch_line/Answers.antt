@@ -1,9 +1,9 @@
-use Rattle.std.proofs.Common.{sym, subst}
-use Rattle.sb_first_node.specs.Nodes.{node_state, IsEither, StayEither, node_disks}
+use Rattle.std.proofs.Common.{[], sym, subst}
+use Rattle.sb_node.specs.Nodes.{node_state, node_journal, node_last, node_disks, IsOneOf, StayOneOf}
 use Rattle.sb_bus.specs.Outside.{output_of}
-use Rattle.sb_first_node.proofs.Crashes.{untouched_moments}
+use Rattle.sb_node.proofs.Crashes.{untouched_moments}
 use Rattle.sb_bus.specs.declared.script_line.ScriptLine.{ScriptLine}
-use Rattle.sb_bus.specs.Runs.{state_by}
+use Rattle.sb_bus.specs.Runs.{states_of}
 use Rattle.sb_bus.proofs.Cuts.{malformed_cut}
 use Rattle.sb_bus.proofs.Errors.{passed_on}
 use Rattle.sb_bus.proofs.dispatch.dispatch_line.Goals as goal
@@ -16,18 +16,24 @@ returns-in_err-write_answer-in-Malformed-clause-cut g c =
 pub returns-in-Request-clause-undecided : goal.returns-in-Request-clause-undecided
 returns-in-Request-clause-undecided g c safe failed =
     let s = node_state c.args.node.now in
-    subst (λ (x : ScriptLine). IsEither (node_disks c.dispatch_call.new.node) s (state_by s x)) (sym c.in-Request.is) (c.dispatch_call.ensures.undecided safe failed)
+    subst (λ (x : ScriptLine). IsOneOf (node_disks c.dispatch_call.new.node) (states_of s x)) (sym c.in-Request.is) (c.dispatch_call.ensures.undecided safe failed)
 
 pub returns-in-Request-clause-any_moment : goal.returns-in-Request-clause-any_moment
 returns-in-Request-clause-any_moment g c safe =
     let s = node_state c.args.node.now in
-    subst (λ (x : ScriptLine). StayEither (node_disks c.args.node.now) (node_disks c.dispatch_call.new.node) s (state_by s x)) (sym c.in-Request.is) (c.dispatch_call.ensures.any_moment safe)
+    subst (λ (x : ScriptLine). StayOneOf (node_disks c.args.node.now) (node_disks c.dispatch_call.new.node) (states_of s x)) (sym c.in-Request.is) (c.dispatch_call.ensures.any_moment safe)
 
 pub returns-in-Blank-clause-any_moment : goal.returns-in-Blank-clause-any_moment
-returns-in-Blank-clause-any_moment g c safe = untouched_moments _ _ _ safe
+returns-in-Blank-clause-any_moment g c safe =
+    let n = c.args.node.now in
+    subst (λ (x : ScriptLine). StayOneOf (node_disks n) (node_disks n) (states_of (node_state n) x)) (sym c.in-Blank.is) (untouched_moments (node_journal n) (node_last n) (node_state n) [] safe)
 
 pub returns-in_ok-write_answer-in-Malformed-clause-any_moment : goal.returns-in_ok-write_answer-in-Malformed-clause-any_moment
-returns-in_ok-write_answer-in-Malformed-clause-any_moment g c safe = untouched_moments _ _ _ safe
+returns-in_ok-write_answer-in-Malformed-clause-any_moment g c safe =
+    let n = c.args.node.now in
+    subst (λ (x : ScriptLine). StayOneOf (node_disks n) (node_disks n) (states_of (node_state n) x)) (sym c.in-Malformed.is) (untouched_moments (node_journal n) (node_last n) (node_state n) [] safe)
 
 pub returns-in_err-write_answer-in-Malformed-clause-any_moment : goal.returns-in_err-write_answer-in-Malformed-clause-any_moment
-returns-in_err-write_answer-in-Malformed-clause-any_moment g c safe = untouched_moments _ _ _ safe
+returns-in_err-write_answer-in-Malformed-clause-any_moment g c safe =
+    let n = c.args.node.now in
+    subst (λ (x : ScriptLine). StayOneOf (node_disks n) (node_disks n) (states_of (node_state n) x)) (sym c.in-Malformed.is) (untouched_moments (node_journal n) (node_last n) (node_state n) [] safe)

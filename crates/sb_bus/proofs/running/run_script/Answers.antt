@@ -1,8 +1,8 @@
 use Rattle.std.proofs.Common.{◌≡◌, ◌≢◌, Option, Err, refl, arith, sym, ◌∙◌, ap, subst}
 use Rattle.sb_journal.specs.Disks.{AreQuiet, HaveFailed}
-use Rattle.sb_first_node.specs.Nodes.{node_state, node_disks}
+use Rattle.sb_node.specs.Nodes.{node_state, node_disks, IsKept}
 use Rattle.sb_bus.specs.Outside.{output_of}
-use Rattle.sb_bus.specs.Nodes.{outside_with, IsSafe}
+use Rattle.sb_bus.specs.Nodes.{outside_with}
 use Rattle.sb_bus.specs.declared.partial_line.PartialLine.{PartialLine}
 use Rattle.sb_bus.specs.declared.ending.RunEnd.{RunEnd}
 use Rattle.sb_bus.specs.declared.ending.RunEnd.TheVariants.{DiskFault, OutOfMemory}
@@ -26,9 +26,9 @@ returns-then-is_done-clause-done g c =
     let was = outside_with g.S.Source g.K.Sink c.args.node.now c.args.input.now c.args.output.now in
     let now = outside_with g.S.Source g.K.Sink c.dispatch_line.new.node c.next_line.new.source c.dispatch_line.new.output in
     let reads = subst (λ (o : Option PartialLine). Reads o start so_far.input (pending_of c.lines.reader) left c.next_line.new.self) c.in-Ok-Some.field-0-is (c.in-Ok-Some.ensures.reads start so_far.input so_far.at) in
-    let run = runs_on _ (node_state c.lines.node) (node_state c.dispatch_line.new.node) start _ left _ (output_of g.K.Sink c.lines.output) (output_of g.K.Sink c.dispatch_line.new.output) c.lines.reader c.next_line.new.self c.lines.refused c.in_ok-was_refused.was_refused c.either-refused.result c.in-Ok-Some.partial c.in-Ok-parse_line.line so_far reads (c.in-Ok-parse_line.ensures reads.line reads.stands) c.in_ok-was_refused.ensures.done c.either-refused.ensures in
+    let run = runs_on _ (node_state c.lines.node) (node_state c.dispatch_line.new.node) start _ left _ (output_of g.K.Sink c.lines.output) (output_of g.K.Sink c.dispatch_line.new.output) c.lines.reader c.next_line.new.self c.lines.refused c.in_ok-was_refused.was_refused c.either-refused.result c.in-Ok-Some.partial c.in-Ok-parse_line.line so_far reads (c.in-Ok-parse_line.ensures.says reads.line reads.stands) c.in_ok-was_refused.ensures.done c.either-refused.ensures in
     let over = c.is_done.ensures.yes c.if-is_done.true in
-    is_over (IsSafe c.args.node.now) _ (node_state c.args.node.now) (node_state c.dispatch_line.new.node) was now c.next_line.new.self _ run over.0 over.1
+    is_over (IsKept c.args.node.now) _ (node_state c.args.node.now) (node_state c.dispatch_line.new.node) was now c.next_line.new.self _ run over.0 over.1
     (λ safe. followed_more (node_state c.args.node.now) (node_state c.lines.node) (script_lines so_far.done) c.in-Ok-parse_line.line (node_disks c.args.node.now) (node_disks c.lines.node) (node_disks c.dispatch_line.new.node) so_far.leads (c.lines.invariant.moments safe) (c.in_ok-was_refused.ensures.any_moment (c.lines.invariant.safe safe)))
 
 pub returns-then-is_done-clause-kept : goal.returns-then-is_done-clause-kept
@@ -42,7 +42,7 @@ returns-in-Ok-None-clause-done g c =
     let was = outside_with g.S.Source g.K.Sink c.args.node.now c.args.input.now c.args.output.now in
     let now = outside_with g.S.Source g.K.Sink c.lines.node c.next_line.new.source c.lines.output in
     let reads = subst (λ (o : Option PartialLine). Reads o start so_far.input (pending_of c.lines.reader) left c.next_line.new.self) c.in-Ok-None.field-0-is (c.in-Ok-None.ensures.reads start so_far.input so_far.at) in
-    ended_run (IsSafe c.args.node.now) (node_state c.args.node.now) (node_state c.lines.node) was now (g.S.Source.left c.lines.input) c.lines.reader c.next_line.new.self c.lines.refused so_far reads c.lines.invariant.moments
+    ended_run (IsKept c.args.node.now) (node_state c.args.node.now) (node_state c.lines.node) was now (g.S.Source.left c.lines.input) c.lines.reader c.next_line.new.self c.lines.refused so_far reads c.lines.invariant.moments
 
 pub lines-preserved : goal.lines-preserved
 lines-preserved g c =
@@ -50,13 +50,14 @@ lines-preserved g c =
     let start = g.S.Source.left c.args.input.now in
     let left = g.S.Source.left c.next_line.new.source in
     let reads = subst (λ (o : Option PartialLine). Reads o start so_far.input (pending_of c.lines.reader) left c.next_line.new.self) c.in-Ok-Some.field-0-is (c.in-Ok-Some.ensures.reads start so_far.input so_far.at) in
-    let run = runs_on _ (node_state c.lines.node) (node_state c.dispatch_line.new.node) start _ left _ (output_of g.K.Sink c.lines.output) (output_of g.K.Sink c.dispatch_line.new.output) c.lines.reader c.next_line.new.self c.lines.refused c.in_ok-was_refused.was_refused c.either-refused.result c.in-Ok-Some.partial c.in-Ok-parse_line.line so_far reads (c.in-Ok-parse_line.ensures reads.line reads.stands) c.in_ok-was_refused.ensures.done c.either-refused.ensures in
+    let run = runs_on _ (node_state c.lines.node) (node_state c.dispatch_line.new.node) start _ left _ (output_of g.K.Sink c.lines.output) (output_of g.K.Sink c.dispatch_line.new.output) c.lines.reader c.next_line.new.self c.lines.refused c.in_ok-was_refused.was_refused c.either-refused.result c.in-Ok-Some.partial c.in-Ok-parse_line.line so_far reads (c.in-Ok-parse_line.ensures.says reads.line reads.stands) c.in_ok-was_refused.ensures.done c.either-refused.ensures in
     let still = still_runs _ _ _ _ _ _ _ c.next_line.new.self _ c.is_done.result run c.if-is_done.false c.is_done.ensures.no in
     record {
       so_far = still.0;
       moments = λ safe. followed_says (node_state c.args.node.now) _ _ (node_disks c.args.node.now) (node_disks c.dispatch_line.new.node) (sym still.1) (followed_more (node_state c.args.node.now) (node_state c.lines.node) (script_lines so_far.done) c.in-Ok-parse_line.line (node_disks c.args.node.now) (node_disks c.lines.node) (node_disks c.dispatch_line.new.node) so_far.leads (c.lines.invariant.moments safe) (c.in_ok-was_refused.ensures.any_moment (c.lines.invariant.safe safe)));
       fits = c.in-Ok-Some.ensures.fits;
       running = c.in_ok-was_refused.ensures.running;
+      consistent = c.in_ok-was_refused.ensures.consistent;
       safe = λ before. c.in_ok-was_refused.ensures.kept (c.lines.invariant.safe before) (λ e. absurd cc);
       read_same = c.in-Ok-Some.ensures.passed ∙ c.lines.invariant.read_same;
       write_same = c.in_ok-was_refused.ensures.passed.1 ∙ c.lines.invariant.write_same;
@@ -66,7 +67,7 @@ lines-preserved g c =
     }
 
 pub returns-in_default-clause-cut : goal.returns-in_default-clause-cut
-returns-in_default-clause-cut g c = cut_at_once (IsSafe c.args.node.now) (node_state c.args.node.now) (outside_with g.S.Source g.K.Sink c.args.node.now c.args.input.now c.args.output.now)
+returns-in_default-clause-cut g c = cut_at_once (IsKept c.args.node.now) (node_state c.args.node.now) (outside_with g.S.Source g.K.Sink c.args.node.now c.args.input.now c.args.output.now)
 
 pub returns-in-Err-clause-cut : goal.returns-in-Err-clause-cut
 returns-in-Err-clause-cut g c =
@@ -77,7 +78,7 @@ returns-in-Err-clause-cut g c =
     let end : c.end_of.result ≡ end_of_reading c.in-Err.end = c.end_of.ensures in
     let none = c.in-Err.ensures.ahead start so_far.input so_far.at in
     let taken = taken_behind was.input now.input so_far.done (pending_of c.lines.reader) so_far.input none.more (end_of_reading c.in-Err.end) so_far.split none.took none.is_ahead in
-    cut_between (IsSafe c.args.node.now) (node_state c.args.node.now) (node_state c.lines.node) was now (g.S.Source.left c.lines.input) c.lines.reader c.lines.refused c.end_of.result so_far c.lines.invariant.moments (subst IsBetween (sym end) (reading_between c.in-Err.end)) c.lines.invariant.write_same
+    cut_between (IsKept c.args.node.now) (node_state c.args.node.now) (node_state c.lines.node) was now (g.S.Source.left c.lines.input) c.lines.reader c.lines.refused c.end_of.result so_far c.lines.invariant.moments (subst IsBetween (sym end) (reading_between c.in-Err.end)) c.lines.invariant.write_same
     (subst (λ (e : RunEnd). IsTaken was.input now.input (script_lines so_far.done) e) (sym end) taken) (λ is. c.in-Err.ensures.long start so_far.input so_far.at (ap Err (reading_long c.in-Err.end (sym end ∙ is))))
 
 pub returns-in_default-parse_line-clause-cut : goal.returns-in_default-parse_line-clause-cut
@@ -89,7 +90,7 @@ returns-in_default-parse_line-clause-cut g c =
     let now = outside_with g.S.Source g.K.Sink c.lines.node c.next_line.new.source c.lines.output in
     let reads = subst (λ (o : Option PartialLine). Reads o start so_far.input (pending_of c.lines.reader) left c.next_line.new.self) c.in-Ok-Some.field-0-is (c.in-Ok-Some.ensures.reads start so_far.input so_far.at) in
     let taken = taken_behind was.input now.input so_far.done (pending_of c.lines.reader) so_far.input reads.more OutOfMemory so_far.split reads.at.took (line_ahead _ reads.line c.next_line.new.self reads.no_feed reads.next) in
-    cut_between (IsSafe c.args.node.now) (node_state c.args.node.now) (node_state c.lines.node) was now (g.S.Source.left c.lines.input) c.lines.reader c.lines.refused OutOfMemory so_far c.lines.invariant.moments tt c.lines.invariant.write_same taken (λ e. absurd cc)
+    cut_between (IsKept c.args.node.now) (node_state c.args.node.now) (node_state c.lines.node) was now (g.S.Source.left c.lines.input) c.lines.reader c.lines.refused OutOfMemory so_far c.lines.invariant.moments tt c.lines.invariant.write_same taken (λ e. absurd cc)
 
 pub returns-in_err-was_refused-clause-cut : goal.returns-in_err-was_refused-clause-cut
 returns-in_err-was_refused-clause-cut g c =
@@ -101,7 +102,7 @@ returns-in_err-was_refused-clause-cut g c =
     let now = outside_with g.S.Source g.K.Sink c.dispatch_line.new.node c.next_line.new.source c.dispatch_line.new.output in
     let reads = subst (λ (o : Option PartialLine). Reads o start so_far.input (pending_of c.lines.reader) left c.next_line.new.self) c.in-Ok-Some.field-0-is (c.in-Ok-Some.ensures.reads start so_far.input so_far.at) in
     passed_on _ c.in_err-was_refused.field-0.0 c.from_residual.result c.from_residual.ensures
-    (cut_at_line (IsSafe c.args.node.now) (node_state c.args.node.now) (node_state c.lines.node) (node_state c.dispatch_line.new.node) was on now c.lines.reader c.next_line.new.self c.lines.refused c.in_err-was_refused.field-0.0 c.in-Ok-Some.partial c.in-Ok-parse_line.line so_far reads (c.in-Ok-parse_line.ensures reads.line reads.stands)
+    (cut_at_line (IsKept c.args.node.now) (node_state c.args.node.now) (node_state c.lines.node) (node_state c.dispatch_line.new.node) was on now c.lines.reader c.next_line.new.self c.lines.refused c.in_err-was_refused.field-0.0 c.in-Ok-Some.partial c.in-Ok-parse_line.line so_far reads (c.in-Ok-parse_line.ensures.says reads.line reads.stands)
     c.in_err-was_refused.ensures.cut c.lines.invariant.write_same (λ safe failed. c.in_err-was_refused.ensures.undecided (c.lines.invariant.safe safe) (ap Err failed)) c.lines.invariant.moments (λ safe. c.in_err-was_refused.ensures.any_moment (c.lines.invariant.safe safe)))
 
 pub returns-in_err-was_refused-clause-kept : goal.returns-in_err-was_refused-clause-kept
@@ -115,7 +116,8 @@ lines-init g c =
       so_far = yet.0;
       moments = λ safe. followed_says _ _ _ (node_disks c.args.node.now) (node_disks c.args.node.now) (sym yet.1) refl;
       fits = omega (arith, c.in-Ok.ensures.3);
-      running = c.requires;
+      running = c.requires.running;
+      consistent = c.requires.consistent;
       safe = λ safe. safe;
       read_same = refl;
       write_same = refl;
