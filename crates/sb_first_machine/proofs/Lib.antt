@@ -1,3 +1,0 @@
-pub mod Consistency
-pub mod Histories
-pub mod Replaced

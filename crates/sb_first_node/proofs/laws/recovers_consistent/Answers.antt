@@ -1,5 +1,0 @@
-use Rattle.sb_first_node.proofs.Recovered.{recovers_consistent}
-use Rattle.sb_first_node.proofs.laws.recovers_consistent.Goals as goal
-
-pub returns : goal.returns
-returns c = recovers_consistent

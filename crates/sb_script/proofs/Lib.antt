@@ -1,3 +1,0 @@
-pub mod UnknownKeys
-pub mod Floats
-pub mod OneLine

@@ -1,7 +1,0 @@
-use Rattle.std.proofs.Common.{◌≡◌, map, take}
-use Rattle.serde_json.specs.View.{view}
-use Rattle.sb_script.specs.Shown.{shown_data}
-use Rattle.sb_script.proofs.reply.copies_value.Given as goal
-
-abbrev pub invariant-loop-copy : goal.invariant-loop-copy
-invariant-loop-copy l = map view l.items.items ≡ map shown_data (take l.copy-index l.copies)

@@ -1,7 +1,0 @@
-use Rattle.std.proofs.Common.{◌≡◌, map, take}
-use Rattle.serde_json.specs.View.{view}
-use Rattle.sb_script.specs.Replies.{receipt_data}
-use Rattle.sb_script.proofs.reply.receipts_value.Given as goal
-
-abbrev pub invariant-loop-receipt : goal.invariant-loop-receipt
-invariant-loop-receipt l = map view l.items.items ≡ map receipt_data (take l.receipt-index l.receipts)

@@ -1,5 +1,0 @@
-use Rattle.sb_script.proofs.Floats.{answer_whole}
-use Rattle.sb_script.proofs.reply.write_reply.Goals as goal
-
-pub line_text-requires : goal.line_text-requires
-line_text-requires c = rw c.in_ok-value.ensures (answer_whole c.args.answer.now)
