@@ -22,6 +22,8 @@ mod limits;
 mod outside;
 mod partial_line;
 mod reader;
+#[cfg(test)]
+mod rows;
 mod running;
 mod script_line;
 #[cfg(test)]

@@ -212,7 +212,12 @@ fn leaves(rt: &HostRuntime, case: Case<'_>) -> Result<Vec<u8>, Fail> {
 }
 
 // The bytes that a run over these rows leaves, each line of which is answered.
-fn left_by(rt: &HostRuntime, disk: &[u8], parts: &[&str], status: u8) -> Result<Vec<u8>, Fail> {
+pub(crate) fn left_by(
+    rt: &HostRuntime,
+    disk: &[u8],
+    parts: &[&str],
+    status: u8,
+) -> Result<Vec<u8>, Fail> {
     let rows = rows_of(rt, parts)?;
     let case = Case {
         words: &RUN,
