@@ -1,6 +1,6 @@
 // Scripts of all acts, worked out by hand: rows of two lines, one that is read, and the one that answers
 // it.
-use crate::tests::left_by;
+use crate::tests::{ONE_EVENT, left_by, left_by_bytes};
 use std::test::Fail;
 
 // A lock lives up to its last moment.
@@ -684,5 +684,50 @@ fn later_runs_find_what_was_done(rt: HostRuntime) -> Result<(), Fail> {
     let numbered = left_by(&rt, &[], &[NUMBERED], 0)?;
     left_by(&rt, &numbered, &[REPEATED], 1)?;
     left_by(&rt, &[], &[MADE_AGAIN], 1)?;
+    Ok(())
+}
+
+const NOT_MADE: &str = r#"
+{"do":"counts","entity":"q"}
+{"refused":"EntityNotFound"}
+"#;
+
+const MADE: &str = r#"
+{"do":"counts","entity":"q"}
+{"counts":{"dead":0,"main":0,"transfer":0},"ok":"counts"}
+"#;
+
+// The device calls of the append of one event: a write behind the gate, a sync, the gate's write, a
+// sync. What was written since the last sync holds any bytes where the machine stops.
+#[test]
+fn an_append_stops(rt: HostRuntime) -> Result<(), Fail> {
+    let alloc = rt.alloc();
+    let head = &ONE_EVENT[..42];
+    let record = &ONE_EVENT[43..];
+    let rows: [(u8, &str, u8); 2] = [(0xff, NOT_MADE, 1), (0x01, MADE, 0)];
+    for row in &rows {
+        let (fill, gate_torn, status) = *row;
+        let tail = [fill; 44];
+        let first = [head, &[0], &tail].concat(alloc)?;
+        left_by(&rt, &first, &[NOT_MADE], 1)?;
+        let third = [head, &[fill], record].concat(alloc)?;
+        left_by(&rt, &third, &[gate_torn], status)?;
+    }
+    let second = [head, &[0], record].concat(alloc)?;
+    left_by(&rt, &second, &[NOT_MADE], 1)?;
+    left_by(&rt, &ONE_EVENT, &[MADE], 0)?;
+    Ok(())
+}
+
+// A body of one byte more than there may be.
+#[test]
+fn a_body_is_too_large(rt: HostRuntime) -> Result<(), Fail> {
+    let alloc = rt.alloc();
+    let body = vec![in alloc; b'a'; 262_145]?;
+    let begin = br#"{"do":"send","to":"q","messages":[{"body":""#;
+    let script = [&begin[..], &body, br#""}]}"#].concat(alloc)?;
+    let told = b"{\"refused\":\"TooLarge\",\"size\":262145}\n";
+    let after = left_by_bytes(&rt, &ONE_EVENT, &script, told, 1)?;
+    assert_eq!(rt; after.as_slice(), &ONE_EVENT[..]);
     Ok(())
 }

@@ -10,7 +10,7 @@ const RUN: [&str; 3] = ["run", "--data", "."];
 const SALT: u64 = 0xa1b2_c3d4_e5f6_0718;
 
 // The journal of the queue q that was made at moment 0.
-const ONE_EVENT: [u8; 87] = [
+pub(crate) const ONE_EVENT: [u8; 87] = [
     0x01, 0x53, 0x42, 0x4e, 0x53, 0x4a, 0x52, 0x4e, 0x4c, 0x01, 0xa1, 0xb2, 0xc3, 0xd4, 0xe5, 0xf6,
     0x07, 0x18, 0, 0, 0, 0, 0, 0, 0, 1, 0, 0, 0, 0, 0, 0, 0, 1, 0, 0, 0, 0, 0, 0, 0, 0, 0x01, 0, 0,
     0, 0x1f, 0, 0, 0, 0, 0, 0, 0, 1, 0x01, 0, 0, 0, 0, 0, 0, 0, 0, 0, 0x01, 0, 0, 0, 1, 0x71, 0, 0,
@@ -276,7 +276,26 @@ fn refused_lines_change_nothing(rt: HostRuntime) -> Result<(), Fail> {
     Ok(())
 }
 
-// The bytes that a run over this text, answered so, leaves.
+// The bytes that a run over these, answered so, leaves.
+pub(crate) fn left_by_bytes(
+    rt: &HostRuntime,
+    disk: &[u8],
+    script: &[u8],
+    told: &[u8],
+    status: u8,
+) -> Result<Vec<u8>, Fail> {
+    let case = Case {
+        words: &RUN,
+        disk,
+        failing: NOTHING,
+        script,
+        told,
+        status,
+    };
+    leaves(rt, case)
+}
+
+// The same of texts.
 fn left_by_text(
     rt: &HostRuntime,
     disk: &[u8],
@@ -284,15 +303,7 @@ fn left_by_text(
     told: &str,
     status: u8,
 ) -> Result<Vec<u8>, Fail> {
-    let case = Case {
-        words: &RUN,
-        disk,
-        failing: NOTHING,
-        script: script.as_bytes(),
-        told: told.as_bytes(),
-        status,
-    };
-    leaves(rt, case)
+    left_by_bytes(rt, disk, script.as_bytes(), told.as_bytes(), status)
 }
 
 // The first bytes with one of them changed.
