@@ -7,30 +7,43 @@ use Rattle.sb_journal.specs.declared.found.OpenWhy.{OpenWhy}
 use Rattle.sb_journal.specs.declared.found.OpenWhy.TheVariants.{Damaged, DiskFault as FailedDisk, OutOfMemory as NoMemory}
 use Rattle.sb_machine.specs.declared.state.State.{State}
 use Rattle.sb_journal.specs.Disks.{Disks, AreHonest, AreUnwritten, IsAtRest, KeepFound, HaveFailed, AreQuiet, SameHonesty}
-use Rattle.sb_node.specs.Recovery.{damaged, Recovers, recovered_on}
+use Rattle.sb_engine.specs.Engines.{summary_of}
+use Rattle.sb_node.specs.Recovery.{damaged, recovers, Recovers, recovered_on}
 use Rattle.sb_node.specs.Nodes.{IsDurable}
 use Rattle.sb_bus.specs.Outside.{Input, Output, Outside}
 use Rattle.sb_bus.specs.declared.ending.RunEnd.{RunEnd}
 use Rattle.sb_bus.specs.declared.ending.RunEnd.TheVariants.{ReadFault, WriteFault, DiskFault, OutOfMemory, LongInput}
+use Rattle.sb_bus.specs.declared.command.Command.{Command}
+use Rattle.sb_bus.specs.declared.command.Command.TheVariants.{Run, Check}
+use Rattle.sb_bus.specs.Words.{command_in}
+use Rattle.sb_bus.specs.Checks.{check_line, IsTold, IsLineTold}
 use Rattle.sb_bus.specs.Taking.{IsLong}
 use Rattle.sb_bus.specs.Runs.{IsScriptRun, state_after_all, status_by}
 use Rattle.sb_bus.specs.Endings.{LastLine, IsLineWritten, EndsAt, IsCutRun, status_of_end}
-use Rattle.sb_bus.specs.Tops.{folder_in, IsEarly, IsUnopened, IsRefused, IsDamageReported, usage_line, IsRunStatus, IsStatus, IsShort, IsFree, IsComplete, IsCarriedOut}
+use Rattle.sb_bus.specs.Tops.{IsCheck, IsEarly, IsUnopened, IsRefused, IsDamageReported, usage_line, IsRunStatus, IsStatus, IsShort, IsFree, IsComplete, IsCarriedOut}
 use Rattle.sb_bus.proofs.Faults.{quiet_on, failed_on, honest_on}
 use Rattle.sb_bus.proofs.Statuses.{no_five, no_disk_end, no_two_whole, no_two_end}
 use Rattle.sb_bus.proofs.Whole.{IsOpened, opened, whole_run}
 use Rattle.sb_bus.proofs.Early.{early_run}
 
-no_some : (words : List (List ℕ)) (P : Type 0) → folder_in words ≡ None → IsSome (folder_in words) → P
-no_some words P none some = let other : IsSome {T = List ℕ} None = subst (λ (o : Option (List ℕ)). IsSome o) none some in absurd cc
+-- the words name one command at most
+no_some : (words : List (List ℕ)) (P : Type 0) → command_in words ≡ None → IsSome (command_in words) → P
+no_some words P none some = let other : IsSome {T = Command} None = subst (λ (o : Option Command). IsSome o) none some in absurd cc
+
+unnamed : (words : List (List ℕ)) (command : Command) (P : Type 0) → command_in words ≡ None → command_in words ≡ Some command → P
+unnamed words command P none some = let other : None ≡ Some command = sym none ∙ some in absurd cc
+
+no_run : (words : List (List ℕ)) (P : Type 0) → command_in words ≡ Some Check → command_in words ≡ Some Run → P
+no_run words P check run = let other : Some Check ≡ Some Run = sym check ∙ run in absurd cc
 
 -- ---- words that name nothing
 
-pub usage_alone : (words : List (List ℕ)) (salt : ℕ) (was : Outside) (output : Output) → folder_in words ≡ None → IsLineWritten usage_line was.output output → IsCarriedOut words salt was (record was { output = output }) 2
+pub usage_alone : (words : List (List ℕ)) (salt : ℕ) (was : Outside) (output : Output) → command_in words ≡ None → IsLineWritten usage_line was.output output → IsCarriedOut words salt was (record was { output = output }) 2
 usage_alone words salt was output none written = record {
-  whole = λ refused is. no_two_whole refused _ is;
-  early = λ end is. no_two_end end _ is;
+  whole = λ named refused is. no_two_whole refused _ is;
+  early = λ named end is. no_two_end end _ is;
   long = λ ten. absurd cc;
+  checked = λ named. unnamed words Check _ none named;
   broken = λ six. absurd cc;
   usage = (λ two. none, λ nothing. refl);
   usage_written = λ two. written;
@@ -120,15 +133,21 @@ no_whole_above : (status : ℕ) (refused : Bool) (P : Type 0) → 5 ≤ status �
 no_whole_above status false P low is = absurd (omega (arith, low, is))
 no_whole_above status true P low is = absurd (omega (arith, low, is))
 
-pub not_opened : (words : List (List ℕ)) (folder : List ℕ) (salt : ℕ) (was : Outside) (disks : Disks) (output : Output) (why : OpenWhy) (status : ℕ) → folder_in words ≡ Some folder → IsFailed salt was.disks disks was.output output why status → IsCarriedOut words salt was (record was { output = output; disks = disks }) status
-not_opened words folder salt was disks output why status some fails =
+check_unopened : (salt : ℕ) (was : Outside) (disks : Disks) (output : Output) (why : OpenWhy) (status : ℕ) → IsFailed salt was.disks disks was.output output why status → IsFailedStatus status → IsCheck salt was (record was { output = output; disks = disks }) status
+check_unopened salt was disks output why status fails (inl five) = inr (inl (DiskFault, five, unopened_by salt was disks output why status fails DiskFault five))
+check_unopened salt was disks output why status fails (inr (inl six)) = inr (inr six)
+check_unopened salt was disks output why status fails (inr (inr seven)) = inr (inl (OutOfMemory, seven, unopened_by salt was disks output why status fails OutOfMemory seven))
+
+pub not_opened : (words : List (List ℕ)) (command : Command) (salt : ℕ) (was : Outside) (disks : Disks) (output : Output) (why : OpenWhy) (status : ℕ) → command_in words ≡ Some command → IsFailed salt was.disks disks was.output output why status → IsCarriedOut words salt was (record was { output = output; disks = disks }) status
+not_opened words command salt was disks output why status some fails =
     let range = between status fails.known in
     record {
-      whole = λ refused is. no_whole_above status refused _ range.0 is;
-      early = λ end is. inl (unopened_by salt was disks output why status fails end is);
+      whole = λ named refused is. no_whole_above status refused _ range.0 is;
+      early = λ named end is. inl (unopened_by salt was disks output why status fails end is);
       long = λ ten. absurd (omega (arith, ten, range.1));
+      checked = λ named. check_unopened salt was disks output why status fails fails.known;
       broken = λ six. refused_by salt was disks output why fails.broken fails.untouched fails.rests (fails.damage six);
-      usage = (λ two. absurd (omega (arith, two, range.0)), λ none. let other : Some folder ≡ None = sym some ∙ none in absurd cc);
+      usage = (λ two. absurd (omega (arith, two, range.0)), λ none. unnamed words _ _ none some);
       usage_written = λ two. absurd (omega (arith, two, range.0));
       known = known_unopened status fails.known;
       read_fault = λ three. absurd (omega (arith, three, range.0));
@@ -206,13 +225,14 @@ complete_by Safe salt was now ready start state status same runs free = by_statu
     by_status (inl whole) = inl whole
     by_status (inr end) = by_end end.0 end.1
 
-pub run_over : (words : List (List ℕ)) (folder : List ℕ) (Safe : Type 0) (salt : ℕ) (was now : Outside) (ready : Disks) (start state : State) (status : ℕ) → folder_in words ≡ Some folder → IsOpened Safe salt was.disks ready start → IsEnded Safe salt start (opened was ready) now state status → IsCarriedOut words salt was now status
-run_over words folder Safe salt was now ready start state status some opening runs = record {
-  whole = λ refused is. whole_run Safe salt was now ready start state refused status opening (runs.done refused is) (λ honest. runs.recovers (opening.safe honest) (no_five refused status is)) (λ honest. runs.durable (opening.safe honest) (no_five refused status is)) is;
-  early = λ end is. inr (early_run Safe salt was now ready start state end opening (runs.cut end is) (λ honest sound. runs.recovers (opening.safe honest) (no_disk_end end status is sound)) (λ honest sound. runs.durable (opening.safe honest) (no_disk_end end status is sound)));
+pub run_over : (words : List (List ℕ)) (Safe : Type 0) (salt : ℕ) (was now : Outside) (ready : Disks) (start state : State) (status : ℕ) → command_in words ≡ Some Run → IsOpened Safe salt was.disks ready start → IsEnded Safe salt start (opened was ready) now state status → IsCarriedOut words salt was now status
+run_over words Safe salt was now ready start state status some opening runs = record {
+  whole = λ named refused is. whole_run Safe salt was now ready start state refused status opening (runs.done refused is) (λ honest. runs.recovers (opening.safe honest) (no_five refused status is)) (λ honest. runs.durable (opening.safe honest) (no_five refused status is)) is;
+  early = λ named end is. inr (early_run Safe salt was now ready start state end opening (runs.cut end is) (λ honest sound. runs.recovers (opening.safe honest) (no_disk_end end status is sound)) (λ honest sound. runs.durable (opening.safe honest) (no_disk_end end status is sound)));
   long = λ ten. (runs.cut LongInput ten).long refl;
+  checked = λ named. no_run words _ named some;
   broken = λ six. absurd (no_six status runs.known six);
-  usage = (λ two. absurd (no_two status runs.known two), λ none. let other : Some folder ≡ None = sym some ∙ none in absurd cc);
+  usage = (λ two. absurd (no_two status runs.known two), λ none. unnamed words _ _ none some);
   usage_written = λ two. absurd (no_two status runs.known two);
   known = inl runs.known;
   read_fault = runs.read_fault;
@@ -224,3 +244,72 @@ run_over words folder Safe salt was now ready start state status some opening ru
   complete = λ named honest free. complete_by Safe salt was now ready start state status opening.quiet runs free;
   honesty = honest_on was.disks ready now.disks opening.honesty runs.honesty;
 }
+
+-- ---- a check
+
+told_status : (line part : List ℕ) (before now status : ℕ) → IsTold line part before now status → (status ≡ 0) ⊎ ((status ≡ 4) ⊎ (status ≡ 7))
+told_status line part before now status (inl is) = inl is.0
+told_status line part before now status (inr (inl is)) = inr (inl is.0)
+told_status line part before now status (inr (inr is)) = inr (inr is.0)
+
+-- no other status
+not_told : (status : ℕ) → (status ≡ 0) ⊎ ((status ≡ 4) ⊎ (status ≡ 7)) → (status ≢ 2) × (status ≢ 3) × (status ≢ 5) × (status ≢ 6) × (status ≢ 10)
+not_told status (inl is) = (λ e. omega (arith, is, e), λ e. omega (arith, is, e), λ e. omega (arith, is, e), λ e. omega (arith, is, e), λ e. omega (arith, is, e))
+not_told status (inr (inl is)) = (λ e. omega (arith, is, e), λ e. omega (arith, is, e), λ e. omega (arith, is, e), λ e. omega (arith, is, e), λ e. omega (arith, is, e))
+not_told status (inr (inr is)) = (λ e. omega (arith, is, e), λ e. omega (arith, is, e), λ e. omega (arith, is, e), λ e. omega (arith, is, e), λ e. omega (arith, is, e))
+
+told_known : (status : ℕ) → (status ≡ 0) ⊎ ((status ≡ 4) ⊎ (status ≡ 7)) → IsStatus status
+told_known status (inl is) = inl (inl (false, is))
+told_known status (inr (inl is)) = inl (inr (WriteFault, is))
+told_known status (inr (inr is)) = inl (inr (OutOfMemory, is))
+
+told_fault : (line part : List ℕ) (before now status : ℕ) → IsTold line part before now status → status ≡ 4 → RoseByOne before now
+told_fault line part before now status (inl is) four = absurd (omega (arith, is.0, four))
+told_fault line part before now status (inr (inl is)) four = is.2
+told_fault line part before now status (inr (inr is)) four = absurd (omega (arith, is.0, four))
+
+told_quiet : (line part : List ℕ) (before now status : ℕ) (refused : Bool) → IsTold line part before now status → status ≡ status_by refused → now ≡ before
+told_quiet line part before now status refused (inl is) by = is.2
+told_quiet line part before now status false (inr (inl is)) by = absurd (omega (arith, is.0, by))
+told_quiet line part before now status true (inr (inl is)) by = absurd (omega (arith, is.0, by))
+told_quiet line part before now status refused (inr (inr is)) by = is.2
+
+told_complete : (line part : List ℕ) (before now status : ℕ) → IsTold line part before now status → (Rose before now → ⊥) → IsComplete status
+told_complete line part before now status (inl is) quiet = inl (false, is.0)
+told_complete line part before now status (inr (inl is)) quiet = absurd (quiet (rose_of _ _ is.2))
+told_complete line part before now status (inr (inr is)) quiet = inr is.0
+
+pub check_over : (words : List (List ℕ)) (Safe : Type 0) (salt last : ℕ) (was : Outside) (ready : Disks) (output : Output) (start : State) (status : ℕ) → command_in words ≡ Some Check → IsOpened Safe salt was.disks ready start → (Safe → recovered_on ready salt ≡ recovers start last)
+    → IsLineTold (check_line (summary_of start last)) was.output output status → IsCarriedOut words salt was (record was { output = output; disks = ready }) status
+check_over words Safe salt last was ready output start status some opening kept told =
+    let line = check_line (summary_of start last) in
+    let is = told_status line told.part was.output.faults output.faults status told.is in
+    let none = not_told status is in
+    record {
+      whole = λ named. no_run words _ some named;
+      early = λ named. no_run words _ some named;
+      long = λ ten. absurd (none.4 ten);
+      checked = λ named. inl (record {
+        start = start;
+        last = last;
+        found = opening.found;
+        consistent = opening.consistent;
+        told = told;
+        unread = refl;
+        kept = λ honest. kept (opening.safe honest);
+        durable = opening.holds;
+        moments = opening.opens;
+      });
+      broken = λ six. absurd (none.3 six);
+      usage = (λ two. absurd (none.0 two), λ nothing. unnamed words Check _ nothing some);
+      usage_written = λ two. absurd (none.0 two);
+      known = told_known status is;
+      read_fault = λ three. absurd (none.1 three);
+      read_quiet = λ other. refl;
+      write_fault = told_fault line told.part was.output.faults output.faults status told.is;
+      write_quiet = λ refused by. told_quiet line told.part was.output.faults output.faults status refused told.is by;
+      disk_fault = λ five. absurd (none.2 five);
+      disk_quiet = λ other. opening.quiet;
+      complete = λ named honest free. told_complete line told.part was.output.faults output.faults status told.is free.output_quiet;
+      honesty = opening.honesty;
+    }

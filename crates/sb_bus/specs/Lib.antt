@@ -7,4 +7,6 @@ pub mod Readers
 pub mod Nodes
 pub mod Runs
 pub mod Endings
+pub mod Words
+pub mod Checks
 pub mod Tops

@@ -1,4 +1,13 @@
-// What a command needs of the outside, and what is wrong with words.
+// The commands, what one needs of the outside, and what is wrong with words.
+/// What a call of the program is to do.
+#[derive(Clone, Copy, Debug, PartialEq, Eq)]
+pub enum Command {
+    /// Answer the script lines of the input.
+    Run,
+    /// Tell the numbers of the namespace.
+    Check,
+}
+
 /// What a command needs of the outside.
 #[derive(Debug, Drop)]
 pub struct Needs {

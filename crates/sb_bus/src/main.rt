@@ -14,6 +14,7 @@
 
 #[cfg(test)]
 mod adapter_tests;
+mod checking;
 mod command;
 mod dispatch;
 mod ending;

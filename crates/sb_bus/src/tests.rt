@@ -6,6 +6,8 @@ use std::test::Fail;
 
 const RUN: [&str; 3] = ["run", "--data", "."];
 
+const CHECK: [&str; 3] = ["check", "--data", "."];
+
 // That of the journal whose bytes docs/FORMATS.md has.
 const SALT: u64 = 0xa1b2_c3d4_e5f6_0718;
 
@@ -87,6 +89,20 @@ const PEEK_FREED: &str = r#"
 const TICK_RECORD: [u8; 23] = [
     0x01, 0, 0, 0, 9, 0, 0, 0, 0, 0, 0, 0, 4, 0, 0, 0, 0, 0, 0, 0, 0xea, 0x69, 0,
 ];
+
+// A queue with one message, deleted, and made and sent to again.
+const MADE_AGAIN: &str = r#"
+{"at":0,"do":"create-queue","name":"q"}
+{"ok":"done"}
+{"at":0,"do":"send","to":"q","messages":[{"body":"a"}]}
+{"numbers":[1],"ok":"sent"}
+{"at":0,"do":"delete","entity":"q"}
+{"ok":"done"}
+{"at":0,"do":"create-queue","name":"q"}
+{"ok":"done"}
+{"at":0,"do":"send","to":"q","messages":[{"body":"a"}]}
+{"numbers":[1],"ok":"sent"}
+"#;
 
 // Lines that are refused.
 const BAD_LINES: &str = r#"
@@ -264,6 +280,65 @@ fn time_goes_on_first(rt: HostRuntime) -> Result<(), Fail> {
     assert!(rt; held.starts_with(front));
     let after = left_by(&rt, &freed, &[PEEK_FREED], 0)?;
     assert_eq!(rt; after.as_slice(), freed.as_slice());
+    Ok(())
+}
+
+// The case of a check that reads nothing of its input, over these bytes.
+fn checking<'a>(disk: &'a [u8], told: &'a str, status: u8) -> Case<'a> {
+    Case {
+        words: &CHECK,
+        disk,
+        failing: Failing {
+            input: Some(0),
+            ..NOTHING
+        },
+        script: b"[",
+        told: told.as_bytes(),
+        status,
+    }
+}
+
+#[test]
+fn a_check_tells_the_numbers(rt: HostRuntime) -> Result<(), Fail> {
+    let again = left_by(&rt, &[], &[MADE_AGAIN], 0)?;
+    let freed = left_by(&rt, &[], &[CREATE, SEND, RECEIVE_LOCKED, PEEK_FREED], 0)?;
+    let rows: [(&[u8], &str); 4] = [
+        (
+            &[],
+            "{\"copies\":0,\"entities\":0,\"events\":0,\"made\":0,\"now\":0,\"ok\":\"check\"}\n",
+        ),
+        (
+            &ONE_EVENT,
+            "{\"copies\":0,\"entities\":1,\"events\":1,\"made\":0,\"now\":0,\"ok\":\"check\"}\n",
+        ),
+        (
+            &again,
+            "{\"copies\":1,\"entities\":1,\"events\":5,\"made\":2,\"now\":0,\"ok\":\"check\"}\n",
+        ),
+        (
+            &freed,
+            "{\"copies\":2,\"entities\":1,\"events\":4,\"made\":2,\"now\":60009,\"ok\":\"check\"}\n",
+        ),
+    ];
+    for row in &rows {
+        let (disk, told) = *row;
+        let after = leaves(&rt, checking(disk, told, 0))?;
+        assert!(rt; disk.is_empty() || after.as_slice() == disk);
+    }
+    let damaged = changed(&rt, &ONE_EVENT, 9, 2)?;
+    let told = damaged_at(&rt, 9)?;
+    leaves(&rt, checking(&damaged, told.as_str(), 6))?;
+    let failing = Failing {
+        output: Some(0),
+        ..NOTHING
+    };
+    leaves(
+        &rt,
+        Case {
+            failing,
+            ..checking(&ONE_EVENT, "", 4)
+        },
+    )?;
     Ok(())
 }
 
