@@ -1,18 +1,18 @@
 -- The copies of an entity stand as they were read while a commit acts, but for those that it settled.
-use Rattle.std.proofs.Common.{Bool, List, None, Option, Some, [], ap, arith, cond, false, find, map, refl, subst, sym, true, ℕ, ◌&&◌, ◌+◌, ◌++◌, ◌∙◌, ◌∷◌, ◌≡◌}
-use Rattle.std.specs.Prelude.{◌==◌, not, nat_lt, nat_le, if◌then◌else◌}
+use Rattle.std.proofs.Common.{Bool, List, None, Option, Some, [], ap, cond, false, find, map, refl, subst, sym, true, ℕ, ◌&&◌, ◌+◌, ◌++◌, ◌∙◌, ◌∷◌, ◌≡◌}
+use Rattle.std.specs.Prelude.{◌==◌, nat_lt, if◌then◌else◌}
 use Rattle.std.specs.List.{list_all}
 use Rattle.std.specs.Option.{option_map}
 use Rattle.sb_fanout.proofs.Places.{about_kept, find_apart, find_here, leaf_apart, leaf_here, same_number, same_parts}
 use Rattle.sb_fanout.proofs.There.{both}
 use Rattle.sb_machine.specs.Changes.{after, after_all, in_turn, noted}
-use Rattle.sb_machine.specs.Delivery.{carried, delivered, landing, visit_change, visit_key}
+use Rattle.sb_machine.specs.Delivery.{delivered, landing, visit_change, visit_key}
 use Rattle.sb_machine.specs.Keyed.{changed}
 use Rattle.sb_machine.specs.Leases.{is_living}
 use Rattle.sb_machine.specs.Leaves.{has_number, leaf_after, seq_or}
 use Rattle.sb_machine.specs.Messages.{text_of}
 use Rattle.sb_machine.specs.Names.{is_same_part}
-use Rattle.sb_machine.specs.Namespace.{entity_of, is_entity, key_of, last_at, leaf_of, listed, with_leaf}
+use Rattle.sb_machine.specs.Namespace.{is_entity, last_at, leaf_of, listed, with_leaf}
 use Rattle.sb_machine.specs.Sending.{coming, entering, is_repeat, message_changes, noting, send_changes, unscheduled, waiting}
 use Rattle.sb_machine.specs.Transactions.{handed_on}
 use Rattle.sb_machine.specs.Visits.{Lot, Visit, ends, passage, stays, visits}
@@ -22,7 +22,6 @@ use Rattle.sb_machine.specs.declared.change.Change.{Change}
 use Rattle.sb_machine.specs.declared.change.Change.TheVariants.{AddsRule, Begins, Drops, DropsRule, InLeaf, Makes, Notes, Queues, Removes}
 use Rattle.sb_machine.specs.declared.change.LeafChange.{LeafChange}
 use Rattle.sb_machine.specs.declared.change.LeafChange.TheVariants.{Closes, Ends, Enters, Holds, Opens, Passes, Prolongs, Renews, Stands, Writes}
-use Rattle.sb_machine.specs.declared.change.LeafKey.{LeafKey}
 use Rattle.sb_machine.specs.declared.state.Entity.{Entity}
 use Rattle.sb_machine.specs.declared.state.Leaf.{Leaf}
 use Rattle.sb_machine.specs.declared.state.Session.{Session}

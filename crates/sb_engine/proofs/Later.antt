@@ -1,12 +1,12 @@
 -- Nothing comes due before a moment: what changes keep of it, and what it says of what is due.
-use Rattle.std.proofs.Common.{Bool, List, None, Option, Some, [], ap, arith, false, min, refl, subst, sym, true, ℕ, ◌++◌, ◌+◌, ◌<◌, ◌∙◌, ◌∷◌, ◌≡◌, ◌≤◌}
+use Rattle.std.proofs.Common.{Bool, List, None, Option, Some, [], ap, arith, false, min, refl, subst, true, ℕ, ◌+◌, ◌<◌, ◌∙◌, ◌∷◌, ◌≡◌, ◌≤◌}
 use Rattle.std.proofs.lemmas.Bool.Decides.{nat_tests}
 use Rattle.std.specs.Prelude.{find, if◌then◌else◌, is_some, nat_le, not, ◌==◌, ◌||◌}
 use Rattle.std.specs.List.{fold, list_any}
 use Rattle.sb_laws.proofs.Eachs.{each_append, each_changed, each_filter, each_implied, each_inserted}
 use Rattle.sb_laws.proofs.Entities.{EachLeaf, each_leaf, leaves_keep}
 use Rattle.sb_machine.specs.Changes.{after, after_all, is_transaction, with_operation}
-use Rattle.sb_machine.specs.Each.{Each, IfSome}
+use Rattle.sb_machine.specs.Each.{Each}
 use Rattle.sb_machine.specs.Leaves.{copy_in, has_id, has_number, holder_new, is_deferred, is_held_under, leaf_after, opened, prolonged_holder, prolonged_standing, remembered, session_in, stored, taken}
 use Rattle.sb_machine.specs.Names.{is_before, is_main}
 use Rattle.sb_machine.specs.Namespace.{entity_of, leaf_of}
@@ -25,7 +25,6 @@ use Rattle.sb_machine.specs.declared.state.Space.{Space}
 use Rattle.sb_machine.specs.declared.state.Standing.{Standing}
 use Rattle.sb_machine.specs.declared.state.Standing.TheVariants.{Deferred, Held, Ready, Scheduled}
 use Rattle.sb_machine.specs.declared.state.StoredCopy.{StoredCopy}
-use Rattle.sb_machine.specs.declared.state.Transaction.{Transaction}
 use Rattle.sb_engine.specs.Deadlines.{comes, comes_in, comes_of, copy_deadline, copy_expiry, has_passed, never, session_deadline, standing_deadline}
 use Rattle.sb_engine.specs.Soonest.{IsLater, IsLaterIn, IsLaterOf, IsNotBefore, any_end, brings, end_for, end_in, expiry_in, expiry_of_copy, leaf_brings, sooner, soonest, soonest_behind, soonest_in, soonest_of}
 

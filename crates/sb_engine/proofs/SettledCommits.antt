@@ -1,16 +1,16 @@
 -- What a queued settlement does as it acts.
-use Rattle.std.proofs.Common.{Bool, List, None, Option, Some, [], ap, arith, cond, false, map, refl, subst, sym, true, ℕ, ◌&&◌, ◌++◌, ◌∙◌, ◌∷◌, ◌≡◌}
+use Rattle.std.proofs.Common.{Bool, List, None, Option, Some, [], ap, arith, false, map, refl, subst, sym, true, ℕ, ◌&&◌, ◌++◌, ◌∙◌, ◌∷◌, ◌≡◌}
 use Rattle.std.specs.Prelude.{◌==◌, ◌||◌, not, nat_le, if◌then◌else◌}
-use Rattle.std.specs.List.{list_all, list_any}
+use Rattle.std.specs.List.{list_all}
 use Rattle.std.proofs.lemmas.Bool.Decides.{nat_tests}
 use Rattle.std.proofs.lemmas.List.{append-nil}
 use Rattle.std.proofs.lemmas.List.Folds.{list_any-append}
 use Rattle.sb_fanout.specs.Lasts.{Given}
 use Rattle.sb_fanout.proofs.There.{both}
 use Rattle.sb_machine.specs.Changes.{after, after_all}
-use Rattle.sb_machine.specs.Delivery.{back_to, carried, dead_for, dead_lettered, expired, in_part, is_expired, landing, raised, released, visit_change, visit_key}
+use Rattle.sb_machine.specs.Delivery.{back_to, carried, dead_for, dead_lettered, expired, in_part, is_expired, landing, raised, released, visit_change}
 use Rattle.sb_machine.specs.Leases.{was_deferred}
-use Rattle.sb_machine.specs.Names.{is_main, is_same_entity, is_same_part}
+use Rattle.sb_machine.specs.Names.{is_same_entity, is_same_part}
 use Rattle.sb_machine.specs.Namespace.{entity_of, leaf_of, listed, new_entity}
 use Rattle.sb_machine.specs.Sending.{send_changes}
 use Rattle.sb_machine.specs.Settlement.{goes_with, settled}

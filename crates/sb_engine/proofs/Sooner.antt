@@ -1,5 +1,5 @@
 -- The least of deadlines, list by list.
-use Rattle.std.proofs.Common.{List, Some, [], ap, arith, drop, refl, suc, sym, zero, ℕ, ◌+◌, ◌++◌, ◌∙◌, ◌∷◌, ◌≡◌}
+use Rattle.std.proofs.Common.{List, Some, [], ap, arith, drop, suc, sym, zero, ℕ, ◌+◌, ◌++◌, ◌∙◌, ◌∷◌, ◌≡◌}
 use Rattle.std.specs.List.{fold, slice_get}
 use Rattle.std.proofs.lemmas.List.Sums.{fold-append}
 use Rattle.sb_machine.specs.declared.call.Part.{Part}

@@ -1,5 +1,5 @@
 -- Items that act in turn.
-use Rattle.std.proofs.Common.{List, [], ap, drop, get_or, length, sym, ℕ, ◌+◌, ◌++◌, ◌<◌, ◌≤◌, ◌∙◌, ◌∷◌, ◌≡◌}
+use Rattle.std.proofs.Common.{List, ap, drop, get_or, length, sym, ℕ, ◌+◌, ◌++◌, ◌<◌, ◌≤◌, ◌∙◌, ◌∷◌, ◌≡◌}
 use Rattle.std.proofs.lemmas.List.{append_assoc, append-nil, drop_more, drop_all}
 use Rattle.sb_machine.specs.Changes.{after_all, in_turn}
 use Rattle.sb_machine.specs.declared.change.Change.{Change}

@@ -1,4 +1,4 @@
-use Rattle.std.proofs.Common.{List, ap, drop, subst, sym, ℕ, ◌+◌, ◌∙◌, ◌≡◌}
+use Rattle.std.proofs.Common.{List, ap, drop, sym, ℕ, ◌+◌, ◌∙◌}
 use Rattle.std.specs.List.{fold}
 use Rattle.sb_machine.specs.declared.change.Change.{Change}
 use Rattle.sb_engine.specs.Soonest.{any_end, brings, sooner}
