@@ -1,0 +1,72 @@
+-- The routes, and the one that a path has.
+use Rattle.std.specs.Prelude.{ℕ, List, [], ◌∷◌, codes, fold, Option, option_map, option_and_then, Result, Ok, Err}
+use Rattle.matchit.specs.Rows.{RowsOf}
+use Rattle.matchit.specs.Order.{placed}
+use Rattle.matchit.specs.Route.{Scan, parse_route}
+use Rattle.matchit.specs.Router.{RouteOf, route_from}
+use Rattle.matchit.specs.Seek.{first}
+use Rattle.matchit.specs.declared.error.InsertError.{InsertError}
+use Rattle.sb_machine.specs.declared.call.Part.TheVariants.{Main, Dead, Transfer}
+use Rattle.sb_routes.specs.declared.routes.Address.TheVariants.{Entity, Subscription}
+use Rattle.sb_routes.specs.declared.routes.Route.{Route}
+use Rattle.sb_routes.specs.declared.routes.Route.TheVariants.{Messages, Head, Locked, Script}
+use Rattle.sb_routes.specs.Paths.{looked_up, as_text}
+
+-- ---- the table
+
+-- of queues and topics
+unfoldable pub entities : List (List ℕ × Route)
+entities =
+    (codes "/{name}/messages", Messages)
+    ∷ (codes "/{name}/messages/head", Head (Entity Main))
+    ∷ (codes "/{name}/messages/{id}/{token}", Locked (Entity Main))
+    ∷ (codes "/{name}/$deadletterqueue/messages/head", Head (Entity Dead))
+    ∷ (codes "/{name}/$deadletterqueue/messages/{id}/{token}", Locked (Entity Dead))
+    ∷ (codes "/{name}/$transfer/$deadletterqueue/messages/head", Head (Entity Transfer))
+    ∷ (codes "/{name}/$transfer/$deadletterqueue/messages/{id}/{token}", Locked (Entity Transfer))
+    ∷ []
+
+-- of subscriptions
+unfoldable pub subscriptions : List (List ℕ × Route)
+subscriptions =
+    (codes "/{topic}/subscriptions/{name}/messages/head", Head (Subscription Main))
+    ∷ (codes "/{topic}/subscriptions/{name}/messages/{id}/{token}", Locked (Subscription Main))
+    ∷ (codes "/{topic}/subscriptions/{name}/$deadletterqueue/messages/head", Head (Subscription Dead))
+    ∷ (codes "/{topic}/subscriptions/{name}/$deadletterqueue/messages/{id}/{token}", Locked (Subscription Dead))
+    ∷ (codes "/{topic}/subscriptions/{name}/$transfer/$deadletterqueue/messages/head", Head (Subscription Transfer))
+    ∷ (codes "/{topic}/subscriptions/{name}/$transfer/$deadletterqueue/messages/{id}/{token}", Locked (Subscription Transfer))
+    ∷ []
+
+-- ---- a router
+
+-- as contracts see it
+abbrev pub Table : Type 0
+Table = RowsOf (RouteOf Route)
+
+-- one more route, by what its text says
+abbrev pub with_scan : Result Scan InsertError → Route → Table → Table
+with_scan (Ok s) route rows = placed (s.pattern, route_from s route) rows
+with_scan (Err e) route rows = rows
+
+unfoldable pub with_route : List ℕ → Route → Table → Table
+with_route text route rows = with_scan (parse_route text) route rows
+
+abbrev pub with_row : Table → List ℕ × Route → Table
+with_row rows row = with_route row.0 row.1 rows
+
+-- these routes, one after the other
+abbrev pub with_rows : List (List ℕ × Route) → Table → Table
+with_rows new rows = fold with_row rows new
+
+unfoldable pub table : Table
+table = with_route (codes "/$script") Script (with_rows subscriptions (with_rows entities []))
+
+-- ---- a path
+
+-- the route that the look-up gives
+abbrev pub route_at : List ℕ → Option Route
+route_at path = option_map (λ e. e.value) (first table path)
+
+-- a path is text, the case of its letters doesn't count, and its dollar signs may be escaped
+abbrev pub route_of : List ℕ → Option Route
+route_of path = option_and_then route_at (as_text (looked_up path))

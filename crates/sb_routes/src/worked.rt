@@ -1,0 +1,18 @@
+// Paths and their routes, worked out by hand.
+ghost use Rattle.std.specs.Prelude.{◌≡◌, codes, Some, None};
+ghost use Rattle.sb_machine.specs.declared.call.Part.TheVariants.{Main};
+ghost use Rattle.sb_routes.specs.declared.routes.Address.TheVariants.{Entity};
+ghost use Rattle.sb_routes.specs.declared.routes.Route.TheVariants.{Messages, Head, Script};
+ghost use Rattle.sb_routes.specs.Routes.{route_of};
+ghost use Rattle.sb_routes.specs.Paths.{path_of, query_of, segment};
+
+/// The definitions say of these paths what was worked out by hand.
+pub fn worked_routes()
+    ensures send { route_of (codes "/Q/messages") ≡ Some Messages }
+    ensures head { route_of (codes "/q/messages/head") ≡ Some (Head (Entity Main)) }
+    ensures script { route_of (codes "/$script") ≡ Some Script }
+    ensures none { route_of (codes "/x/y/z") ≡ None }
+    ensures path { path_of (codes "/q?a=1?b") ≡ codes "/q" }
+    ensures query { query_of (codes "/q?a=1?b") ≡ codes "a=1?b" }
+    ensures name { segment 1 (codes "/Q/messages") ≡ codes "Q" }
+{}
