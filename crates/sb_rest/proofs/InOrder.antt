@@ -1,0 +1,218 @@
+-- The lists of a call that a request asks for stand in their order.
+use Rattle.std.proofs.Common.{◌≡◌, ℕ, suc, Bool, true, false, List, [], ◌∷◌, Option, Some, None, refl, subst}
+use Rattle.std.specs.Prelude.{codes, bytes_eq, if◌then◌else◌, Result, Ok, Err, IfOk}
+use Rattle.std.specs.Str.{str_to_ascii_lowercase}
+use Rattle.serde_json.specs.Data.{Data, Items, no_items, item, Members, no_members, member}
+use Rattle.serde_json.specs.Find.{get, as_object}
+use Rattle.sb_model.specs.Orders.{AreRising, IsInOrder, name_before}
+use Rattle.sb_model.specs.Effects.{with_user}
+use Rattle.sb_model.specs.declared.message.Message.{Message}
+use Rattle.sb_model.specs.declared.message.Property.{Property}
+use Rattle.sb_model.specs.declared.message.SystemName.TheVariants.{ContentType}
+use Rattle.sb_machine.specs.Each.{Each}
+use Rattle.sb_machine.specs.Ordered.{IsActInOrder}
+use Rattle.sb_machine.specs.declared.call.Act.{Act}
+use Rattle.sb_machine.specs.declared.call.Act.TheVariants.{Receive, Send}
+use Rattle.sb_machine.specs.declared.call.How.{How}
+use Rattle.sb_machine.specs.declared.call.How.TheVariants.{Complete, Abandon}
+use Rattle.sb_machine.specs.declared.call.Mode.{Mode}
+use Rattle.sb_machine.specs.declared.call.Part.TheVariants.{Main}
+use Rattle.sb_machine.specs.declared.call.Path.{Path}
+use Rattle.sb_machine.specs.declared.call.Token.{Token}
+use Rattle.sb_http.specs.Fields.{Field, same_word}
+use Rattle.sb_http.specs.Messages.{RequestMessage}
+use Rattle.sb_lines.specs.declared.texts.Nulls.TheVariants.{Absent}
+use Rattle.sb_lines.specs.Faults.{or_key, then_by}
+use Rattle.sb_lines.specs.Messages as msg
+use Rattle.sb_lines.proofs.InOrder.{Holds, Any, always, then_holds, known_holds, made_holds, UpTo, text_added, property_set}
+use Rattle.sb_lines.proofs.OrderedLines.{broker_holds, before_holds}
+use Rattle.sb_routes.specs.declared.routes.Address.{Address}
+use Rattle.sb_routes.specs.declared.routes.Route.{Route}
+use Rattle.sb_routes.specs.declared.routes.Route.TheVariants as route
+use Rattle.sb_routes.specs.Paths.{as_text, path_of, query_of}
+use Rattle.sb_routes.specs.Routes.{route_of}
+use Rattle.sb_rest.specs.declared.asked.Asked.{Asked}
+use Rattle.sb_rest.specs.declared.asked.Asked.TheVariants as asked
+use Rattle.sb_rest.specs.declared.call.RestFault.{RestFault}
+use Rattle.sb_rest.specs.declared.call.RestFault.TheVariants.{NoRoute, BadMethod, Bad, Script, OutOfMemory}
+use Rattle.sb_rest.specs.declared.call.Wanted.{Wanted}
+use Rattle.sb_rest.specs.declared.draft.Broker.{Broker}
+use Rattle.sb_rest.specs.declared.draft.Draft.{Draft}
+use Rattle.sb_rest.specs.Brokers as brokers
+use Rattle.sb_rest.specs.Batches as batches
+use Rattle.sb_rest.specs.Headers as headers
+use Rattle.sb_rest.specs.Calls as calls
+use Rattle.sb_rest.specs.Timeouts.{timeout_in}
+use Rattle.sb_rest.specs.Values.{header_value}
+
+-- ---- what is said of a message
+
+abbrev AreByName : List Property → Type 0
+AreByName props = AreRising name_before props
+
+abbrev IsBroker : Broker → Type 0
+IsBroker b = UpTo 7 b.texts
+
+record IsDraft (d : Draft) : Type 0 where
+  texts : UpTo 7 d.broker.texts
+  props : AreRising name_before d.props
+
+message_in_order : (body : List ℕ) (d : Draft) → IsDraft d → IsInOrder (headers.message_from body d)
+message_in_order body d is = by_type d.content_type where
+  by_type : (t : List ℕ) → IsInOrder (record { body = body; sys = msg.with_text ContentType t d.broker.texts; props = d.props; ttl = d.broker.ttl; schedule = d.broker.schedule })
+  by_type [] = record { props = is.props; sys = is.texts.rising; set = is.texts.set }
+  by_type (b ∷ bs) = let up = text_added 7 ContentType b bs d.broker.texts refl is.texts in record { props = is.props; sys = up.rising; set = up.set }
+
+broker_of_holds : (d : Data) → Holds IsBroker (brokers.broker_of d)
+unfolding brokers.broker_of
+broker_of_holds d =
+    then_holds (UpTo 7) IsBroker (msg.broker_texts Absent d) _ (broker_holds Absent d) (λ texts is.
+    known_holds IsBroker (msg.lifetime_at Absent (codes "TimeToLive") d) _ (λ ttl.
+    known_holds IsBroker (brokers.schedule_at (codes "ScheduledEnqueueTimeUtc") d) _ (λ schedule. is)))
+
+-- ---- headers
+
+either : {T : Type 0} (P : T → Type 0) (b : Bool) (x y : Result T (List ℕ)) → Holds P x → Holds P y → Holds P (if b then x else y)
+either P true x y one two = one
+either P false x y one two = two
+
+with_property_holds : (name : List ℕ) (value : Option (List ℕ)) (d : Draft) → IsDraft d → Holds IsDraft (headers.with_property name value d)
+with_property_holds name None d is = tt
+with_property_holds name (Some v) d is = record { texts = is.texts; props = property_set (str_to_ascii_lowercase name) (header_value v) d.props is.props }
+
+on_name_holds : (name : Option (List ℕ)) (value : List ℕ) (d : Draft) → IsDraft d → Holds IsDraft (headers.on_name name value d)
+on_name_holds None value d is = is
+on_name_holds (Some name) value d is = with_property_holds name (as_text value) d is
+
+with_type_holds : (value : List ℕ) (d : Draft) → IsDraft d → Holds IsDraft (headers.with_type value d)
+with_type_holds value d is = known_holds IsDraft (or_key headers.type_name (as_text value)) (λ text. Ok (record d { content_type = text })) (λ text. record { texts = is.texts; props = is.props })
+
+with_broker_holds : (value : List ℕ) (d : Draft) → IsDraft d → Holds IsDraft (headers.with_broker value d)
+with_broker_holds value d is =
+    then_holds IsBroker IsDraft (brokers.broker_in value) (λ broker. Ok (record d { broker = broker }))
+    (known_holds IsBroker (or_key (codes "BrokerProperties") (brokers.object_in value)) brokers.broker_of broker_of_holds)
+    (λ broker holds. record { texts = holds; props = is.props })
+
+heard_holds : (f : Field) (later : List Field) (d : Draft) → IsDraft d → Holds IsDraft (headers.heard f later d)
+unfolding headers.heard
+heard_holds f later d is =
+    either IsDraft (same_word headers.broker_name f.0) (if headers.stands_in later headers.broker_name then Ok d else headers.with_broker f.1 d) (if same_word headers.type_name f.0 then (if headers.stands_in later headers.type_name then Ok d else headers.with_type f.1 d) else (if headers.is_reserved f.0 then Ok d else headers.on_name (as_text f.0) f.1 d))
+    (either IsDraft (headers.stands_in later headers.broker_name) (Ok d) (headers.with_broker f.1 d) is (with_broker_holds f.1 d is))
+    (either IsDraft (same_word headers.type_name f.0) (if headers.stands_in later headers.type_name then Ok d else headers.with_type f.1 d) (if headers.is_reserved f.0 then Ok d else headers.on_name (as_text f.0) f.1 d)
+    (either IsDraft (headers.stands_in later headers.type_name) (Ok d) (headers.with_type f.1 d) is (with_type_holds f.1 d is))
+    (either IsDraft (headers.is_reserved f.0) (Ok d) (headers.on_name (as_text f.0) f.1 d) is (on_name_holds (as_text f.0) f.1 d is)))
+
+heard_all_holds : (fields : List Field) (d : Draft) → IsDraft d → Holds IsDraft (headers.heard_all fields d)
+unfolding headers.heard_all
+heard_all_holds [] d is = is
+heard_all_holds (f ∷ later) d is = then_holds IsDraft IsDraft (headers.heard f later d) (headers.heard_all later) (heard_holds f later d is) (λ e on. heard_all_holds later e on)
+
+no_texts : UpTo 7 []
+no_texts = record { rising = tt; set = refl; below = refl }
+
+message_in_holds : (fields : List Field) (body : List ℕ) → Holds (Each IsInOrder) (headers.message_in fields body)
+message_in_holds fields body =
+    made_holds (λ d. headers.message_from body d ∷ []) IsDraft (Each IsInOrder) (headers.heard_all fields headers.no_draft)
+    (heard_all_holds fields headers.no_draft (record { texts = no_texts; props = tt })) (λ d is. (message_in_order body d is, tt))
+
+-- ---- batches
+
+property_holds : (name : List ℕ) (o : Option Data) (props : List Property) → AreByName props → Holds AreByName (batches.property_from name o props)
+property_holds name None props rising = rising
+property_holds name (Some d) props rising =
+    known_holds AreByName (or_key name (msg.value_in d)) (λ value. Ok (with_user (str_to_ascii_lowercase name) (Some value) props)) (λ value. property_set (str_to_ascii_lowercase name) value props rising)
+
+members_hold : (ms : Members) (props : List Property) → AreByName props → Holds AreByName (batches.with_members ms props)
+members_hold no_members props rising = rising
+members_hold (member name d ms) props rising =
+    then_holds AreByName AreByName (batches.property_from name (msg.unless_null d) props) (batches.with_members ms) (property_holds name (msg.unless_null d) props rising) (λ new is. members_hold ms new is)
+
+properties_hold : (o : Option Data) → Holds AreByName (batches.properties_from o)
+properties_hold None = tt
+properties_hold (Some d) = known_holds AreByName (or_key (codes "UserProperties") (as_object d)) (λ ms. batches.with_members ms []) (λ ms. members_hold ms [] tt)
+
+broker_from_holds : (o : Option Data) → Holds IsBroker (batches.broker_from o)
+broker_from_holds None = no_texts
+broker_from_holds (Some d) = known_holds IsBroker (or_key (codes "BrokerProperties") (brokers.object_itself d)) brokers.broker_of broker_of_holds
+
+message_holds : (d : Data) → Holds IsInOrder (batches.message_of d)
+unfolding batches.message_of
+message_holds d =
+    known_holds IsInOrder (or_key (codes "Body") (as_object d)) _ (λ _.
+    known_holds IsInOrder (batches.body_from (get (codes "Body") d)) _ (λ body.
+    then_holds IsBroker IsInOrder (batches.broker_from (get (codes "BrokerProperties") d)) _ (broker_from_holds (get (codes "BrokerProperties") d)) (λ broker is.
+    then_holds AreByName IsInOrder (batches.properties_from (get (codes "UserProperties") d)) _ (properties_hold (get (codes "UserProperties") d)) (λ props rising.
+    message_in_order body (record { broker = broker; content_type = []; props = props }) (record { texts = is; props = rising })))))
+
+messages_hold : (ds : Items) → Holds (Each IsInOrder) (batches.messages_of ds)
+messages_hold no_items = tt
+messages_hold (item d ds) =
+    then_holds IsInOrder (Each IsInOrder) (batches.message_of d) (λ m. msg.before_those (m ∷ []) (batches.messages_of ds)) (message_holds d) (λ m is. before_holds m (batches.messages_of ds) is (messages_hold ds))
+
+-- ---- calls
+
+abbrev IsWantedInOrder : Wanted → Type 0
+IsWantedInOrder w = IsActInOrder w.call.act
+
+all_hold : (fields : List Field) (body : List ℕ) → Holds (Each IsInOrder) (calls.messages_in fields body)
+all_hold fields body =
+    either (Each IsInOrder) (batches.is_batch fields) (batches.messages_in body) (headers.message_in fields body)
+    (known_holds (Each IsInOrder) (or_key (codes "Body") (batches.array_in body)) batches.messages_of messages_hold) (message_in_holds fields body)
+
+sent_holds : (path query : List ℕ) (fields : List Field) (body : List ℕ) → Holds IsWantedInOrder (calls.sent path query fields body)
+unfolding calls.sent
+sent_holds path query fields body =
+    known_holds IsWantedInOrder (calls.name_in 1 path) _ (λ name.
+    known_holds IsWantedInOrder (timeout_in query) _ (λ timeout.
+    then_holds (Each IsInOrder) IsWantedInOrder (calls.messages_in fields body) _ (all_hold fields body) (λ messages is. is)))
+
+timed_holds : (query : List ℕ) (act : Result Act (List ℕ)) → Holds IsActInOrder act → Holds IsWantedInOrder (calls.with_timeout query act)
+timed_holds query act holds =
+    then_holds IsActInOrder IsWantedInOrder act (λ a. then_by (timeout_in query) (λ timeout. Ok (calls.in_time a timeout))) holds (λ a is.
+    known_holds IsWantedInOrder (timeout_in query) (λ timeout. Ok (calls.in_time a timeout)) (λ timeout. is))
+
+taken_holds : (a : Address) (mode : Mode) (path : List ℕ) → Holds IsActInOrder (calls.taken a mode path)
+taken_holds a mode path = known_holds IsActInOrder (calls.address_in a path) (λ from. Ok (Receive from mode None)) (λ from. tt)
+
+locked_holds : (a : Address) (path : List ℕ) (make : Path → List ℕ → Token → Act) → ((from : Path) (id : List ℕ) (token : Token) → IsActInOrder (make from id token)) → Holds IsActInOrder (calls.with_locked a path make)
+locked_holds a path make each =
+    known_holds IsActInOrder (calls.address_in a path) _ (λ from.
+    known_holds IsActInOrder (calls.text_in (calls.id_place a) path) _ (λ id.
+    known_holds IsActInOrder (calls.token_at (suc (calls.id_place a)) path) (λ token. Ok (make from id token)) (λ token. each from id token)))
+
+wanted_holds : (a : Asked) (path query : List ℕ) (fields : List Field) (body : List ℕ) → Holds IsWantedInOrder (calls.wanted_by a path query fields body)
+unfolding calls.wanted_by
+wanted_holds asked.Send path query fields body = sent_holds path query fields body
+wanted_holds (asked.Take a mode) path query fields body = timed_holds query (calls.taken a mode path) (taken_holds a mode path)
+wanted_holds (asked.Abandon a) path query fields body = timed_holds query (calls.with_locked a path (calls.settled Abandon)) (locked_holds a path (calls.settled Abandon) (λ from id token. tt))
+wanted_holds (asked.Complete a) path query fields body = timed_holds query (calls.with_locked a path (calls.settled Complete)) (locked_holds a path (calls.settled Complete) (λ from id token. tt))
+wanted_holds (asked.Renew a) path query fields body = timed_holds query (calls.with_locked a path calls.renewed) (locked_holds a path calls.renewed (λ from id token. tt))
+
+-- ---- requests
+
+abbrev AreInOrder : Result Wanted RestFault → Type 0
+AreInOrder r = IfOk r IsWantedInOrder
+
+bad_holds : (r : Result Wanted (List ℕ)) → Holds IsWantedInOrder r → AreInOrder (calls.or_bad r)
+bad_holds (Ok w) is = is
+bad_holds (Err key) is = tt
+
+asked_holds : (o : Option Asked) (m : RequestMessage) → AreInOrder (calls.on_asked o m)
+asked_holds None m = tt
+asked_holds (Some a) m =
+    bad_holds (calls.wanted_by a (path_of m.head.target) (query_of m.head.target) m.head.fields m.body) (wanted_holds a (path_of m.head.target) (query_of m.head.target) m.head.fields m.body)
+
+script_holds : (b : Bool) → AreInOrder (if b then Err Script else Err BadMethod)
+script_holds true = tt
+script_holds false = tt
+
+route_holds : (o : Option Route) (m : RequestMessage) → AreInOrder (calls.on_route o m)
+route_holds None m = tt
+route_holds (Some route.Messages) m = asked_holds (calls.if_post m.head.method asked.Send) m
+route_holds (Some (route.Head a)) m = asked_holds (calls.at_head a m.head.method) m
+route_holds (Some (route.Locked a)) m = asked_holds (calls.at_locked a m.head.method) m
+route_holds (Some route.Script) m = script_holds (bytes_eq m.head.method (codes "POST"))
+
+pub answered_in_order : (m : RequestMessage) (r : Result Wanted RestFault) → calls.Answers r (calls.call_of m) → AreInOrder r
+answered_in_order m (Ok w) said = subst AreInOrder said (route_holds (route_of (path_of m.head.target)) m)
+answered_in_order m (Err fault) said = tt

@@ -1,0 +1,157 @@
+-- Which request asks for which call, or what is at fault in it.
+use Rattle.std.specs.Prelude.{◌≡◌, ℕ, suc, List, [], codes, bytes_eq, Option, Some, None, Result, Ok, Err, if◌then◌else◌}
+use Rattle.std.specs.Str.{str_to_ascii_lowercase}
+use Rattle.percent_encoding.specs.Percent.{percent_decode}
+use Rattle.sb_machine.specs.declared.call.Act.{Act}
+use Rattle.sb_machine.specs.declared.call.Act.TheVariants.{Receive, Settle, Renew, Send}
+use Rattle.sb_machine.specs.declared.call.How.{How}
+use Rattle.sb_machine.specs.declared.call.How.TheVariants.{Complete, Abandon}
+use Rattle.sb_machine.specs.declared.call.Mode.{Mode}
+use Rattle.sb_machine.specs.declared.call.Mode.TheVariants.{Lock, Delete}
+use Rattle.sb_machine.specs.declared.call.Part.{Part}
+use Rattle.sb_machine.specs.declared.call.Part.TheVariants.{Main, Dead, Transfer}
+use Rattle.sb_machine.specs.declared.call.Path.{Path}
+use Rattle.sb_machine.specs.declared.call.Token.{Token}
+use Rattle.sb_machine.specs.declared.call.Which.TheVariants.{Id}
+use Rattle.sb_model.specs.declared.message.Message.{Message}
+use Rattle.sb_http.specs.Fields.{Field}
+use Rattle.sb_http.specs.Messages.{RequestMessage}
+use Rattle.sb_lines.specs.Faults.{or_key, then_by}
+use Rattle.sb_lines.specs.Tokens.{token_in}
+use Rattle.sb_routes.specs.declared.routes.Address.{Address}
+use Rattle.sb_routes.specs.declared.routes.Address.TheVariants.{Entity, Subscription}
+use Rattle.sb_routes.specs.declared.routes.Route.{Route}
+use Rattle.sb_routes.specs.declared.routes.Route.TheVariants as route
+use Rattle.sb_routes.specs.Paths.{as_text, segment, path_of, query_of}
+use Rattle.sb_routes.specs.Routes.{route_of}
+use Rattle.sb_rest.specs.declared.asked.Asked.{Asked}
+use Rattle.sb_rest.specs.declared.asked.Asked.TheVariants as asked
+use Rattle.sb_rest.specs.declared.call.RestFault.{RestFault}
+use Rattle.sb_rest.specs.declared.call.RestFault.TheVariants.{NoRoute, BadMethod, Bad, Script, OutOfMemory}
+use Rattle.sb_rest.specs.declared.call.Wanted.{Wanted}
+use Rattle.sb_rest.specs.Batches as batches
+use Rattle.sb_rest.specs.Headers.{message_in}
+use Rattle.sb_rest.specs.Timeouts.{timeout_in}
+
+-- ---- methods
+
+-- methods are told by their case (RFC 9110, 9.1)
+abbrev pub if_post : List ℕ → Asked → Option Asked
+if_post method a = if bytes_eq method (codes "POST") then Some a else None
+
+abbrev pub at_head : Address → List ℕ → Option Asked
+at_head a method = if bytes_eq method (codes "DELETE") then Some (asked.Take a Delete) else if_post method (asked.Take a Lock)
+
+abbrev pub at_locked : Address → List ℕ → Option Asked
+at_locked a method =
+    if bytes_eq method (codes "PUT") then Some (asked.Abandon a)
+    else (if bytes_eq method (codes "DELETE") then Some (asked.Complete a) else if_post method (asked.Renew a))
+
+-- ---- what the path says
+
+-- what a segment stands for, with its escapes undone (RFC 3986, 2.1)
+abbrev pub text_in : ℕ → List ℕ → Result (List ℕ) (List ℕ)
+text_in n path = or_key (codes "path") (as_text (percent_decode (segment n path)))
+
+-- a name, folded to ASCII lower case
+abbrev pub name_in : ℕ → List ℕ → Result (List ℕ) (List ℕ)
+name_in n path = then_by (text_in n path) (λ text. Ok (str_to_ascii_lowercase text))
+
+unfoldable pub address_in : Address → List ℕ → Result Path (List ℕ)
+address_in (Entity part) path = then_by (name_in 1 path) (λ name. Ok (record { name = name; subscription = None; part = part }))
+address_in (Subscription part) path =
+    then_by (name_in 1 path) (λ topic. then_by (name_in 3 path) (λ name. Ok (record { name = topic; subscription = Some name; part = part })))
+
+-- how many more slashes a part makes
+abbrev pub behind_part : Part → ℕ → ℕ
+behind_part Main n = n
+behind_part Dead n = suc n
+behind_part Transfer n = suc (suc n)
+
+-- how many slashes stand before the id of a message
+abbrev pub id_place : Address → ℕ
+id_place (Entity part) = behind_part part 3
+id_place (Subscription part) = behind_part part 5
+
+abbrev pub token_at : ℕ → List ℕ → Result Token (List ℕ)
+token_at n path = then_by (text_in n path) (λ text. or_key (codes "token") (token_in text))
+
+-- ---- the acts
+
+-- of a message under a lock: whose it is, its id and its token
+abbrev pub with_locked : Address → List ℕ → (Path → List ℕ → Token → Act) → Result Act (List ℕ)
+with_locked a path make =
+    then_by (address_in a path) (λ from.
+    then_by (text_in (id_place a) path) (λ id.
+    then_by (token_at (suc (id_place a)) path) (λ token. Ok (make from id token))))
+
+abbrev pub settled : How → Path → List ℕ → Token → Act
+settled how from id token = Settle from (Id id) token None how None
+
+abbrev pub renewed : Path → List ℕ → Token → Act
+renewed from id token = Renew from (Id id) token
+
+abbrev pub taken : Address → Mode → List ℕ → Result Act (List ℕ)
+taken a mode path = then_by (address_in a path) (λ from. Ok (Receive from mode None))
+
+abbrev pub in_time : Act → ℕ → Wanted
+in_time act timeout = record { call = record { by = None; act = act }; timeout = timeout }
+
+-- the query is judged behind the path
+abbrev pub with_timeout : List ℕ → Result Act (List ℕ) → Result Wanted (List ℕ)
+with_timeout query act = then_by act (λ a. then_by (timeout_in query) (λ timeout. Ok (in_time a timeout)))
+
+-- those of a batch, or the one whose headers and body these are
+abbrev pub messages_in : List Field → List ℕ → Result (List Message) (List ℕ)
+messages_in fields body = if batches.is_batch fields then batches.messages_in body else message_in fields body
+
+-- headers and body are judged behind path and query
+unfoldable pub sent : List ℕ → List ℕ → List Field → List ℕ → Result Wanted (List ℕ)
+sent path query fields body =
+    then_by (name_in 1 path) (λ name.
+    then_by (timeout_in query) (λ timeout.
+    then_by (messages_in fields body) (λ messages.
+    Ok (in_time (Send (record { name = name; subscription = None; part = Main }) messages None) timeout))))
+
+-- ---- the call
+
+-- what is wanted, or the key at fault
+abbrev pub or_bad : Result Wanted (List ℕ) → Result Wanted RestFault
+or_bad (Err key) = Err (Bad key)
+or_bad (Ok w) = Ok w
+
+-- the path, the query, the headers and the body together
+unfoldable pub wanted_by : Asked → List ℕ → List ℕ → List Field → List ℕ → Result Wanted (List ℕ)
+wanted_by asked.Send path query fields body = sent path query fields body
+wanted_by (asked.Take a mode) path query fields body = with_timeout query (taken a mode path)
+wanted_by (asked.Abandon a) path query fields body = with_timeout query (with_locked a path (settled Abandon))
+wanted_by (asked.Complete a) path query fields body = with_timeout query (with_locked a path (settled Complete))
+wanted_by (asked.Renew a) path query fields body = with_timeout query (with_locked a path renewed)
+
+abbrev pub on_asked : Option Asked → RequestMessage → Result Wanted RestFault
+on_asked None m = Err BadMethod
+on_asked (Some asked) m = or_bad (wanted_by asked (path_of m.head.target) (query_of m.head.target) m.head.fields m.body)
+
+-- a script line is no call of its own
+abbrev pub on_script : List ℕ → Result Wanted RestFault
+on_script method = if bytes_eq method (codes "POST") then Err Script else Err BadMethod
+
+abbrev pub on_route : Option Route → RequestMessage → Result Wanted RestFault
+on_route None m = Err NoRoute
+on_route (Some route.Messages) m = on_asked (if_post m.head.method asked.Send) m
+on_route (Some (route.Head a)) m = on_asked (at_head a m.head.method) m
+on_route (Some (route.Locked a)) m = on_asked (at_locked a m.head.method) m
+on_route (Some route.Script) m = on_script m.head.method
+
+-- the call of a request, or why it is none: first its path, then its method, then the first key at fault
+abbrev pub call_of : RequestMessage → Result Wanted RestFault
+call_of m = on_route (route_of (path_of m.head.target)) m
+
+-- the result is what is said, or memory was wanting
+abbrev pub Answers : Result Wanted RestFault → Result Wanted RestFault → Type 0
+Answers (Ok w) said = said ≡ Ok w
+Answers (Err NoRoute) said = said ≡ Err NoRoute
+Answers (Err BadMethod) said = said ≡ Err BadMethod
+Answers (Err (Bad key)) said = said ≡ Err (Bad key)
+Answers (Err Script) said = said ≡ Err Script
+Answers (Err OutOfMemory) said = Unit {0}

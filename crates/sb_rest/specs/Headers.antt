@@ -1,0 +1,111 @@
+-- What the headers of a send say of its message.
+use Rattle.std.specs.Prelude.{ℕ, Bool, true, false, ◌||◌, List, [], ◌∷◌, fold, codes, Option, Some, None, Result, Ok, Err, if◌then◌else◌}
+use Rattle.std.specs.List.{list_any}
+use Rattle.std.specs.Str.{str_to_ascii_lowercase}
+use Rattle.sb_http.specs.Fields.{Field, same_word}
+use Rattle.sb_lines.specs.Faults.{or_key, then_by}
+use Rattle.sb_lines.specs.Messages.{with_text}
+use Rattle.sb_model.specs.Effects.{with_user}
+use Rattle.sb_model.specs.declared.message.Message.{Message}
+use Rattle.sb_model.specs.declared.message.SystemName.TheVariants.{ContentType}
+use Rattle.sb_rest.specs.declared.draft.Draft.{Draft}
+use Rattle.sb_rest.specs.Brokers.{no_broker, broker_in}
+use Rattle.sb_rest.specs.Values.{header_value}
+use Rattle.sb_routes.specs.Paths.{as_text}
+
+-- ---- reserved names
+
+-- how the message goes
+abbrev pub is_framing : List ℕ → Bool
+is_framing name =
+    same_word (codes "host") name
+    || same_word (codes "content-length") name
+    || same_word (codes "content-type") name
+    || same_word (codes "content-encoding") name
+    || same_word (codes "transfer-encoding") name
+    || same_word (codes "connection") name
+    || same_word (codes "keep-alive") name
+    || same_word (codes "te") name
+    || same_word (codes "trailer") name
+
+-- what is asked for, and by whom
+abbrev pub is_asking : List ℕ → Bool
+is_asking name =
+    same_word (codes "upgrade") name
+    || same_word (codes "expect") name
+    || same_word (codes "via") name
+    || same_word (codes "date") name
+    || same_word (codes "user-agent") name
+    || same_word (codes "accept") name
+    || same_word (codes "accept-charset") name
+    || same_word (codes "accept-encoding") name
+    || same_word (codes "accept-language") name
+
+abbrev pub is_other : List ℕ → Bool
+is_other name =
+    same_word (codes "cache-control") name
+    || same_word (codes "pragma") name
+    || same_word (codes "authorization") name
+    || same_word (codes "brokerproperties") name
+    || same_word (codes "location") name
+    || same_word (codes "origin") name
+    || same_word (codes "referer") name
+    || same_word (codes "cookie") name
+
+-- names of headers that are no user properties
+unfoldable pub is_reserved : List ℕ → Bool
+is_reserved name = is_framing name || is_asking name || is_other name
+
+-- ---- one line
+
+-- one of these has this name
+abbrev pub stands_in : List Field → List ℕ → Bool
+stands_in fields word = list_any (λ f. same_word word f.0) fields
+
+abbrev pub broker_name : List ℕ
+broker_name = codes "brokerproperties"
+
+abbrev pub type_name : List ℕ
+type_name = codes "content-type"
+
+-- a user property; its folded name is at fault where the value is no text
+abbrev pub with_property : List ℕ → Option (List ℕ) → Draft → Result Draft (List ℕ)
+with_property name None d = Err (str_to_ascii_lowercase name)
+with_property name (Some v) d = Ok (record d { props = with_user (str_to_ascii_lowercase name) (Some (header_value v)) d.props })
+
+abbrev pub on_name : Option (List ℕ) → List ℕ → Draft → Result Draft (List ℕ)
+on_name None value d = Ok d
+on_name (Some name) value d = with_property name (as_text value) d
+
+abbrev pub with_type : List ℕ → Draft → Result Draft (List ℕ)
+with_type value d = then_by (or_key type_name (as_text value)) (λ text. Ok (record d { content_type = text }))
+
+abbrev pub with_broker : List ℕ → Draft → Result Draft (List ℕ)
+with_broker value d = then_by (broker_in value) (λ broker. Ok (record d { broker = broker }))
+
+-- what a line says, before those that come later: of BrokerProperties and Content-Type the last alone is read
+unfoldable pub heard : Field → List Field → Draft → Result Draft (List ℕ)
+heard f later d =
+    if same_word broker_name f.0 then (if stands_in later broker_name then Ok d else with_broker f.1 d)
+    else (if same_word type_name f.0 then (if stands_in later type_name then Ok d else with_type f.1 d)
+    else (if is_reserved f.0 then Ok d else on_name (as_text f.0) f.1 d))
+
+-- ---- all lines
+
+-- each line in turn, or the first key at fault
+unfoldable pub heard_all : List Field → Draft → Result Draft (List ℕ)
+heard_all [] d = Ok d
+heard_all (f ∷ later) d = then_by (heard f later d) (heard_all later)
+
+-- where nothing is said
+abbrev pub no_draft : Draft
+no_draft = record { broker = no_broker; content_type = []; props = [] }
+
+-- a message with this body, of which this is said; an empty ContentType counts as absent
+abbrev pub message_from : List ℕ → Draft → Message
+message_from body d =
+    record { body = body; sys = with_text ContentType d.content_type d.broker.texts; props = d.props; ttl = d.broker.ttl; schedule = d.broker.schedule }
+
+-- the one message of a request with these headers
+abbrev pub message_in : List Field → List ℕ → Result (List Message) (List ℕ)
+message_in fields body = then_by (heard_all fields no_draft) (λ d. Ok (message_from body d ∷ []))

@@ -1,0 +1,57 @@
+// What a method asks for on a route.
+ghost use Rattle.std.specs.Prelude.{◌≡◌, bytes_eq};
+ghost use Rattle.sb_rest.specs.Calls as calls;
+
+use sb_machine::Mode;
+use sb_routes::Address;
+
+/// What is asked for.
+#[derive(Clone, Copy, Debug, PartialEq, Eq, Drop)]
+pub enum Asked {
+    Send,
+    /// To receive the first message, under a lock or with deletion.
+    Take(Address, Mode),
+    Abandon(Address),
+    Complete(Address),
+    Renew(Address),
+}
+
+pub(crate) fn is(method: &[u8], word: &[u8]) -> bool
+    ensures { result ≡ bytes_eq method.now word.now }
+{
+    method == word
+}
+
+/// At POST, this.
+pub(crate) fn if_post(method: &[u8], asked: Asked) -> Option<Asked>
+    ensures { result ≡ calls.if_post method.now asked }
+{
+    if is(method, b"POST") {
+        Some(asked)
+    } else {
+        None
+    }
+}
+
+/// What a method asks for at the first message.
+pub(crate) fn at_head(address: Address, method: &[u8]) -> Option<Asked>
+    ensures { result ≡ calls.at_head address method.now }
+{
+    if is(method, b"DELETE") {
+        return Some(Asked::Take(address, Mode::Delete));
+    }
+    if_post(method, Asked::Take(address, Mode::Lock))
+}
+
+/// What a method asks for at a message under a lock.
+pub(crate) fn at_locked(address: Address, method: &[u8]) -> Option<Asked>
+    ensures { result ≡ calls.at_locked address method.now }
+{
+    if is(method, b"PUT") {
+        return Some(Asked::Abandon(address));
+    }
+    if is(method, b"DELETE") {
+        return Some(Asked::Complete(address));
+    }
+    if_post(method, Asked::Renew(address))
+}

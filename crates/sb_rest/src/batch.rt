@@ -1,0 +1,186 @@
+// Several messages in one send.
+ghost use Rattle.std.specs.Prelude.{◌≡◌, [], map, All, length, take, drop, option_map, codes};
+ghost use Rattle.std.specs.List.{list_all};
+ghost use Rattle.serde_json.specs.Find.{as_array};
+ghost use Rattle.httparse.specs.Spans.{IsHeaderWithin, header_bytes};
+ghost use Rattle.serde_json.specs.View.{view, items_view, members_view};
+ghost use Rattle.sb_lines.specs.Faults.{Answers, or_key, then_by};
+ghost use Rattle.sb_lines.specs.Messages.{unless_null};
+ghost use Rattle.sb_rest.specs.Batches as batches;
+
+use crate::broker::broker_of;
+use crate::draft::{Broker, Draft, message_from, no_broker};
+use crate::value::json_text;
+use httparse::spans::HeaderSpan;
+use sb_http::is_word;
+use sb_lines::{LineFault, bad, property_value, put_property};
+use sb_model::{Message, Property, Rows, Text};
+use sb_routes::{cut, text_of};
+use serde_json::{Map, Value};
+use std::alloc::Global;
+
+/// The media type of a batch (Microsoft Learn, Service Bus REST API reference, "Send Message Batch").
+const BATCH_TYPE: &[u8] = b"application/vnd.microsoft.servicebus.json";
+
+// ---- the media type
+
+fn front(bytes: &[u8], n: usize) -> &[u8]
+    ensures { result.now ≡ take n bytes.now }
+{
+    if n <= bytes.len() { &bytes[..n] } else { bytes }
+}
+
+fn behind(bytes: &[u8], n: usize) -> &[u8]
+    ensures { result.now ≡ drop n bytes.now }
+{
+    if n <= bytes.len() { &bytes[n..] } else { &[] }
+}
+
+fn is_blank(bytes: &[u8]) -> bool
+    ensures { result ≡ list_all batches.is_blank bytes.now }
+{
+    bytes.iter().all(|b| *b == b' ' || *b == b'\t')
+}
+
+fn is_batch_word(value: &[u8]) -> bool
+    ensures { result ≡ batches.is_batch_word value.now }
+{
+    is_word(BATCH_TYPE, front(value, BATCH_TYPE.len())) && is_blank(behind(value, BATCH_TYPE.len()))
+}
+
+#[tactic(auto, unfolding(crate::specs::Batches::is_batch_type))]
+fn is_batch_type(value: &[u8]) -> bool
+    ensures { result ≡ batches.is_batch_type value.now }
+{
+    is_batch_word(cut(value, b';').0)
+}
+
+/// Whether the last Content-Type of these lines is that of a batch.
+pub(crate) fn is_batch(text: &[u8], lines: &[HeaderSpan]) -> bool
+    requires { All (IsHeaderWithin (length text.now)) lines.now }
+    ensures { result ≡ batches.is_batch (map (header_bytes text.now) lines.now) }
+{
+    let mut so_far = false;
+    for line in lines {
+        if is_word(b"content-type", line.name.of(text)) {
+            so_far = is_batch_type(line.value.of(text));
+        }
+    }
+    so_far
+}
+
+// ---- one message
+
+fn body_from(alloc: Global, given: Option<&Value>) -> Result<Rows<u8>, LineFault>
+    ensures { Answers result (batches.body_from (option_map (λ v. view v.now) given.entry)) }
+{
+    let Some(member) = given else {
+        return Ok(Rows::new(alloc));
+    };
+    let Some(text) = member.as_str() else {
+        return bad(alloc, "Body");
+    };
+    Ok(Rows::of(alloc, text.as_bytes())?)
+}
+
+fn broker_from(alloc: Global, given: Option<&Value>) -> Result<Broker, LineFault>
+    ensures { Answers result (batches.broker_from (option_map (λ v. view v.now) given.entry)) }
+{
+    let Some(member) = given else {
+        return Ok(no_broker(alloc));
+    };
+    if !member.is_object() {
+        return bad(alloc, "BrokerProperties");
+    }
+    broker_of(alloc, member)
+}
+
+fn with_member(
+    alloc: Global,
+    name: &str,
+    value: &Value,
+    props: Rows<Property>,
+) -> Result<Rows<Property>, LineFault>
+    ensures { Answers result (batches.property_from name.now (unless_null (view value.now)) props) }
+{
+    if value.is_null() {
+        return Ok(props);
+    }
+    let value = property_value(alloc, value, name)?;
+    Ok(put_property(alloc, name, value, props)?)
+}
+
+fn properties_of(alloc: Global, members: &Map<String, Value>) -> Result<Rows<Property>, LineFault>
+    ensures { Answers result (batches.with_members (members_view members.now.entries) []) }
+{
+    let mut props = Rows::new(alloc);
+    for (name, member) in members.iter() {
+        props = with_member(alloc, name.as_str(), member, props)?;
+    }
+    Ok(props)
+}
+
+fn properties_from(alloc: Global, given: Option<&Value>) -> Result<Rows<Property>, LineFault>
+    ensures { Answers result (batches.properties_from (option_map (λ v. view v.now) given.entry)) }
+{
+    let Some(member) = given else {
+        return Ok(Rows::new(alloc));
+    };
+    let Some(members) = member.as_object() else {
+        return bad(alloc, "UserProperties");
+    };
+    properties_of(alloc, members)
+}
+
+#[tactic(auto, unfolding(crate::specs::Batches::message_of))]
+fn message_of(alloc: Global, value: &Value) -> Result<Message, LineFault>
+    ensures { Answers result (batches.message_of (view value.now)) }
+{
+    if !value.is_object() {
+        return bad(alloc, "Body");
+    }
+    let body = body_from(alloc, value.get("Body"))?;
+    let broker = broker_from(alloc, value.get("BrokerProperties"))?;
+    let props = properties_from(alloc, value.get("UserProperties"))?;
+    let draft = Draft {
+        broker,
+        content_type: Text::from_string(String::new(alloc)),
+        props,
+    };
+    Ok(message_from(body, draft)?)
+}
+
+// ---- the array
+
+fn messages_of(alloc: Global, values: &[Value]) -> Result<Rows<Message>, LineFault>
+    ensures { Answers result (batches.messages_of (items_view values.now)) }
+{
+    let mut list = Vec::new(alloc);
+    for value in values {
+        let message = message_of(alloc, value)?;
+        list.push(message)?;
+    }
+    Ok(Rows::from_vec(list))
+}
+
+fn messages_from(alloc: Global, value: &Value) -> Result<Rows<Message>, LineFault>
+    ensures { Answers result (then_by (or_key (codes "Body") (as_array (view value.now))) batches.messages_of) }
+{
+    let Some(values) = value.as_array() else {
+        return bad(alloc, "Body");
+    };
+    messages_of(alloc, values.as_slice())
+}
+
+/// The messages of a batch with this body; `Body` is at fault where it is no array of objects.
+pub(crate) fn messages_in(alloc: Global, body: &[u8]) -> Result<Rows<Message>, LineFault>
+    ensures { Answers result (batches.messages_in body.now) }
+{
+    let Some(text) = text_of(body) else {
+        return bad(alloc, "Body");
+    };
+    let Some(value) = json_text(alloc, text)? else {
+        return bad(alloc, "Body");
+    };
+    messages_from(alloc, &value)
+}

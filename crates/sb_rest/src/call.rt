@@ -1,0 +1,234 @@
+// Requests as calls.
+ghost use Rattle.std.specs.Prelude.{◌≡◌, All, length, map, IfOk, Some};
+ghost use Rattle.httparse.specs.Spans.{IsHeaderWithin, header_bytes};
+ghost use Rattle.sb_http.specs.Said.{said_by};
+ghost use Rattle.sb_machine.specs.Ordered.{IsActInOrder};
+ghost use Rattle.sb_lines.specs.Faults.{Answers};
+ghost use Rattle.sb_routes.specs.Paths.{path_of, query_of};
+ghost use Rattle.sb_rest.specs.Calls as calls;
+
+use crate::act::{renewed, settled, taken};
+use crate::asked::{Asked, at_head, at_locked, if_post, is};
+use crate::batch::{is_batch, messages_in as batch_in};
+use crate::header::message_in;
+use crate::path::name_in;
+use crate::timeout::timeout_in;
+use httparse::spans::HeaderSpan;
+use sb_http::Request;
+use sb_lines::LineFault;
+use sb_machine::{Act, Call, How, Mode, Part, Path};
+use sb_model::{Message, Rows, Text};
+use sb_routes::{Address, Route, Routes, cut};
+use std::alloc::Global;
+
+/// Why a request is no call.
+#[derive(Debug, Drop)]
+pub enum RestFault {
+    /// There is no such path.
+    NoRoute,
+    /// The path isn't used with this method.
+    BadMethod,
+    /// This key is the first at fault.
+    Bad { key: Text },
+    /// The body is a script line, and the reply to it is the response.
+    Script,
+    /// Want of memory: the request may be a call.
+    OutOfMemory,
+}
+
+/// A call, and how long it may wait.
+#[derive(Debug, Drop)]
+pub struct Wanted {
+    pub call: Call,
+    /// For how long a receive may wait for a message, in s: 0 to 3,600.
+    pub timeout: u64,
+}
+
+fn messages_in(
+    alloc: Global,
+    text: &[u8],
+    lines: &[HeaderSpan],
+    body: &[u8],
+) -> Result<Rows<Message>, LineFault>
+    requires { All (IsHeaderWithin (length text.now)) lines.now }
+    ensures { Answers result (calls.messages_in (map (header_bytes text.now) lines.now) body.now) }
+{
+    if is_batch(text, lines) {
+        return batch_in(alloc, body);
+    }
+    message_in(alloc, text, lines, body)
+}
+
+fn in_time(act: Act, timeout: u64) -> Wanted
+    ensures { result ≡ calls.in_time act timeout }
+{
+    Wanted {
+        call: Call { by: None, act },
+        timeout,
+    }
+}
+
+#[tactic(auto, unfolding(crate::specs::Calls::sent))]
+fn sent(
+    alloc: Global,
+    path: &[u8],
+    query: &[u8],
+    text: &[u8],
+    lines: &[HeaderSpan],
+    body: &[u8],
+) -> Result<Wanted, LineFault>
+    requires { All (IsHeaderWithin (length text.now)) lines.now }
+    ensures { Answers result (calls.sent path.now query.now (map (header_bytes text.now) lines.now) body.now) }
+{
+    let name = name_in(alloc, path, 1)?;
+    let timeout = timeout_in(alloc, query)?;
+    let messages = messages_in(alloc, text, lines, body)?;
+    let to = Path {
+        name,
+        subscription: None,
+        part: Part::Main,
+    };
+    let act = Act::Send {
+        to,
+        messages,
+        txn: None,
+    };
+    Ok(in_time(act, timeout))
+}
+
+fn take(
+    alloc: Global,
+    address: Address,
+    mode: Mode,
+    path: &[u8],
+    query: &[u8],
+) -> Result<Wanted, LineFault>
+    ensures { Answers result (calls.with_timeout query.now (calls.taken address mode path.now)) }
+{
+    let act = taken(alloc, address, mode, path)?;
+    let timeout = timeout_in(alloc, query)?;
+    Ok(in_time(act, timeout))
+}
+
+fn settle(
+    alloc: Global,
+    address: Address,
+    how: How,
+    path: &[u8],
+    query: &[u8],
+) -> Result<Wanted, LineFault>
+    ensures { Answers result (calls.with_timeout query.now (calls.with_locked address path.now (calls.settled how))) }
+{
+    let act = settled(alloc, address, path, how)?;
+    let timeout = timeout_in(alloc, query)?;
+    Ok(in_time(act, timeout))
+}
+
+fn renew(alloc: Global, address: Address, path: &[u8], query: &[u8]) -> Result<Wanted, LineFault>
+    ensures { Answers result (calls.with_timeout query.now (calls.with_locked address path.now calls.renewed)) }
+{
+    let act = renewed(alloc, address, path)?;
+    let timeout = timeout_in(alloc, query)?;
+    Ok(in_time(act, timeout))
+}
+
+// A method and a path that go together, before the query, the headers and the body.
+#[tactic(auto, unfolding(crate::specs::Calls::wanted_by))]
+fn wanted_by(
+    alloc: Global,
+    asked: Asked,
+    path: &[u8],
+    query: &[u8],
+    request: &Request,
+) -> Result<Wanted, LineFault>
+    ensures { Answers result (calls.wanted_by asked path.now query.now (said_by request.now).head.fields request.now.body.now) }
+{
+    match asked {
+        Asked::Send => sent(
+            alloc,
+            path,
+            query,
+            request.text,
+            request.lines,
+            request.body,
+        ),
+        Asked::Take(address, mode) => take(alloc, address, mode, path, query),
+        Asked::Abandon(address) => settle(alloc, address, How::Abandon, path, query),
+        Asked::Complete(address) => settle(alloc, address, How::Complete, path, query),
+        Asked::Renew(address) => renew(alloc, address, path, query),
+    }
+}
+
+fn on_asked(
+    alloc: Global,
+    asked: Option<Asked>,
+    path: &[u8],
+    query: &[u8],
+    request: &Request,
+) -> Result<Wanted, RestFault>
+    requires path { path.now ≡ path_of request.now.target.now }
+    requires query { query.now ≡ query_of request.now.target.now }
+    ensures { calls.Answers result (calls.on_asked asked (said_by request.now)) }
+{
+    let Some(asked) = asked else {
+        return Err(RestFault::BadMethod);
+    };
+    match wanted_by(alloc, asked, path, query, request) {
+        Ok(wanted) => Ok(wanted),
+        Err(LineFault::BadKey { key }) => Err(RestFault::Bad { key }),
+        Err(LineFault::OutOfMemory) => Err(RestFault::OutOfMemory),
+    }
+}
+
+fn on_script(method: &[u8]) -> Result<Wanted, RestFault>
+    ensures { result ≡ calls.on_script method.now }
+{
+    if is(method, b"POST") {
+        Err(RestFault::Script)
+    } else {
+        Err(RestFault::BadMethod)
+    }
+}
+
+fn on_route(
+    alloc: Global,
+    route: Route,
+    path: &[u8],
+    query: &[u8],
+    request: &Request,
+) -> Result<Wanted, RestFault>
+    requires path { path.now ≡ path_of request.now.target.now }
+    requires query { query.now ≡ query_of request.now.target.now }
+    ensures { calls.Answers result (calls.on_route (Some route) (said_by request.now)) }
+{
+    let asked = match route {
+        Route::Messages => if_post(request.method, Asked::Send),
+        Route::Head(address) => at_head(address, request.method),
+        Route::Locked(address) => at_locked(address, request.method),
+        Route::Script => return on_script(request.method),
+    };
+    on_asked(alloc, asked, path, query, request)
+}
+
+fn wanted_of(alloc: Global, routes: &Routes, request: &Request) -> Result<Wanted, RestFault>
+    ensures { calls.Answers result (calls.call_of (said_by request.now)) }
+{
+    let (path, query) = cut(request.target, b'?');
+    let Ok(route) = routes.of(alloc, path) else {
+        return Err(RestFault::OutOfMemory);
+    };
+    let Some(route) = route else {
+        return Err(RestFault::NoRoute);
+    };
+    on_route(alloc, route, path, query, request)
+}
+
+/// The call of a request, or why it is none: first that there is no such path, then that its method
+/// isn't one of it, then the first key at fault, by its place: the path (`path`, `token`), the query
+/// (`timeout`), the headers as they stand, the body.
+pub fn call_of(alloc: Global, routes: &Routes, request: &Request) -> Result<Wanted, RestFault>
+    ensures call { calls.Answers result (calls.call_of (said_by request.now)) }
+    ensures in_order { IfOk result (λ wanted. IsActInOrder wanted.call.act) }
+{
+    wanted_of(alloc, routes, request)
+}
