@@ -1,22 +1,19 @@
 -- The lists of a call that a request asks for stand in their order.
-use Rattle.std.proofs.Common.{◌≡◌, ℕ, suc, Bool, true, false, List, [], ◌∷◌, Option, Some, None, refl, subst}
+use Rattle.std.proofs.Common.{ℕ, suc, Bool, true, false, List, [], ◌∷◌, Option, Some, None, refl, subst}
 use Rattle.std.specs.Prelude.{codes, bytes_eq, if◌then◌else◌, Result, Ok, Err, IfOk}
 use Rattle.std.specs.Str.{str_to_ascii_lowercase}
 use Rattle.serde_json.specs.Data.{Data, Items, no_items, item, Members, no_members, member}
 use Rattle.serde_json.specs.Find.{get, as_object}
 use Rattle.sb_model.specs.Orders.{AreRising, IsInOrder, name_before}
 use Rattle.sb_model.specs.Effects.{with_user}
-use Rattle.sb_model.specs.declared.message.Message.{Message}
 use Rattle.sb_model.specs.declared.message.Property.{Property}
 use Rattle.sb_model.specs.declared.message.SystemName.TheVariants.{ContentType}
 use Rattle.sb_machine.specs.Each.{Each}
 use Rattle.sb_machine.specs.Ordered.{IsActInOrder}
 use Rattle.sb_machine.specs.declared.call.Act.{Act}
-use Rattle.sb_machine.specs.declared.call.Act.TheVariants.{Receive, Send}
-use Rattle.sb_machine.specs.declared.call.How.{How}
+use Rattle.sb_machine.specs.declared.call.Act.TheVariants.{Receive}
 use Rattle.sb_machine.specs.declared.call.How.TheVariants.{Complete, Abandon}
 use Rattle.sb_machine.specs.declared.call.Mode.{Mode}
-use Rattle.sb_machine.specs.declared.call.Part.TheVariants.{Main}
 use Rattle.sb_machine.specs.declared.call.Path.{Path}
 use Rattle.sb_machine.specs.declared.call.Token.{Token}
 use Rattle.sb_http.specs.Fields.{Field, same_word}
@@ -24,7 +21,7 @@ use Rattle.sb_http.specs.Messages.{RequestMessage}
 use Rattle.sb_lines.specs.declared.texts.Nulls.TheVariants.{Absent}
 use Rattle.sb_lines.specs.Faults.{or_key, then_by}
 use Rattle.sb_lines.specs.Messages as msg
-use Rattle.sb_lines.proofs.InOrder.{Holds, Any, always, then_holds, known_holds, made_holds, UpTo, text_added, property_set}
+use Rattle.sb_lines.proofs.InOrder.{Holds, then_holds, known_holds, made_holds, UpTo, text_added, property_set}
 use Rattle.sb_lines.proofs.OrderedLines.{broker_holds, before_holds}
 use Rattle.sb_routes.specs.declared.routes.Address.{Address}
 use Rattle.sb_routes.specs.declared.routes.Route.{Route}
@@ -34,7 +31,7 @@ use Rattle.sb_routes.specs.Routes.{route_of}
 use Rattle.sb_rest.specs.declared.asked.Asked.{Asked}
 use Rattle.sb_rest.specs.declared.asked.Asked.TheVariants as asked
 use Rattle.sb_rest.specs.declared.call.RestFault.{RestFault}
-use Rattle.sb_rest.specs.declared.call.RestFault.TheVariants.{NoRoute, BadMethod, Bad, Script, OutOfMemory}
+use Rattle.sb_rest.specs.declared.call.RestFault.TheVariants.{BadMethod, Script}
 use Rattle.sb_rest.specs.declared.call.Wanted.{Wanted}
 use Rattle.sb_rest.specs.declared.draft.Broker.{Broker}
 use Rattle.sb_rest.specs.declared.draft.Draft.{Draft}

@@ -1,5 +1,5 @@
 -- Which request asks for which call, or what is at fault in it.
-use Rattle.std.specs.Prelude.{◌≡◌, ℕ, suc, List, [], codes, bytes_eq, Option, Some, None, Result, Ok, Err, if◌then◌else◌}
+use Rattle.std.specs.Prelude.{◌≡◌, ℕ, suc, List, codes, bytes_eq, Option, Some, None, Result, Ok, Err, if◌then◌else◌}
 use Rattle.std.specs.Str.{str_to_ascii_lowercase}
 use Rattle.percent_encoding.specs.Percent.{percent_decode}
 use Rattle.sb_machine.specs.declared.call.Act.{Act}

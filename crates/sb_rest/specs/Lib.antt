@@ -5,4 +5,7 @@ pub mod Headers
 pub mod Batches
 pub mod Lines
 pub mod Calls
+pub mod Moments
+pub mod Shown
+pub mod Responses
 pub mod Worked

@@ -1,12 +1,13 @@
 -- Requests that were worked out by hand, and what they ask for.
-use Rattle.std.specs.Prelude.{ℕ, List, [], ◌∷◌, codes, Some, None, Result, Ok, pos}
-use Rattle.sb_machine.specs.declared.call.Act.{Act}
+use Rattle.std.specs.Prelude.{ℕ, List, [], ◌∷◌, codes, None, Result, Ok}
 use Rattle.sb_machine.specs.declared.call.Act.TheVariants.{Receive, Send}
 use Rattle.sb_machine.specs.declared.call.Mode.TheVariants.{Lock}
 use Rattle.sb_machine.specs.declared.call.Part.TheVariants.{Main}
 use Rattle.sb_machine.specs.declared.call.Path.{Path}
+use Rattle.sb_machine.specs.declared.call.Token.{Token}
+use Rattle.sb_machine.specs.declared.reply.CopyShown.{CopyShown}
+use Rattle.sb_machine.specs.declared.reply.Showing.TheVariants.{Locked}
 use Rattle.sb_model.specs.declared.message.Message.{Message}
-use Rattle.sb_model.specs.declared.message.PropertyValue.TheVariants.{Int, Text}
 use Rattle.sb_http.specs.Fields.{Field}
 use Rattle.sb_http.specs.Messages.{RequestMessage}
 use Rattle.sb_rest.specs.declared.call.RestFault.{RestFault}
@@ -31,3 +32,13 @@ sends messages = Ok (in_time (Send q messages None) 60)
 
 abbrev pub takes : ℕ → Result Wanted RestFault
 takes timeout = Ok (in_time (Receive q Lock None) timeout)
+
+-- ---- a response
+
+-- under the first lock of the namespace whose salt is a1b2c3d4e5f60718
+abbrev pub first_token : Token
+first_token = record { salt = 11651590505119483672; lock = 1 }
+
+-- the first message of q, received a second after 1970 began
+abbrev pub first_copy : CopyShown
+first_copy = record { number = 1; enqueued_seq = 1; enqueued = 1000; delivery = 1; message = text_alone (codes "hi"); showing = Locked first_token 61000 }

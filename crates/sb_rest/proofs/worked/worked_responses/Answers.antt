@@ -1,0 +1,33 @@
+use Rattle.std.proofs.Common.{refl}
+use Rattle.std.specs.Fmt.{digits}
+use Rattle.httparse.specs.Grammar.{is_token_byte}
+use Rattle.serde_json.proofs.OnLiterals.{serde_json_on_literals}
+use Rattle.uuid.proofs.OnLiterals.{uuid_on_literals}
+use Rattle.sb_lines.specs.Tokens.{token_text}
+use Rattle.sb_rest.specs.Headers.{is_reserved}
+use Rattle.sb_rest.specs.Shown.{broker_text, location_text, stands}
+use Rattle.sb_rest.proofs.worked.worked_responses.Goals as goal
+
+pub returns-clause-broker : goal.returns-clause-broker
+unfolding serde_json_on_literals uuid_on_literals token_text broker_text location_text is_reserved stands is_token_byte digits
+returns-clause-broker c = refl
+
+pub returns-clause-location : goal.returns-clause-location
+unfolding serde_json_on_literals uuid_on_literals token_text broker_text location_text is_reserved stands is_token_byte digits
+returns-clause-location c = refl
+
+pub returns-clause-refused : goal.returns-clause-refused
+unfolding serde_json_on_literals uuid_on_literals token_text broker_text location_text is_reserved stands is_token_byte digits
+returns-clause-refused c = refl
+
+pub returns-clause-stopped : goal.returns-clause-stopped
+unfolding serde_json_on_literals uuid_on_literals token_text broker_text location_text is_reserved stands is_token_byte digits
+returns-clause-stopped c = refl
+
+pub returns-clause-property : goal.returns-clause-property
+unfolding serde_json_on_literals uuid_on_literals token_text broker_text location_text is_reserved stands is_token_byte digits
+returns-clause-property c = refl
+
+pub returns-clause-reserved : goal.returns-clause-reserved
+unfolding serde_json_on_literals uuid_on_literals token_text broker_text location_text is_reserved stands is_token_byte digits
+returns-clause-reserved c = refl

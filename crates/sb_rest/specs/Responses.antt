@@ -1,0 +1,125 @@
+-- What answers a call over HTTP.
+use Rattle.std.specs.Prelude.{◌≡◌, ℕ, Bool, true, false, List, [], ◌∷◌, codes, Option, Some, None, find, Result, Ok, Err}
+use Rattle.serde_json.specs.Written.{compact_text}
+use Rattle.sb_machine.specs.declared.call.Act.{Act}
+use Rattle.sb_machine.specs.declared.call.Act.TheVariants.{Send, Receive, Settle, Renew}
+use Rattle.sb_machine.specs.declared.call.Mode.{Mode}
+use Rattle.sb_machine.specs.declared.call.Mode.TheVariants.{Lock, Delete}
+use Rattle.sb_machine.specs.declared.call.Path.{Path}
+use Rattle.sb_machine.specs.declared.reply.Answered.{Answered}
+use Rattle.sb_machine.specs.declared.reply.Answered.TheVariants.{New, Kept}
+use Rattle.sb_machine.specs.declared.reply.CopyShown.{CopyShown}
+use Rattle.sb_machine.specs.declared.reply.Refusal.{Refusal}
+use Rattle.sb_machine.specs.declared.reply.Refusal.TheVariants as refusal
+use Rattle.sb_machine.specs.declared.reply.Reply.{Reply}
+use Rattle.sb_machine.specs.declared.reply.Reply.TheVariants.{Done, Sent, Message, Empty, Renewed}
+use Rattle.sb_http.specs.declared.response.Status.{Status}
+use Rattle.sb_http.specs.declared.response.Status.TheVariants as status
+use Rattle.sb_http.specs.Fields.{Field, same_word}
+use Rattle.sb_http.specs.Responses.{ResponseMessage}
+use Rattle.sb_lines.specs.Refusals.{plain, refusal_data}
+use Rattle.sb_rest.specs.declared.call.RestFault.{RestFault}
+use Rattle.sb_rest.specs.declared.call.RestFault.TheVariants.{NoRoute, BadMethod, Bad, Script, OutOfMemory}
+use Rattle.sb_rest.specs.Moments.{IsTime, IsUntil}
+use Rattle.sb_rest.specs.Shown.{message_fields}
+
+-- a status alone
+abbrev pub bare : Status → ResponseMessage
+bare s = record { status = s; fields = []; body = []; ends = false }
+
+-- ---- refusals
+
+-- those that no call of a route is answered are an error of the server's own
+abbrev pub refusal_status : Refusal → Status
+refusal_status (refusal.BadCall key) = status.BadRequest
+refusal_status refusal.BadName = status.BadRequest
+refusal_status refusal.WrongKind = status.BadRequest
+refusal_status refusal.SessionRequired = status.BadRequest
+refusal_status refusal.EntityNotFound = status.Gone
+refusal_status (refusal.TooLarge size) = status.Forbidden
+refusal_status (refusal.QuotaExceeded copies adds) = status.Forbidden
+refusal_status refusal.LockLost = status.NotFound
+refusal_status (refusal.TxnPending txn) = status.Conflict
+refusal_status refusal.OutOfMemory = status.ServiceUnavailable
+refusal_status _ = status.InternalServerError
+
+-- the line of a script without its line feed; of a stopped node the name alone
+abbrev pub refusal_text : Refusal → List ℕ
+refusal_text (refusal.Stopped faults) = compact_text (plain (codes "Stopped"))
+refusal_text r = compact_text (refusal_data r)
+
+-- the connection ends once the disk has failed
+abbrev pub refusal_ends : Refusal → Bool
+refusal_ends refusal.DiskFault = true
+refusal_ends (refusal.Stopped faults) = true
+refusal_ends _ = false
+
+abbrev pub refusal_response : Refusal → ResponseMessage
+refusal_response r = record { status = refusal_status r; fields = (codes "Content-Type", codes "application/json") ∷ []; body = refusal_text r; ends = refusal_ends r }
+
+-- where a request is no call; a script line is answered by its reply
+abbrev pub fault_response : RestFault → ResponseMessage
+fault_response NoRoute = bare status.NotFound
+fault_response BadMethod = bare status.MethodNotAllowed
+fault_response (Bad key) = refusal_response (refusal.BadCall key)
+fault_response Script = bare status.InternalServerError
+fault_response OutOfMemory = refusal_response refusal.OutOfMemory
+
+-- ---- replies; one that no call of a route is answered is an error of the server's own
+
+abbrev pub sent_status : Reply → Status
+sent_status (Sent receipts) = status.Created
+sent_status _ = status.InternalServerError
+
+abbrev pub settled_status : Reply → Status
+settled_status Done = status.Ok
+settled_status _ = status.InternalServerError
+
+abbrev pub renewed_status : Reply → Status
+renewed_status (Renewed until) = status.Ok
+renewed_status _ = status.InternalServerError
+
+abbrev pub taken_status : Mode → Status
+taken_status Lock = status.Created
+taken_status Delete = status.Ok
+
+-- this is the response with a message that was received there
+pub record GivesMessage (from : Path) (mode : Mode) (host : List ℕ) (c : CopyShown) (r : ResponseMessage) : Type 0 where
+  pub enqueued : List ℕ
+  pub until : List ℕ
+  pub entered : IsTime c.enqueued enqueued
+  pub locked : IsUntil c.showing until
+  pub whole : r ≡ record { status = taken_status mode; fields = message_fields host enqueued until from c; body = c.message.body; ends = false }
+
+abbrev pub GivesTaken : Path → Mode → List ℕ → Reply → ResponseMessage → Type 0
+GivesTaken from mode host (Message c) r = GivesMessage from mode host c r
+GivesTaken from mode host Empty r = r ≡ bare status.NoContent
+GivesTaken from mode host _ r = r ≡ bare status.InternalServerError
+
+-- this is the response to a call that was accepted
+abbrev pub GivesReply : Act → List ℕ → Reply → ResponseMessage → Type 0
+GivesReply (Send to messages txn) host reply r = r ≡ bare (sent_status reply)
+GivesReply (Receive from mode session) host reply r = GivesTaken from mode host reply r
+GivesReply (Settle from which token session how txn) host reply r = r ≡ bare (settled_status reply)
+GivesReply (Renew from which token) host reply r = r ≡ bare (renewed_status reply)
+GivesReply _ host reply r = r ≡ bare status.InternalServerError
+
+-- ---- answers
+
+-- this is the response to a call that is answered so; host is that of the request
+abbrev pub Gives : Act → Result Answered Refusal → List ℕ → ResponseMessage → Type 0
+Gives act (Err refused) host r = r ≡ refusal_response refused
+Gives act (Ok (Kept reply)) host r = r ≡ bare status.InternalServerError
+Gives act (Ok (New reply)) host r = GivesReply act host reply r
+
+-- the host of a request, as it was sent
+abbrev pub host_from : Option Field → List ℕ
+host_from None = codes "localhost"
+host_from (Some f) = f.1
+
+abbrev pub host_in : List Field → List ℕ
+host_in fields = host_from (find (λ f. same_word (codes "host") f.0) fields)
+
+-- the line of a reply as the response to a script line
+abbrev pub line_response : List ℕ → ResponseMessage
+line_response line = record { status = status.Ok; fields = []; body = line; ends = false }

@@ -1,0 +1,127 @@
+-- A message in a response: its headers, in their order.
+use Rattle.std.specs.Prelude.{ℕ, Bool, true, false, not, ◌&&◌, ◌||◌, nat_le, ◌==◌, List, [], ◌∷◌, ◌++◌, codes, Option, Some, None, if◌then◌else◌}
+use Rattle.std.specs.List.{list_all, list_any, flat_map}
+use Rattle.std.specs.Fmt.{decimal, signed_decimal}
+use Rattle.json.specs.Print.{quoted}
+use Rattle.httparse.specs.Grammar.{is_token}
+use Rattle.serde_json.specs.Data.{number, unsigned, string, object, Members, no_members, put}
+use Rattle.serde_json.specs.Written.{compact_text}
+use Rattle.sb_model.specs.SystemNames.{system_name, system_code}
+use Rattle.sb_model.specs.declared.message.Property.{Property}
+use Rattle.sb_model.specs.declared.message.PropertyValue.{PropertyValue}
+use Rattle.sb_model.specs.declared.message.PropertyValue.TheVariants.{Int, Text, Bool as Truth}
+use Rattle.sb_model.specs.declared.message.SystemText.{SystemText}
+use Rattle.sb_machine.specs.declared.reply.CopyShown.{CopyShown}
+use Rattle.sb_machine.specs.declared.reply.Showing.{Showing}
+use Rattle.sb_machine.specs.declared.reply.Showing.TheVariants.{Removed, Locked, Browsed}
+use Rattle.sb_machine.specs.declared.call.Part.{Part}
+use Rattle.sb_machine.specs.declared.call.Part.TheVariants.{Main, Dead, Transfer}
+use Rattle.sb_machine.specs.declared.call.Path.{Path}
+use Rattle.sb_machine.specs.declared.call.Token.{Token}
+use Rattle.sb_http.specs.Fields.{Field}
+use Rattle.sb_lines.specs.Tokens.{token_text}
+use Rattle.sb_rest.specs.Headers.{is_reserved}
+
+-- ---- texts that may stand in a header
+
+-- JSON escapes every other control
+abbrev pub has_delete : List ℕ → Bool
+has_delete text = list_any (λ b. b == 127) text
+
+-- no control but a tab
+abbrev pub is_printable : List ℕ → Bool
+is_printable text = list_all (λ b. (nat_le 32 b && not (b == 127)) || (b == 9)) text
+
+-- ---- BrokerProperties
+
+-- ContentType has a header of its own
+abbrev pub is_shown : SystemText → Bool
+is_shown t = not (system_code t.name == 8) && not (has_delete t.text)
+
+abbrev pub with_shown : SystemText → Members → Members
+with_shown t ms = if is_shown t then put (system_name t.name) (string t.text) ms else ms
+
+abbrev pub with_texts : List SystemText → Members → Members
+with_texts [] ms = ms
+with_texts (t ∷ ts) ms = with_texts ts (with_shown t ms)
+
+abbrev pub with_ttl : Option ℕ → Members → Members
+with_ttl None ms = ms
+with_ttl (Some ttl) ms = put (codes "TimeToLive") (number (unsigned ttl)) ms
+
+abbrev pub with_lock : List ℕ → Showing → Members → Members
+with_lock until (Locked token moment) ms = put (codes "LockToken") (string (token_text token)) (put (codes "LockedUntilUtc") (string until) ms)
+with_lock until Removed ms = ms
+with_lock until (Browsed state) ms = ms
+
+-- keys stand in byte order, in whichever order they are put
+abbrev pub broker_members : List ℕ → List ℕ → CopyShown → Members
+broker_members enqueued until c =
+    with_lock until c.showing (with_ttl c.message.ttl
+    (put (codes "SequenceNumber") (number (unsigned c.number))
+    (put (codes "EnqueuedTimeUtc") (string enqueued)
+    (put (codes "EnqueuedSequenceNumber") (number (unsigned c.enqueued_seq))
+    (put (codes "DeliveryCount") (number (unsigned c.delivery)) (with_texts c.message.sys no_members))))))
+
+unfoldable pub broker_text : List ℕ → List ℕ → CopyShown → List ℕ
+broker_text enqueued until c = compact_text (object (broker_members enqueued until c))
+
+-- ---- Location
+
+abbrev pub base_text : Path → Option (List ℕ) → List ℕ
+base_text path None = path.name
+base_text path (Some name) = path.name ++ codes "/subscriptions/" ++ name
+
+abbrev pub part_text : Part → List ℕ
+part_text Main = []
+part_text Dead = codes "/$deadletterqueue"
+part_text Transfer = codes "/$transfer/$deadletterqueue"
+
+-- an address as it is written
+abbrev pub address_text : Path → List ℕ
+address_text path = base_text path path.subscription ++ part_text path.part
+
+unfoldable pub location_text : List ℕ → Path → ℕ → Token → List ℕ
+location_text host from n token = codes "http://" ++ host ++ codes "/" ++ address_text from ++ codes "/messages/" ++ decimal n ++ codes "/" ++ token_text token
+
+-- under a lock alone
+abbrev pub location_under : Showing → List ℕ → Path → ℕ → List Field
+location_under (Locked token until) host from n = (codes "Location", location_text host from n token) ∷ []
+location_under Removed host from n = []
+location_under (Browsed state) host from n = []
+
+-- ---- Content-Type
+
+unfoldable pub is_type : SystemText → Bool
+is_type t = system_code t.name == 8 && is_printable t.text
+
+abbrev pub type_fields : SystemText → List Field
+type_fields t = if is_type t then (codes "Content-Type", t.text) ∷ [] else []
+
+-- ---- user properties
+
+-- a text as a JSON string, a number or a truth value as it is
+abbrev pub value_text : PropertyValue → List ℕ
+value_text (Int z) = signed_decimal z
+value_text (Text text) = quoted text
+value_text (Truth true) = codes "true"
+value_text (Truth false) = codes "false"
+
+abbrev pub value_stands : PropertyValue → Bool
+value_stands (Int z) = true
+value_stands (Text text) = not (has_delete text)
+value_stands (Truth b) = true
+
+-- its name is one that a header may have and isn't reserved, and its value may stand there
+unfoldable pub stands : Property → Bool
+stands p = is_token p.name && not (is_reserved p.name) && value_stands p.value
+
+abbrev pub property_fields : Property → List Field
+property_fields p = if stands p then (p.name, value_text p.value) ∷ [] else []
+
+-- ---- all headers
+
+-- with the texts of the message's moments
+abbrev pub message_fields : List ℕ → List ℕ → List ℕ → Path → CopyShown → List Field
+message_fields host enqueued until from c =
+    (codes "BrokerProperties", broker_text enqueued until c) ∷ (location_under c.showing host from c.number ++ flat_map type_fields c.message.sys ++ flat_map property_fields c.message.props)

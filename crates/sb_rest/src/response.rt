@@ -1,0 +1,251 @@
+// Answers as responses.
+ghost use Rattle.std.specs.Prelude.{◌≡◌, IfOk, All, map, length, codes, string_bytes};
+ghost use Rattle.httparse.specs.Spans.{IsHeaderWithin, header_bytes};
+ghost use Rattle.serde_json.specs.Written.{compact_text};
+ghost use Rattle.sb_lines.specs.Refusals.{plain, refusal_data};
+ghost use Rattle.sb_http.specs.Responses.{said_in};
+ghost use Rattle.sb_http.specs.Said.{fields_of};
+ghost use Rattle.sb_rest.specs.Responses as responses;
+
+use crate::call::RestFault;
+use crate::field::{message_fields, push_field};
+use crate::moment::{time_text, until_text};
+use crate::shown::json_line;
+use httparse::spans::HeaderSpan;
+use sb_http::{Request, Response, Status, is_word};
+use sb_lines::refusal_value;
+use sb_machine::{Act, Answer, Answered, Call, CopyShown, Mode, Path, Refusal, Reply};
+use std::alloc::{AllocError, Global};
+
+fn bare(alloc: Global, status: Status) -> Response
+    ensures { said_in result ≡ responses.bare status }
+{
+    Response {
+        status,
+        headers: Vec::new(alloc),
+        body: Vec::new(alloc),
+        closes: false,
+    }
+}
+
+// ---- refusals
+
+fn refusal_status(refusal: &Refusal) -> Status
+    ensures { result ≡ responses.refusal_status refusal.now }
+{
+    match refusal {
+        Refusal::BadCall { .. }
+        | Refusal::BadName
+        | Refusal::WrongKind
+        | Refusal::SessionRequired => Status::BadRequest,
+        Refusal::EntityNotFound => Status::Gone,
+        Refusal::TooLarge { .. } | Refusal::QuotaExceeded { .. } => Status::Forbidden,
+        Refusal::LockLost => Status::NotFound,
+        Refusal::TxnPending { .. } => Status::Conflict,
+        Refusal::OutOfMemory => Status::ServiceUnavailable,
+        _ => Status::InternalServerError,
+    }
+}
+
+fn refusal_ends(refusal: &Refusal) -> bool
+    ensures { result ≡ responses.refusal_ends refusal.now }
+{
+    match refusal {
+        Refusal::DiskFault | Refusal::Stopped { .. } => true,
+        _ => false,
+    }
+}
+
+fn whole_text(alloc: Global, refusal: &Refusal) -> Result<String, AllocError>
+    ensures { IfOk result (λ s. string_bytes s ≡ compact_text (refusal_data refusal.now)) }
+{
+    let value = refusal_value(alloc, refusal)?;
+    json_line(alloc, &value)
+}
+
+// Without the count of faults, which is the server's own matter.
+fn stopped_text() -> &'static str
+    ensures { result.now ≡ compact_text (plain (codes "Stopped")) }
+{
+    "{\"refused\":\"Stopped\"}"
+}
+
+fn refusal_text(alloc: Global, refusal: &Refusal) -> Result<String, AllocError>
+    ensures { IfOk result (λ s. string_bytes s ≡ responses.refusal_text refusal.now) }
+{
+    match refusal {
+        Refusal::Stopped { .. } => String::from_str(alloc, stopped_text()),
+        _ => whole_text(alloc, refusal),
+    }
+}
+
+fn refusal_response(alloc: Global, refusal: &Refusal) -> Result<Response, AllocError>
+    ensures { IfOk result (λ r. said_in r ≡ responses.refusal_response refusal.now) }
+{
+    let text = refusal_text(alloc, refusal)?;
+    let mut headers = Vec::new(alloc);
+    push_field(alloc, &mut headers, b"Content-Type", b"application/json")?;
+    Ok(Response {
+        status: refusal_status(refusal),
+        headers,
+        body: text.into_bytes(),
+        closes: refusal_ends(refusal),
+    })
+}
+
+/// The response to a request that is no call. A script line is answered by the line of its reply, so
+/// `Script` has none of its own.
+pub fn fault_response(alloc: Global, fault: RestFault) -> Result<Response, AllocError>
+    ensures { IfOk result (λ r. said_in r ≡ responses.fault_response fault) }
+{
+    match fault {
+        RestFault::NoRoute => Ok(bare(alloc, Status::NotFound)),
+        RestFault::BadMethod => Ok(bare(alloc, Status::MethodNotAllowed)),
+        RestFault::Bad { key } => refusal_response(alloc, &Refusal::BadCall { key }),
+        RestFault::Script => Ok(bare(alloc, Status::InternalServerError)),
+        RestFault::OutOfMemory => refusal_response(alloc, &Refusal::OutOfMemory),
+    }
+}
+
+// ---- replies
+
+fn sent_status(reply: &Reply) -> Status
+    ensures { result ≡ responses.sent_status reply.now }
+{
+    match reply {
+        Reply::Sent(_) => Status::Created,
+        _ => Status::InternalServerError,
+    }
+}
+
+fn settled_status(reply: &Reply) -> Status
+    ensures { result ≡ responses.settled_status reply.now }
+{
+    match reply {
+        Reply::Done => Status::Ok,
+        _ => Status::InternalServerError,
+    }
+}
+
+fn renewed_status(reply: &Reply) -> Status
+    ensures { result ≡ responses.renewed_status reply.now }
+{
+    match reply {
+        Reply::Renewed { .. } => Status::Ok,
+        _ => Status::InternalServerError,
+    }
+}
+
+fn taken_status(mode: Mode) -> Status
+    ensures { result ≡ responses.taken_status mode }
+{
+    match mode {
+        Mode::Lock => Status::Created,
+        Mode::Delete => Status::Ok,
+    }
+}
+
+fn message_response(
+    alloc: Global,
+    from: &Path,
+    mode: Mode,
+    host: &[u8],
+    copy: &CopyShown,
+) -> Result<Response, AllocError>
+    ensures { IfOk result (λ r. responses.GivesMessage from.now mode host.now copy.now (said_in r)) }
+{
+    let enqueued = time_text(alloc, copy.enqueued)?;
+    let until = until_text(alloc, copy.showing)?;
+    let headers = message_fields(alloc, host, enqueued.as_str(), until.as_str(), from, copy)?;
+    let body = copy.message.body.as_slice().to_vec(alloc)?;
+    Ok(Response {
+        status: taken_status(mode),
+        headers,
+        body,
+        closes: false,
+    })
+}
+
+fn taken_response(
+    alloc: Global,
+    from: &Path,
+    mode: Mode,
+    host: &[u8],
+    reply: &Reply,
+) -> Result<Response, AllocError>
+    ensures { IfOk result (λ r. responses.GivesTaken from.now mode host.now reply.now (said_in r)) }
+{
+    match reply {
+        Reply::Message(copy) => message_response(alloc, from, mode, host, copy),
+        Reply::Empty => Ok(bare(alloc, Status::NoContent)),
+        _ => Ok(bare(alloc, Status::InternalServerError)),
+    }
+}
+
+fn reply_response(
+    alloc: Global,
+    act: &Act,
+    host: &[u8],
+    reply: &Reply,
+) -> Result<Response, AllocError>
+    ensures { IfOk result (λ r. responses.GivesReply act.now host.now reply.now (said_in r)) }
+{
+    match act {
+        Act::Send { .. } => Ok(bare(alloc, sent_status(reply))),
+        Act::Receive { from, mode, .. } => taken_response(alloc, from, *mode, host, reply),
+        Act::Settle { .. } => Ok(bare(alloc, settled_status(reply))),
+        Act::Renew { .. } => Ok(bare(alloc, renewed_status(reply))),
+        _ => Ok(bare(alloc, Status::InternalServerError)),
+    }
+}
+
+// ---- answers
+
+/// The response to a call that is answered so. The host is that of the request (`host_of`): it stands
+/// in the Location of a message under a lock. A reply that no call of a route is answered, and a kept
+/// one, is an error of the server's own. It fails for want of memory alone.
+pub fn response_of(
+    alloc: Global,
+    call: &Call,
+    answer: &Answer,
+    host: &[u8],
+) -> Result<Response, AllocError>
+    ensures { IfOk result (λ r. responses.Gives call.now.act answer.now host.now (said_in r)) }
+{
+    match answer {
+        Ok(Answered::New(reply)) => reply_response(alloc, &call.act, host, reply),
+        Ok(Answered::Kept(_)) => Ok(bare(alloc, Status::InternalServerError)),
+        Err(refusal) => refusal_response(alloc, refusal),
+    }
+}
+
+fn host_in<'a>(text: &'a [u8], lines: &[HeaderSpan]) -> &'a [u8]
+    requires { All (IsHeaderWithin (length text.now)) lines.now }
+    ensures { result.now ≡ responses.host_in (map (header_bytes text.now) lines.now) }
+{
+    for line in lines {
+        if is_word(b"host", line.name.of(text)) {
+            return line.value.of(text);
+        }
+    }
+    b"localhost"
+}
+
+/// The host that a request names, as it was sent; `localhost` where it names none.
+pub fn host_of<'a>(request: &Request<'a>) -> &'a [u8]
+    ensures { result.now ≡ responses.host_in (fields_of request.now) }
+{
+    host_in(request.text, request.lines)
+}
+
+/// The response to a script line that is answered by this line, with its line feed.
+pub fn line_response(alloc: Global, line: String) -> Response
+    ensures { said_in result ≡ responses.line_response (string_bytes line) }
+{
+    Response {
+        status: Status::Ok,
+        headers: Vec::new(alloc),
+        body: line.into_bytes(),
+        closes: false,
+    }
+}
