@@ -7,8 +7,10 @@ PROGRAM is the built program (crates/sb_bus/out/sb_bus) or the launcher `bus`. I
 three records. Then for every length from 0 to the whole, for every byte with every other value
 (with --values N: with N others), and for every byte with two values and a torn or missing end gate,
 the file is written to a folder, the program is run there on one peek, and what it says and leaves is
-compared with what a second reader, written here from docs/FORMATS.md alone, makes of the bytes. At
-the end stands how many files were of each class; the exit status is 1 where one was treated
+compared with what a second reader, written here from docs/FORMATS.md alone, makes of the bytes. It
+carries out queues that are created with defaults, sent to and received from with deletion; where a
+changed byte spells another act or another field, it asks only that the program opens the file, or
+names a gate from there on and leaves the file as it was. At the end stands how many files were of each class; the exit status is 1 where one was treated
 otherwise.
 """
 import argparse
@@ -40,6 +42,10 @@ NOT_FOUND = '{"refused":"EntityNotFound"}\n'
 
 class NoEvent(Exception):
     """These bytes spell no event, or one that changes nothing."""
+
+
+class Unknown(Exception):
+    """These bytes may spell an event that this reader doesn't carry out."""
 
 
 class Damaged(Exception):
@@ -147,16 +153,20 @@ class Namespace:
         event = Event(payload)
         if event.one_of(2) == 0:
             event.number(8)
-            raise NoEvent  # a tick changes nothing yet
+            raise NoEvent  # nothing is ever due here
         moment = event.number(8)
         by = event.optional(event.by)
         act = event.number(1)
         acts = {1: self.create, 7: self.send, 9: self.receive}
+        if not 1 <= act <= 0x13 or not self.moment <= moment <= MAX_MOMENT:
+            raise NoEvent
         if act not in acts:
-            raise NoEvent
+            raise Unknown
         change = acts[act](event, moment)
-        if event.rest or by is not None or not self.moment <= moment <= MAX_MOMENT:
+        if event.rest:
             raise NoEvent
+        if by is not None:
+            raise Unknown
         change()
         self.moment = moment
 
@@ -171,8 +181,10 @@ class Namespace:
 
         def change():
             good = 1 <= len(name) <= 260 and set(name) <= NAME_BYTES
-            if not good or description != DEFAULT or name in self.queues:
+            if not good or name in self.queues:
                 raise NoEvent
+            if description != DEFAULT:
+                raise Unknown
             self.queues[name] = {"last": 0, "copies": []}
 
         return change
@@ -185,8 +197,10 @@ class Namespace:
             queue = self.queue(path)
             bodies = [m["body"] for m in messages]
             plain = all(not m["system"] and not m["properties"] and m["ttl"] is None and m["schedule"] is None for m in messages)
-            if transaction is not None or not plain or not 1 <= len(bodies) <= 100 or sum(map(len, bodies)) > MAX_BODIES:
+            if not 1 <= len(bodies) <= 100 or sum(map(len, bodies)) > MAX_BODIES:
                 raise NoEvent
+            if transaction is not None or not plain:
+                raise Unknown
             for body in bodies:
                 queue["last"] += 1
                 queue["copies"].append((queue["last"], moment, body))
@@ -199,8 +213,10 @@ class Namespace:
 
         def change():
             queue = self.queue(path)
-            if mode != 1 or session is not None or not queue["copies"]:
+            if session is not None or not queue["copies"]:
                 raise NoEvent
+            if mode != 1:
+                raise Unknown
             queue["copies"].pop(0)
 
         return change
@@ -261,7 +277,8 @@ def records_in(data):
 
 
 def read_journal(data):
-    """The class of a file, the reply to PEEK, the status, and the bytes that an opening leaves."""
+    """The class of a file, the reply to PEEK, the status, and the bytes that an opening leaves; where this
+    reader can't tell the reply, in place of the status the gate from which on it can't."""
     if len(data) < 43 or data[0] != 1:
         return "no journal, replaced by a new one", NOT_FOUND, 1, None
     try:
@@ -275,6 +292,9 @@ def read_journal(data):
                 namespace.carry_out(payload)
             except NoEvent:
                 raise Damaged(gate) from None
+            except Unknown:
+                left = data[:end] + b"\0" + data[end + 1 :]
+                return f"another event at {gate}", None, gate, left
     except Damaged as fault:
         line = compact({"disk": "a", "place": fault.args[0], "refused": "Damaged"})
         return f"damaged at {fault.args[0]}, left as it was", line, 6, data
@@ -308,6 +328,12 @@ def tried(program, folder, data):
     with open(os.path.join(folder, "b.journal"), "rb") as file:
         other = file.read()
     faults = []
+    if reply is None:
+        if ended == 6 and json.loads(told)["place"] >= status:
+            left = data
+        elif ended not in (0, 1):
+            faults.append(f"status {ended}")
+        reply, status = told, ended
     if ended != status:
         faults.append(f"status {ended}, not {status}")
     if told != reply:
