@@ -47,8 +47,8 @@ record-requires-clause-short g c spelled =
     let changing : is_change (client_of c.args.call.now) (outcome_of s c.args.t c.args.call.now) ≡ true = c.in_ok-plan.ensures.ok.0.change ∙ sym c.if-not-is_changing.ensures in
     call_short s c.args.t c.args.call.now c.args.self.now.consistent c.requires.order changing spelled
 
-pub returns-in_err-record-clause-any_moment : goal.returns-in_err-record-clause-any_moment
-returns-in_err-record-clause-any_moment g c kept =
+pub returns-in-Err-clause-any_moment : goal.returns-in-Err-clause-any_moment
+returns-in-Err-clause-any_moment g c kept =
     let s = engine_state c.args.self.now.engine in
     let changing : is_change (client_of c.args.call.now) (outcome_of s c.args.t c.args.call.now) ≡ true = c.in_ok-plan.ensures.ok.0.change ∙ sym c.if-not-is_changing.ensures in
     event_moments (node_disks c.args.self.now) (node_disks c.record.new.self) kept.file (Called c.args.t c.args.call.now) s (state_of s c.args.t c.args.call.now) kept.leads
@@ -67,7 +67,7 @@ invariant_of-self g c =
     let t = c.args.t in
     let call = c.args.call.now in
     let went : engine_state c.commit.new.self ≡ state_of s t call =
-    c.commit.ensures.state ∙ ap (λ (x : State). carried_out t c.in_ok-plan.plan x) c.in_ok-record.ensures.state ∙ sym (c.in_ok-plan.ensures.ok.0.state (sym c.if-not-is_changing.ensures)) in
+    c.commit.ensures.state ∙ ap (λ (x : State). carried_out t c.in_ok-plan.plan x) c.in-Ok.ensures.state ∙ sym (c.in_ok-plan.ensures.ok.0.state (sym c.if-not-is_changing.ensures)) in
     record {
       runs = c.record.new.self.runs;
       consistent = ∥∥₁_map c.args.self.now.consistent (λ k. subst IsConsistent (sym went) (stays_consistent s t call k c.requires.order c.requires.later c.requires.counts));
@@ -80,8 +80,8 @@ returns-clause-kept g c kept running =
     let call = c.args.call.now in
     let changing : is_change (client_of call) (outcome_of s t call) ≡ true = c.in_ok-plan.ensures.ok.0.change ∙ sym c.if-not-is_changing.ensures in
     let went : engine_state c.commit.new.self ≡ state_of s t call =
-    c.commit.ensures.state ∙ ap (λ (x : State). carried_out t c.in_ok-plan.plan x) c.in_ok-record.ensures.state ∙ sym (c.in_ok-plan.ensures.ok.0.state (sym c.if-not-is_changing.ensures)) in
-    one_logged c.args.self.now.journal c.record.new.self.journal c.args.self.now.last c.record.new.self.last s (engine_state c.commit.new.self) (Called t call) kept (c.in_ok-record.ensures.logged kept.file kept.holds)
+    c.commit.ensures.state ∙ ap (λ (x : State). carried_out t c.in_ok-plan.plan x) c.in-Ok.ensures.state ∙ sym (c.in_ok-plan.ensures.ok.0.state (sym c.if-not-is_changing.ensures)) in
+    one_logged c.args.self.now.journal c.record.new.self.journal c.args.self.now.last c.record.new.self.last s (engine_state c.commit.new.self) (Called t call) kept (c.in-Ok.ensures.logged kept.file kept.holds)
     (call_taken s t call c.requires.later c.requires.counts c.requires.calm changing ∙ ap Some (sym went))
 
 pub returns-in_err-plan-clause-no_stop : goal.returns-in_err-plan-clause-no_stop
@@ -109,5 +109,5 @@ pub returns-clause-events : goal.returns-clause-events
 returns-clause-events g c kept running salt =
     let s = engine_state c.args.self.now.engine in
     let changing : is_change (client_of c.args.call.now) (outcome_of s c.args.t c.args.call.now) ≡ true = c.in_ok-plan.ensures.ok.0.change ∙ sym c.if-not-is_changing.ensures in
-    one_more c.args.self.now.journal c.record.new.self.journal c.record.new.self.last kept.file (Called c.args.t c.args.call.now) salt kept.holds (c.in_ok-record.ensures.logged kept.file kept.holds)
+    one_more c.args.self.now.journal c.record.new.self.journal c.record.new.self.last kept.file (Called c.args.t c.args.call.now) salt kept.holds (c.in-Ok.ensures.logged kept.file kept.holds)
     ∙ ap (λ (l : List Event). events_on (node_disks c.args.self.now) salt ++ map Some l) (sym (call_changed c.args.t c.args.call.now s c.commit.result changing))

@@ -36,8 +36,8 @@ record-requires-clause-spellable g c = tick_written c.args.t
 pub record-requires-clause-short : goal.record-requires-clause-short
 record-requires-clause-short g c spelled = tick_is_short c.args.t
 
-pub returns-in_err-record-clause-any_moment : goal.returns-in_err-record-clause-any_moment
-returns-in_err-record-clause-any_moment g c kept =
+pub returns-in-Err-clause-any_moment : goal.returns-in-Err-clause-any_moment
+returns-in-Err-clause-any_moment g c kept =
     let s = engine_state c.args.self.now.engine in
     let t = c.args.t in
     let due : is_due t s.space ≡ true = sym c.if-not-is_due.ensures in
@@ -51,7 +51,7 @@ invariant_of-self g c =
     let s = engine_state c.args.self.now.engine in
     let t = c.args.t in
     let went : engine_state c.commit-answered.new.self ≡ advanced s t =
-    c.commit-answered.ensures.state ∙ ap (λ (x : State). carried_out t c.in_ok-plan.plan x) c.in_ok-record.ensures.state ∙ c.in_ok-plan.ensures.ok.0 in
+    c.commit-answered.ensures.state ∙ ap (λ (x : State). carried_out t c.in_ok-plan.plan x) c.in-Ok.ensures.state ∙ c.in_ok-plan.ensures.ok.0 in
     record {
       runs = c.record.new.self.runs;
       consistent = ∥∥₁_map c.args.self.now.consistent (λ k. subst IsConsistent (sym went) (ticks_consistent s t k c.requires.later c.requires.counts c.in_ok-plan.ensures.ok.1));
@@ -63,13 +63,13 @@ returns-clause-kept g c kept running =
     let t = c.args.t in
     let due : is_due t s.space ≡ true = sym c.if-not-is_due.ensures in
     let went : engine_state c.commit-answered.new.self ≡ advanced s t =
-    c.commit-answered.ensures.state ∙ ap (λ (x : State). carried_out t c.in_ok-plan.plan x) c.in_ok-record.ensures.state ∙ c.in_ok-plan.ensures.ok.0 in
-    one_logged c.args.self.now.journal c.record.new.self.journal c.args.self.now.last c.record.new.self.last s (engine_state c.commit-answered.new.self) (Tick t) kept (c.in_ok-record.ensures.logged kept.file kept.holds)
+    c.commit-answered.ensures.state ∙ ap (λ (x : State). carried_out t c.in_ok-plan.plan x) c.in-Ok.ensures.state ∙ c.in_ok-plan.ensures.ok.0 in
+    one_logged c.args.self.now.journal c.record.new.self.journal c.args.self.now.last c.record.new.self.last s (engine_state c.commit-answered.new.self) (Tick t) kept (c.in-Ok.ensures.logged kept.file kept.holds)
     (tick_taken s t c.requires.later c.requires.counts due c.in_ok-plan.ensures.ok.1 ∙ ap Some (sym went))
 
 pub returns-clause-events : goal.returns-clause-events
 returns-clause-events g c kept running salt =
-    one_more c.args.self.now.journal c.record.new.self.journal c.record.new.self.last kept.file (Tick c.args.t) salt kept.holds (c.in_ok-record.ensures.logged kept.file kept.holds)
+    one_more c.args.self.now.journal c.record.new.self.journal c.record.new.self.last kept.file (Tick c.args.t) salt kept.holds (c.in-Ok.ensures.logged kept.file kept.holds)
 
 pub returns-clause-any_moment : goal.returns-clause-any_moment
 returns-clause-any_moment g c kept =
