@@ -697,23 +697,31 @@ const MADE: &str = r#"
 {"counts":{"dead":0,"main":0,"transfer":0},"ok":"counts"}
 "#;
 
+// The file of one event with this in place of its gate, and this behind it.
+fn file_with(rt: &HostRuntime, gate: u8, rest: &[u8]) -> Result<Vec<u8>, Fail> {
+    let mut bytes = ONE_EVENT[..42].to_vec(rt.alloc())?;
+    bytes.push(gate)?;
+    bytes.extend_from_slice(rest)?;
+    Ok(bytes)
+}
+
+// Behind the first call the tail holds any bytes, behind the third the gate does.
+fn stops_at(rt: &HostRuntime, fill: u8, torn_gate: &str, status: u8) -> Result<(), Fail> {
+    let tail = vec![in rt.alloc(); fill; 44]?;
+    let first = file_with(rt, 0, &tail)?;
+    left_by(rt, &first, &[NOT_MADE], 1)?;
+    let third = file_with(rt, fill, &ONE_EVENT[43..])?;
+    left_by(rt, &third, &[torn_gate], status)?;
+    Ok(())
+}
+
 // The device calls of the append of one event: a write behind the gate, a sync, the gate's write, a
 // sync. What was written since the last sync holds any bytes where the machine stops.
 #[test]
 fn an_append_stops(rt: HostRuntime) -> Result<(), Fail> {
-    let alloc = rt.alloc();
-    let head = &ONE_EVENT[..42];
-    let record = &ONE_EVENT[43..];
-    let rows: [(u8, &str, u8); 2] = [(0xff, NOT_MADE, 1), (0x01, MADE, 0)];
-    for row in &rows {
-        let (fill, gate_torn, status) = *row;
-        let tail = [fill; 44];
-        let first = [head, &[0], &tail].concat(alloc)?;
-        left_by(&rt, &first, &[NOT_MADE], 1)?;
-        let third = [head, &[fill], record].concat(alloc)?;
-        left_by(&rt, &third, &[gate_torn], status)?;
-    }
-    let second = [head, &[0], record].concat(alloc)?;
+    stops_at(&rt, 0xff, NOT_MADE, 1)?;
+    stops_at(&rt, 0x01, MADE, 0)?;
+    let second = file_with(&rt, 0, &ONE_EVENT[43..])?;
     left_by(&rt, &second, &[NOT_MADE], 1)?;
     left_by(&rt, &ONE_EVENT, &[MADE], 0)?;
     Ok(())
