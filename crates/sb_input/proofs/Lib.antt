@@ -1,0 +1,5 @@
+pub mod Errors
+pub mod Splits
+pub mod Pending
+pub mod Readings
+pub mod Advances

@@ -1,0 +1,5 @@
+pub mod Limits
+pub mod Lines
+pub mod PartialLines
+pub mod Taking
+pub mod Readers
