@@ -11,5 +11,7 @@ pub mod Shorter
 pub mod Kept
 pub mod Answering
 pub mod Written
+pub mod WholeResponses
 pub mod WorkedFraming
 pub mod WorkedStreams
+pub mod WorkedResponses

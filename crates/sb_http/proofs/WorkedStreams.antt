@@ -26,7 +26,7 @@ use Rattle.sb_http.proofs.Refusals.{refuses_head, too_much}
 
 -- ---- trees that pass their tests
 
-is_sound_field : FieldLine → Bool
+unfoldable pub is_sound_field : FieldLine → Bool
 is_sound_field f = is_token f.name && list_all is_value_byte f.raw
 
 sound_field : (f : FieldLine) → is_sound_field f ≡ true → IsField f
@@ -36,7 +36,7 @@ sound_field f h =
     let name = and_parts (nat_lt 0 (length f.name)) _ parts.0 in
     record { name = (ltb-true 0 (length f.name) name.0, AllPass-from_list_all is_token_byte f.name name.1); raw = AllPass-from_list_all is_value_byte f.raw parts.1 }
 
-sound_fields : (fs : List FieldLine) → list_all is_sound_field fs ≡ true → All IsField fs
+pub sound_fields : (fs : List FieldLine) → list_all is_sound_field fs ≡ true → All IsField fs
 sound_fields [] h = All-nil IsField
 sound_fields (f ∷ fs) h = let parts = and_parts (is_sound_field f) _ h in All-cons IsField f fs (sound_field f parts.0) (sound_fields fs parts.1)
 
@@ -69,7 +69,7 @@ read_head : (h : RequestHead) (head : Head) (rest : List ℕ) → is_sound h ≡
     → ReadsHead (print_request h ++ rest) head rest
 read_head h head rest sound says short few = record { tree = h; reads = (sound_head h sound, refl); says = says; short = leb-true _ max_head short; few = leb-true _ max_fields few }
 
-field : List ℕ → List ℕ → FieldLine
+unfoldable pub field : List ℕ → List ℕ → FieldLine
 field name raw = record { name = name; raw = raw; end = crlf }
 
 request : List ℕ → ℕ → List FieldLine → RequestHead

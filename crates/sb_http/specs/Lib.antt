@@ -10,4 +10,6 @@ pub mod Found
 pub mod Buffers
 pub mod Said
 pub mod Responses
+pub mod WholeResponses
 pub mod Worked
+pub mod WorkedResponses

@@ -6,7 +6,8 @@
 //! `next_request` takes the next request off its front once it is whole. So the requests are the
 //! same however the stream is cut, and what is refused is refused for its cause (`specs/Causes`).
 //! One buffer is made in `new`, and nothing after that takes memory. `write_response` gives the
-//! bytes that `specs/Responses` says. `docs/HTTP.md` has the rules and limits.
+//! bytes that `specs/Responses` says, and `read_response` reads one that came whole, by
+//! `specs/WholeResponses`. `docs/HTTP.md` has the rules and limits.
 //!
 //! ```rust
 //! fn take_all(out: &mut Vec<u8>, incoming: &mut Incoming) -> Result<Option<HttpFault>, Fail> {
@@ -45,6 +46,9 @@ mod steps;
 #[cfg(test)]
 mod tests;
 mod version;
+mod whole;
+pub mod whole_laws;
+mod whole_response;
 mod write;
 
 pub use fault::HttpFault;
@@ -54,4 +58,6 @@ pub use limits::{MAX_BODY, MAX_BUFFER, MAX_FIELDS, MAX_HEAD, MAX_LINE, MAX_TRAIL
 pub use request::Request;
 pub use response::{Header, Response, Status};
 pub use version::Version;
+pub use whole::read_response;
+pub use whole_response::WholeResponse;
 pub use write::write_response;

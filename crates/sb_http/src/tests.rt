@@ -2,6 +2,7 @@ mod heads;
 mod limits;
 mod responses;
 mod streams;
+mod whole;
 
 use crate::{HttpFault, Incoming, Request, Version};
 use std::alloc::Global;
