@@ -1,0 +1,5 @@
+pub mod Telling
+pub mod LineKinds
+pub mod Serving
+pub mod Taken
+pub mod Advances

@@ -1,0 +1,7 @@
+pub mod Endings
+pub mod Requests
+pub mod Replies
+pub mod Answers
+pub mod Outside
+pub mod Serving
+pub mod Runs
