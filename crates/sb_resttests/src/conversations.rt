@@ -229,6 +229,10 @@ const SETTLING: &str = r#"
 204 No Content||
 3660000 DELETE /q/messages/head
 204 No Content||
+18446744073709551615 POST /q/messages||z
+201 Created|Content-Length: 0||
+18446744073709551615 POST /q/messages/head
+201 Created|BrokerProperties: {"DeliveryCount":1,"EnqueuedSequenceNumber":2,"EnqueuedTimeUtc":"Fri, 31 Dec 9999 00:00:00 GMT","LockToken":"a1b2c3d4-e5f6-0718-0000-000000000004","LockedUntilUtc":"Fri, 31 Dec 9999 00:01:00 GMT","SequenceNumber":2}|Location: http://h/q/messages/2/a1b2c3d4-e5f6-0718-0000-000000000004|Content-Length: 1||z
 "#;
 
 // All that a message may say, what a header can't hold, and a batch.
@@ -263,6 +267,10 @@ const SHOWN: &str = r#"
 204 No Content||
 784111780000 DELETE /q/messages/head
 200 OK|BrokerProperties: {"DeliveryCount":1,"EnqueuedSequenceNumber":8,"EnqueuedTimeUtc":"Sun, 06 Nov 1994 08:49:40 GMT","SequenceNumber":8}|Content-Length: 4||late
+784111780000 POST /q/messages||e
+201 Created|Content-Length: 0||
+784111780000 POST /q/messages/head HTTP/1.1|Host:||
+201 Created|BrokerProperties: {"DeliveryCount":1,"EnqueuedSequenceNumber":9,"EnqueuedTimeUtc":"Sun, 06 Nov 1994 08:49:40 GMT","LockToken":"a1b2c3d4-e5f6-0718-0000-000000000002","LockedUntilUtc":"Sun, 06 Nov 1994 08:50:40 GMT","SequenceNumber":9}|Location: http:///q/messages/9/a1b2c3d4-e5f6-0718-0000-000000000002|Content-Length: 1||e
 "#;
 
 // Subscriptions, dead letters and messages that couldn't be forwarded.
@@ -333,6 +341,10 @@ const REFUSED: &str = r#"
 400 Bad Request|Content-Type: application/json|Content-Length: 35||{"key":"props","refused":"BadCall"}
 1 POST /q/messages|Content-Type: application/vnd.microsoft.servicebus.json||[{"UserProperties":{"":1}}]
 400 Bad Request|Content-Type: application/json|Content-Length: 35||{"key":"props","refused":"BadCall"}
+1 POST /q/messages|BrokerProperties: {"MessageId":"mmmmmmmmmmmmmmmmmmmmmmmmmmmmmmmmmmmmmmmmmmmmmmmmmmmmmmmmmmmmmmmmmmmmmmmmmmmmmmmmmmmmmmmmmmmmmmmmmmmmmmmmmmmmmmmmmmmmmmmmmmmmmmmmm"}
+400 Bad Request|Content-Type: application/json|Content-Length: 39||{"key":"MessageId","refused":"BadCall"}
+1 POST /q/messages|Content-Type: application/vnd.microsoft.servicebus.json||[{},{},{},{},{},{},{},{},{},{},{},{},{},{},{},{},{},{},{},{},{},{},{},{},{},{},{},{},{},{},{},{},{},{},{},{},{},{},{},{},{},{},{},{},{},{},{},{},{},{},{},{},{},{},{},{},{},{},{},{},{},{},{},{},{},{},{},{},{},{},{},{},{},{},{},{},{},{},{},{},{},{},{},{},{},{},{},{},{},{},{},{},{},{},{},{},{},{},{},{},{}]
+400 Bad Request|Content-Type: application/json|Content-Length: 38||{"key":"messages","refused":"BadCall"}
 1 POST /q/messages||hi
 201 Created|Content-Length: 0||
 1 POST /q/messages/head
@@ -348,6 +360,8 @@ const REFUSED: &str = r#"
 1 POST /q/messages/1/a1b2c3d4-e5f6-0718-0000-000000000001
 200 OK|Content-Length: 0||
 1 POST /$script
+200 OK|Content-Length: 31||{"key":"","refused":"BadCall"}~
+1 POST /$script||^
 200 OK|Content-Length: 31||{"key":"","refused":"BadCall"}~
 1 POST /$script||¿
 200 OK|Content-Length: 31||{"key":"","refused":"BadCall"}~
