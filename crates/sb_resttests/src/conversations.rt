@@ -1,6 +1,6 @@
 // Requests that are fed in pieces, each stepped over a node, and its response. A row is the moment and
 // the request, as in `driver`, and behind it the response without `HTTP/1.1`.
-use crate::driver::{bytes_of, request_of};
+use crate::driver::{bytes_of, request_of, response_bytes};
 use sb_http::{Incoming, Request, Response, write_response};
 use sb_lines::{LineFault, read_line, reply_line};
 use sb_machine::{Answer, Refusal};
@@ -22,13 +22,6 @@ struct Exchange<'a> {
     request: Vec<u8>,
     response: Vec<u8>,
     row: &'a str,
-}
-
-// The bytes of a response.
-fn response_bytes(alloc: Global, outcome: &str) -> Result<Vec<u8>, Fail> {
-    let mut bytes = b"HTTP/1.1 ".to_vec(alloc)?;
-    bytes.extend_from_slice(&bytes_of(alloc, outcome)?)?;
-    Ok(bytes)
 }
 
 fn exchange_of<'a>(alloc: Global, row: &'a str, outcome: &str) -> Result<Exchange<'a>, Fail> {

@@ -53,6 +53,13 @@ pub(crate) fn request_of(alloc: Global, row: &str) -> Result<Vec<u8>, Fail> {
     Ok(bytes)
 }
 
+/// The bytes of a response, which a row has without `HTTP/1.1`.
+pub(crate) fn response_bytes(alloc: Global, outcome: &str) -> Result<Vec<u8>, Fail> {
+    let mut bytes = b"HTTP/1.1 ".to_vec(alloc)?;
+    bytes.extend_from_slice(&bytes_of(alloc, outcome)?)?;
+    Ok(bytes)
+}
+
 // What comes of a request: `404`, `405`, `400 KEY`, `script`, or the timeout and the call.
 fn told(alloc: Global, routes: &Routes, request: &Request) -> Result<String, Fail> {
     match call_of(alloc, routes, request) {
