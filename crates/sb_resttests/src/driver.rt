@@ -3,8 +3,9 @@
 // it stands. In all texts `|` stands for CR LF, `~` for LF, `^` for a tab, and `¿` for the byte bf, which
 // is no UTF-8 text.
 use sb_http::{Incoming, Request};
-use sb_lines::{LineFault, read_line};
-use sb_rest::{RestFault, call_of};
+use sb_lines::read_line;
+use sb_repeats::is_same_act;
+use sb_rest::{RestFault, Wanted, call_of};
 use sb_routes::Routes;
 use std::alloc::Global;
 use std::process::Abort;
@@ -60,46 +61,36 @@ pub(crate) fn response_bytes(alloc: Global, outcome: &str) -> Result<Vec<u8>, Fa
     Ok(bytes)
 }
 
-// What comes of a request: `404`, `405`, `400 KEY`, `script`, or the timeout and the call.
-fn told(alloc: Global, routes: &Routes, request: &Request) -> Result<String, Fail> {
-    match call_of(alloc, routes, request) {
-        Ok(wanted) => {
-            let timeout = wanted.timeout;
-            let call = &wanted.call;
-            Ok(format!(in alloc; "{timeout} {call:?}")?)
+// The timeout and the script line of a call; the timeout stands before the line where it isn't 60.
+fn timed(outcome: &str) -> (u64, &str) {
+    if outcome.starts_with("{") {
+        return (60, outcome);
+    }
+    let (timeout, line) = outcome.split_once(" ").unwrap_or(("", ""));
+    (timeout.parse::<u64>().unwrap_or(60), line)
+}
+
+fn is_call(alloc: Global, wanted: &Wanted, outcome: &str) -> bool {
+    let (timeout, line) = timed(outcome);
+    match read_line(alloc, line) {
+        Ok(timed) => {
+            wanted.timeout == timeout
+                && wanted.call.by.is_none()
+                && is_same_act(&wanted.call.act, &timed.call.act)
         }
-        Err(RestFault::NoRoute) => Ok(String::from_str(alloc, "404")?),
-        Err(RestFault::BadMethod) => Ok(String::from_str(alloc, "405")?),
-        Err(RestFault::Script) => Ok(String::from_str(alloc, "script")?),
-        Err(RestFault::Bad { key }) => {
-            let key = key.as_str();
-            Ok(format!(in alloc; "400 {key}")?)
-        }
-        Err(RestFault::OutOfMemory) => Err(Fail::from("no memory")),
+        Err(_) => false,
     }
 }
 
-// The same of a row: a call is a script line, with its timeout before it where that isn't 60.
-fn wanted(alloc: Global, row: &str) -> Result<String, Fail> {
-    let (timeout, line) = match row.split_once(" {") {
-        Some((timeout, _)) if !row.starts_with("{") => {
-            (
-                timeout,
-                row.strip_prefix(timeout).unwrap_or(row).trim_start(),
-            )
-        }
-        _ => ("60", row),
-    };
-    if !line.starts_with("{") {
-        return Ok(String::from_str(alloc, row)?);
-    }
-    match read_line(alloc, line) {
-        Ok(timed) => {
-            let call = &timed.call;
-            Ok(format!(in alloc; "{timeout} {call:?}")?)
-        }
-        Err(LineFault::BadKey { .. }) => Err(Fail::from("the row spells no call")),
-        Err(LineFault::OutOfMemory) => Err(Fail::from("no memory")),
+// Whether a request comes to this: `404`, `405`, `400 KEY`, `script`, or a call.
+fn comes_to(alloc: Global, routes: &Routes, request: &Request, outcome: &str) -> bool {
+    match call_of(alloc, routes, request) {
+        Ok(wanted) => is_call(alloc, &wanted, outcome),
+        Err(RestFault::NoRoute) => outcome == "404",
+        Err(RestFault::BadMethod) => outcome == "405",
+        Err(RestFault::Script) => outcome == "script",
+        Err(RestFault::Bad { key }) => outcome.strip_prefix("400 ") == Some(key.as_str()),
+        Err(RestFault::OutOfMemory) => false,
     }
 }
 
@@ -119,9 +110,10 @@ pub(crate) fn try_calls(
         let mut incoming = Incoming::new(alloc)?;
         assert_eq!(rt; incoming.feed(&stream), stream.len());
         let request = incoming.next_request()?.ok_or("no request")?;
-        let told = told(alloc, &routes, &request)?;
-        let wanted = wanted(alloc, outcome)?;
-        assert_eq!(rt; told.as_str(), wanted.as_str(), "of {row}");
+        assert!(rt;
+            comes_to(alloc, &routes, &request, outcome),
+            "{row}: {outcome}"
+        );
     }
     Ok(())
 }
