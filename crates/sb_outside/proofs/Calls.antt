@@ -1,12 +1,12 @@
 -- One call more of a disk in memory.
-use Rattle.std.proofs.Common.{◌≡◌, ◌⊎◌, inl, inr, ℕ, ◌+◌, ◌<◌, ◌≤◌, List, [], ◌∷◌, ◌++◌, length, get_or, take, drop, max, false, refl, sym, ◌∙◌, ap, arith, length-drop}
+use Rattle.std.proofs.Common.{◌≡◌, ◌⊎◌, inl, inr, ℕ, ◌+◌, ◌<◌, ◌≤◌, List, [], ◌∷◌, ◌++◌, length, get_or, take, drop, max, false, refl, sym, ◌∙◌, ap, subst, arith, length-drop}
 use Rattle.std.proofs.lemmas.List.{get_or-take, length-take, take-append-le, drop-append-le, take_all, append-nil}
 use Rattle.std.proofs.lemmas.Grind.{common_steps}
 use Rattle.std.proofs.lemmas.Bool.Decides.{nat_tests}
 use Rattle.sb_outside.specs.declared.memory.DiskCall.{DiskCall}
 use Rattle.sb_outside.specs.declared.memory.DiskCall.TheVariants.{Write, FailedWrite, Cut, FailedCut, Sync}
 use Rattle.sb_outside.specs.Held.{Held, IsImage, is_written, overwritten, touched, shortened, at_rest}
-use Rattle.sb_outside.specs.Kept.{count_of, counts_of, after_call, held_after, past_of}
+use Rattle.sb_outside.specs.Kept.{count_of, counts_of, after_call, held_after, past_of, IsPlaced, ArePlaced}
 
 -- a call takes its bytes from the front, so that more behind them change nothing
 pub after_call-more : (held : Held) (c : DiskCall) (written more : List ℕ) → count_of c ≤ length written → after_call held c (written ++ more) ≡ after_call held c written
@@ -56,6 +56,17 @@ held_after-failed_cut held cs n written counted = held_after-none held cs (Faile
 pub held_after-sync : (held : Held) (cs : List DiskCall) (written : List ℕ) → counts_of cs ≡ length written → held_after held (cs ++ Sync ∷ []) written ≡ at_rest (held_after held cs written).seen
 held_after-sync held cs written counted = held_after-none held cs Sync written counted
 
+pub placed-more : (held : Held) (cs : List DiskCall) (c : DiskCall) (written more : List ℕ) → counts_of cs ≡ length written → ArePlaced held cs written → IsPlaced (length (held_after held cs written).seen) c → ArePlaced held (cs ++ c ∷ []) (written ++ more)
+placed-more held [] c [] more counted placed next = (next, tt)
+placed-more held [] c (x ∷ xs) more counted placed next = absurd (omega arith)
+placed-more held (d ∷ cs) c written more counted placed next =
+    let rest : ArePlaced (after_call held d written) (cs ++ c ∷ []) (drop (count_of d) written ++ more) = placed-more (after_call held d written) cs c (drop (count_of d) written) more (omega (arith, length-drop (count_of d) written)) placed.1 next in
+    let same_bytes : ArePlaced (after_call held d written) (cs ++ c ∷ []) (drop (count_of d) (written ++ more)) = subst (ArePlaced (after_call held d written) (cs ++ c ∷ [])) (sym (drop-append-le (count_of d) written more (omega arith))) rest in
+    (placed.0, subst (λ (h : Held). ArePlaced h (cs ++ c ∷ []) (drop (count_of d) (written ++ more))) (sym (after_call-more held d written more (omega arith))) same_bytes)
+
+pub placed-none : (held : Held) (cs : List DiskCall) (c : DiskCall) (written : List ℕ) → counts_of cs ≡ length written → ArePlaced held cs written → IsPlaced (length (held_after held cs written).seen) c → ArePlaced held (cs ++ c ∷ []) written
+placed-none held cs c written counted placed next = subst (ArePlaced held (cs ++ c ∷ [])) (append-nil written) (placed-more held cs c written [] counted placed next)
+
 pub counts_of-append : (cs : List DiskCall) (c : DiskCall) → counts_of (cs ++ c ∷ []) ≡ counts_of cs + count_of c
 counts_of-append [] c = omega arith
 counts_of-append (d ∷ cs) c = omega (arith, counts_of-append cs c)
@@ -66,12 +77,12 @@ pub length-overwritten : (old bytes : List ℕ) (place : ℕ) → place ≤ leng
 length-overwritten old bytes place le = grind (arith, common_steps)
 
 -- outside the range the bytes stay
-outside : (old bytes : List ℕ) (place k : ℕ) → place ≤ length old → (k < place) ⊎ (place + length bytes ≤ k) → get_or (overwritten old place bytes) k 0 ≡ get_or old k 0
+pub outside : (old bytes : List ℕ) (place k : ℕ) → place ≤ length old → (k < place) ⊎ (place + length bytes ≤ k) → get_or (overwritten old place bytes) k 0 ≡ get_or old k 0
 outside old bytes place k le (inl below) = grind (arith, common_steps)
 outside old bytes place k le (inr above) = grind (arith, common_steps)
 
 -- a place that wasn't written is outside the newest range, and outside the older ones
-not_written : (k place n : ℕ) (ranges : List (ℕ × ℕ)) → is_written k ((place, n) ∷ ranges) ≡ false → ((k < place) ⊎ (place + n ≤ k)) × (is_written k ranges ≡ false)
+pub not_written : (k place n : ℕ) (ranges : List (ℕ × ℕ)) → is_written k ((place, n) ∷ ranges) ≡ false → ((k < place) ⊎ (place + n ≤ k)) × (is_written k ranges ≡ false)
 not_written k place n ranges unwritten = (grind (arith, nat_tests), grind (arith, nat_tests))
 
 pub written-image : (held : Held) (place : ℕ) (bytes : List ℕ) → place ≤ length held.seen → IsImage held held.seen → IsImage (touched held place (length bytes) (overwritten held.seen place bytes)) (overwritten held.seen place bytes)
@@ -109,4 +120,4 @@ pub at_rest-image : (bytes : List ℕ) → IsImage (at_rest bytes) bytes
 at_rest-image bytes = record { no_shorter = omega arith; no_longer = omega arith; same = λ k here there _. refl }
 
 -- for `#[tactic(auto, using(..))]`
-pub ruleset pushes = (held_after-write, held_after-failed_write, held_after-cut, held_after-failed_cut, held_after-sync, past_of-more, past_of-none, counts_of-append, length-overwritten, written-image, unwritten-image, cut-image, uncut-image, at_rest-image)
+pub ruleset pushes = (held_after-write, held_after-failed_write, held_after-cut, held_after-failed_cut, held_after-sync, past_of-more, past_of-none, placed-more, placed-none, counts_of-append, length-overwritten, written-image, unwritten-image, cut-image, uncut-image, at_rest-image)

@@ -1,3 +1,4 @@
 pub mod Calls
+pub mod Fillings
 pub mod Gains
 pub mod Leaves

@@ -15,6 +15,7 @@ mod images;
 mod link;
 mod memory;
 mod memory_conn;
+mod memory_image;
 mod memory_streams;
 mod step_clock;
 mod streams;

@@ -3,9 +3,11 @@ ghost use Rattle.std.specs.Prelude.{◌≡◌, ◌↔◌, ◌⊎◌, ◌≤◌, 
 ghost use Rattle.sb_outside.specs.declared.memory.DiskCall.TheVariants.{Write, FailedWrite, Cut, FailedCut, Sync};
 ghost use Rattle.sb_outside.specs.Causes.{HasCause};
 ghost use Rattle.sb_outside.specs.Held.{Moves, MayMove, touched, shortened, overwritten, at_rest, IsImage};
-ghost use Rattle.sb_outside.specs.Kept.{counts_of, held_after};
+ghost use Rattle.sb_outside.specs.Kept.{counts_of, held_after, ArePlaced, are_placed-prop};
+ghost use Rattle.sb_outside.specs.Images.{IsFilled};
 
 use crate::faults::CallFaults;
+use crate::memory_image::{fill_past, read_past};
 use crate::memory_streams::read_at;
 use crate::{Disk, DiskFault, LONGEST_DISK};
 use std::alloc::{AllocError, Global};
@@ -40,11 +42,12 @@ pub struct MemDisk {
     ghost counted: { counts_of calls.items ≡ length written.items },
     ghost small: { length bytes.items ≤ 2 ^ 62 },
     ghost kept: { bytes.items ≡ (held_after (at_rest first.items) calls.items written.items).seen },
+    ghost placed: { ArePlaced (at_rest first.items) calls.items written.items } by { are_placed-prop (at_rest first.items) calls.items written.items },
     ghost image: { IsImage (held_after (at_rest first.items) calls.items written.items) (held_after (at_rest first.items) calls.items written.items).seen },
 }
 
 // Writes these at a place that isn't past the end, or leaves all as it was where memory is short.
-fn overwrite(bytes: &mut Vec<u8>, place: usize, new: &[u8]) -> Result<(), AllocError>
+pub(crate) fn overwrite(bytes: &mut Vec<u8>, place: usize, new: &[u8]) -> Result<(), AllocError>
     requires { place ≤ length bytes.old.items }
     ensures ok { OnOk result (bytes.new.items ≡ overwritten bytes.old.items place new.now) }
     ensures err { OnErr result (bytes.new.items ≡ bytes.old.items) }
@@ -115,6 +118,22 @@ impl MemDisk {
         self.bytes.as_slice()
     }
 
+    /// What a crash now may leave: the longest of the images, with this byte at each place where a
+    /// crash may leave any.
+    pub fn image(&self, alloc: Global, fill: u8) -> Result<Vec<u8>, AllocError>
+        ensures { IfOk result (λ v. IsFilled fill (⟦<MemDisk as Disk>⟧.held self.now) v.items) }
+    {
+        let mut seen = self.first.as_slice().to_vec(alloc)?;
+        let mut image = self.first.as_slice().to_vec(alloc)?;
+        let mut at = 0;
+        for call in &self.calls {
+            let call = *call;
+            fill_past(alloc, call, fill, &seen, &mut image)?;
+            at += read_past(call, &self.written[at..], &mut seen)?;
+        }
+        Ok(image)
+    }
+
     // Writes in full, or leaves all as it was where memory is short.
     #[tactic(auto, using(crate::proofs::Calls::pushes))]
     fn write(&mut self, place: usize, bytes: &[u8]) -> Result<(), AllocError>
@@ -139,6 +158,7 @@ impl MemDisk {
     // Keeps a write that failed, where there is memory.
     #[tactic(auto, using(crate::proofs::Calls::pushes))]
     fn note_failed_write(&mut self, place: usize, count: usize)
+        requires { place ≤ length self.old.bytes.items }
         ensures first { self.new.first ≡ self.old.first }
         ensures bytes { self.new.bytes ≡ self.old.bytes }
         ensures written { self.new.written ≡ self.old.written }
@@ -172,6 +192,7 @@ impl MemDisk {
     // Keeps a cut that failed, where there is memory.
     #[tactic(auto, using(crate::proofs::Calls::pushes))]
     fn note_failed_cut(&mut self, end: usize)
+        requires { end ≤ length self.old.bytes.items }
         ensures first { self.new.first ≡ self.old.first }
         ensures bytes { self.new.bytes ≡ self.old.bytes }
         ensures written { self.new.written ≡ self.old.written }
