@@ -1,6 +1,10 @@
 // Scripts of all acts, worked out by hand: rows of two lines, one that is read, and the one that answers
 // it.
-use crate::tests::{ONE_EVENT, left_by, left_by_bytes};
+use crate::tests::{ONE_EVENT, SALT, left_by, left_by_bytes};
+use sb_lines::{read_line, reply_line};
+use sb_machine::TimedCall;
+use sb_node::Node;
+use sb_outside::MemDisk;
 use std::test::Fail;
 
 // A lock lives up to its last moment.
@@ -687,43 +691,47 @@ fn later_runs_find_what_was_done(rt: HostRuntime) -> Result<(), Fail> {
     Ok(())
 }
 
-const NOT_MADE: &str = r#"
-{"do":"counts","entity":"q"}
-{"refused":"EntityNotFound"}
-"#;
-
-const MADE: &str = r#"
-{"do":"counts","entity":"q"}
-{"counts":{"dead":0,"main":0,"transfer":0},"ok":"counts"}
-"#;
-
-// The file of one event with this in place of its gate, and this behind it.
-fn file_with(rt: &HostRuntime, gate: u8, rest: &[u8]) -> Result<Vec<u8>, Fail> {
-    let mut bytes = ONE_EVENT[..42].to_vec(rt.alloc())?;
-    bytes.push(gate)?;
-    bytes.extend_from_slice(rest)?;
-    Ok(bytes)
-}
-
-// Behind the first call the tail holds any bytes, behind the third the gate does.
-fn stops_at(rt: &HostRuntime, fill: u8, torn_gate: &str, status: u8) -> Result<(), Fail> {
-    let tail = vec![in rt.alloc(); fill; 44]?;
-    let first = file_with(rt, 0, &tail)?;
-    left_by(rt, &first, &[NOT_MADE], 1)?;
-    let third = file_with(rt, fill, &ONE_EVENT[43..])?;
-    left_by(rt, &third, &[torn_gate], status)?;
+// The node answers the call of a line so.
+fn answers(rt: &HostRuntime, node: &mut Node<MemDisk>, line: &str, told: &str) -> Result<(), Fail> {
+    let Ok(TimedCall { reading, call }) = read_line(rt.alloc(), line) else {
+        return Err(Fail::from("the line is a call"));
+    };
+    let answer = node.step(reading, &call);
+    let reply = reply_line(rt.alloc(), &answer)?;
+    if reply.as_str().trim_end() != told {
+        return Err(Fail::from("another answer"));
+    }
     Ok(())
 }
 
-// The device calls of the append of one event: a write behind the gate, a sync, the gate's write, a
-// sync. What was written since the last sync holds any bytes where the machine stops.
+// So it does each of these rows.
+fn answers_all(rt: &HostRuntime, node: &mut Node<MemDisk>, rows: &str) -> Result<(), Fail> {
+    let mut asked = "";
+    for line in rows.trim_start().lines() {
+        if asked.is_empty() {
+            asked = line;
+        } else {
+            answers(rt, node, asked, line)?;
+            asked = "";
+        }
+    }
+    Ok(())
+}
+
+// With ample memory each step of a node is answered by the machine.
 #[test]
-fn an_append_stops(rt: HostRuntime) -> Result<(), Fail> {
-    stops_at(&rt, 0xff, NOT_MADE, 1)?;
-    stops_at(&rt, 0x01, MADE, 0)?;
-    let second = file_with(&rt, 0, &ONE_EVENT[43..])?;
-    left_by(&rt, &second, &[NOT_MADE], 1)?;
-    left_by(&rt, &ONE_EVENT, &[MADE], 0)?;
+fn a_node_answers(rt: HostRuntime) -> Result<(), Fail> {
+    let alloc = rt.alloc();
+    for rows in [SETTLED_IN_TIME, SETTLED_LATE] {
+        let disk_a = MemDisk::new(alloc, Vec::new(alloc), Vec::new(alloc))?;
+        let disk_b = MemDisk::new(alloc, Vec::new(alloc), Vec::new(alloc))?;
+        let Ok(mut node) = Node::open(alloc, disk_a, disk_b, SALT) else {
+            return Err(Fail::from("the node opens"));
+        };
+        let answered = answers_all(&rt, &mut node, rows);
+        let _ = node.close();
+        answered?;
+    }
     Ok(())
 }
 

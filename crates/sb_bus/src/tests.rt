@@ -9,7 +9,7 @@ const RUN: [&str; 3] = ["run", "--data", "."];
 const CHECK: [&str; 3] = ["check", "--data", "."];
 
 // That of the journal whose bytes docs/FORMATS.md has.
-const SALT: u64 = 0xa1b2_c3d4_e5f6_0718;
+pub(crate) const SALT: u64 = 0xa1b2_c3d4_e5f6_0718;
 
 // The journal of the queue q that was made at moment 0.
 pub(crate) const ONE_EVENT: [u8; 87] = [
@@ -182,8 +182,8 @@ fn listed(rt: &HostRuntime, call: Option<u64>) -> Result<Vec<u64>, Fail> {
     Ok(calls)
 }
 
-// Makes the run, and gives the bytes that it leaves on disk a.
-fn leaves(rt: &HostRuntime, case: Case<'_>) -> Result<Vec<u8>, Fail> {
+// Makes the run, and gives disk a as it leaves it.
+fn ran(rt: &HostRuntime, case: Case<'_>) -> Result<MemDisk, Fail> {
     let alloc = rt.alloc();
     let disk_a = MemDisk::new(
         alloc,
@@ -224,7 +224,36 @@ fn leaves(rt: &HostRuntime, case: Case<'_>) -> Result<Vec<u8>, Fail> {
     if !disk_b.bytes().is_empty() {
         return Err(Fail::from("disk b was written"));
     }
-    Ok(disk_a.bytes().to_vec(alloc)?)
+    Ok(disk_a)
+}
+
+// The bytes that it leaves there.
+fn leaves(rt: &HostRuntime, case: Case<'_>) -> Result<Vec<u8>, Fail> {
+    let disk = ran(rt, case)?;
+    Ok(disk.bytes().to_vec(rt.alloc())?)
+}
+
+// The disk that a run over one row leaves whose disk fails at a call.
+fn ran_failing(
+    rt: &HostRuntime,
+    disk: &[u8],
+    call: Option<u64>,
+    row: &str,
+    status: u8,
+) -> Result<MemDisk, Fail> {
+    let rows = rows_of(rt, &[row])?;
+    let case = Case {
+        words: &RUN,
+        disk,
+        failing: Failing {
+            disk: call,
+            ..NOTHING
+        },
+        script: &rows.script,
+        told: &rows.told,
+        status,
+    };
+    ran(rt, case)
 }
 
 // The bytes that a run over these rows leaves, each line of which is answered.
@@ -556,6 +585,90 @@ fn each_disk_call_fails(rt: HostRuntime) -> Result<(), Fail> {
         let (call, first, status, next) = *row;
         let left = left_by_failing(&rt, &ONE_EVENT, call, first, status)?;
         left_by(&rt, &left, &[next], 0)?;
+    }
+    Ok(())
+}
+
+const NOT_MADE: &str = r#"
+{"do":"counts","entity":"q"}
+{"refused":"EntityNotFound"}
+"#;
+
+const MADE: &str = r#"
+{"do":"counts","entity":"q"}
+{"counts":{"dead":0,"main":0,"transfer":0},"ok":"counts"}
+"#;
+
+const SETUP_FAILS: &str = r#"
+{"at":0,"do":"create-queue","name":"q"}
+{"refused":"DiskFault"}
+"#;
+
+// A row of the table of stops.
+#[derive(Clone, Copy)]
+struct Stop<'a> {
+    // The call of the disk that fails, its number from 0.
+    call: Option<u64>,
+    // What stands where a crash may leave any byte.
+    fill: u8,
+    // What the next run finds.
+    next: &'a str,
+    status: u8,
+}
+
+fn before(call: u64, fill: u8) -> Stop<'static> {
+    Stop {
+        call: Some(call),
+        fill,
+        next: NOT_MADE,
+        status: 1,
+    }
+}
+
+fn after(call: Option<u64>, fill: u8) -> Stop<'static> {
+    Stop {
+        call,
+        fill,
+        next: MADE,
+        status: 0,
+    }
+}
+
+// The device calls of the append of one event come behind the three of the opening: a write behind
+// the gate, a sync, the gate's write, a sync. Where one fails the machine stops, and what was written
+// since the last sync holds the fill: also what the failed call was to write.
+#[test]
+fn an_append_stops(rt: HostRuntime) -> Result<(), Fail> {
+    let made = left_by(&rt, &[], &[], 0)?;
+    let stops = [
+        // Within the first call, and after it.
+        before(3, 0xff),
+        before(3, 0x01),
+        before(4, 0xff),
+        before(4, 0x01),
+        // After the second, with nothing of the third; within the third, and after it.
+        before(5, 0x00),
+        before(5, 0xff),
+        after(Some(5), 0x01),
+        before(6, 0xff),
+        after(Some(6), 0x01),
+        // After the fourth.
+        after(None, 0xff),
+        after(None, 0x01),
+    ];
+    for stop in &stops {
+        let Stop {
+            call,
+            fill,
+            next,
+            status,
+        } = *stop;
+        let disk = match call {
+            Some(_) => ran_failing(&rt, &made, call, SETUP_FAILS, 5)?,
+            None => ran_failing(&rt, &made, None, SETUP, 0)?,
+        };
+        let image = disk.image(rt.alloc(), fill)?;
+        left_by(&rt, &image, &[next], status)?;
     }
     Ok(())
 }
