@@ -1,11 +1,13 @@
 -- What the objects in memory hold, which of their calls fail, and for how much they have room.
-use Rattle.std.specs.Prelude.{◌≡◌, ◌≤◌, ◌+◌, ◌-◌, ◌^◌, ℕ, List, drop, min, Contains, vec_len, vec_capacity}
+use Rattle.std.specs.Prelude.{◌≡◌, ◌≤◌, ◌+◌, ◌-◌, ◌^◌, ℕ, List, drop, map, min, Contains, vec_len, vec_capacity}
 use Rattle.sb_outside.specs.declared.faults.CallFaults.{CallFaults}
 use Rattle.sb_outside.specs.declared.memory.MemDisk.{MemDisk}
+use Rattle.sb_outside.specs.declared.memory_link.MemLink.{MemLink}
 use Rattle.sb_outside.specs.declared.memory_streams.MemSink.{MemSink}
 use Rattle.sb_outside.specs.declared.memory_streams.MemSource.{MemSource}
 use Rattle.sb_outside.specs.Held.{Held, at_rest}
 use Rattle.sb_outside.specs.Kept.{held_after, past_of}
+use Rattle.sb_outside.specs.Links.{Exchange}
 
 -- the next call fails
 abbrev pub IsListed : CallFaults → Type 0
@@ -32,6 +34,13 @@ sink_calls s = s.faults
 
 abbrev pub sink_room : MemSink → ℕ
 sink_room s = vec_capacity s.given - vec_len s.given
+
+-- of a link: its exchanges, and its calls
+abbrev pub link_told : MemLink → List Exchange
+link_told l = map (λ e. record { request = e.request; reply = e.reply }) l.made.items
+
+abbrev pub link_calls : MemLink → CallFaults
+link_calls l = l.faults
 
 -- of a disk: what it holds, what it held before, its calls, and how many bytes and calls more it keeps in its room
 abbrev pub disk_held : MemDisk → Held
