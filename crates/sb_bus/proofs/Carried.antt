@@ -45,7 +45,8 @@ usage_alone words salt was output none written = record {
   long = λ ten. absurd cc;
   checked = λ named. unnamed words Check _ none named;
   broken = λ six. absurd cc;
-  usage = (λ two. none, λ nothing. refl);
+  usage = λ two. none;
+  unnamed = λ nothing. inl refl;
   usage_written = λ two. written;
   known = inr (inl refl);
   read_fault = λ three. absurd cc;
@@ -55,6 +56,49 @@ usage_alone words salt was output none written = record {
   disk_fault = λ five. absurd cc;
   disk_quiet = λ other. (refl, refl);
   complete = λ some honest free. no_some words _ none some;
+  honesty = (refl, refl);
+}
+
+-- ---- words that weren't read, for want of memory
+
+nothing_done : (salt : ℕ) (was : Outside) → IsUnopened salt was was OutOfMemory
+nothing_done salt was = record {
+  why = inr refl;
+  unread = refl;
+  unsaid = refl;
+  untouched = λ honest same. (record { seen = refl; moments = inl (refl, refl) }, record { seen = refl; moments = inl (refl, refl) });
+  kept = λ honest ours. inl (refl, refl);
+}
+
+unread_by : (salt : ℕ) (was : Outside) (end : RunEnd) → 7 ≡ status_of_end end → IsUnopened salt was was end
+unread_by salt was ReadFault is = absurd cc
+unread_by salt was WriteFault is = absurd cc
+unread_by salt was DiskFault is = absurd cc
+unread_by salt was OutOfMemory is = nothing_done salt was
+unread_by salt was LongInput is = absurd cc
+
+not_whole : (refused : Bool) (P : Type 0) → 7 ≡ status_by refused → P
+not_whole false P is = absurd cc
+not_whole true P is = absurd cc
+
+pub unread_alone : (words : List (List ℕ)) (salt : ℕ) (was : Outside) → IsCarriedOut words salt was was 7
+unread_alone words salt was = record {
+  whole = λ named refused is. not_whole refused _ is;
+  early = λ named end is. inl (unread_by salt was end is);
+  long = λ ten. absurd cc;
+  checked = λ named. inr (inl (OutOfMemory, refl, nothing_done salt was));
+  broken = λ six. absurd cc;
+  usage = λ two. absurd cc;
+  unnamed = λ none. inr (refl, refl);
+  usage_written = λ two. absurd cc;
+  known = inl (inr (OutOfMemory, refl));
+  read_fault = λ three. absurd cc;
+  read_quiet = λ other. refl;
+  write_fault = λ four. absurd cc;
+  write_quiet = λ refused is. refl;
+  disk_fault = λ five. absurd cc;
+  disk_quiet = λ other. (refl, refl);
+  complete = λ some honest free. inr refl;
   honesty = (refl, refl);
 }
 
@@ -147,7 +191,8 @@ not_opened words command salt was disks output why status some fails =
       long = λ ten. absurd (omega (arith, ten, range.1));
       checked = λ named. check_unopened salt was disks output why status fails fails.known;
       broken = λ six. refused_by salt was disks output why fails.broken fails.untouched fails.rests (fails.damage six);
-      usage = (λ two. absurd (omega (arith, two, range.0)), λ none. unnamed words _ _ none some);
+      usage = λ two. absurd (omega (arith, two, range.0));
+      unnamed = λ none. unnamed words _ _ none some;
       usage_written = λ two. absurd (omega (arith, two, range.0));
       known = known_unopened status fails.known;
       read_fault = λ three. absurd (omega (arith, three, range.0));
@@ -232,7 +277,8 @@ run_over words Safe salt was now ready start state status some opening runs = re
   long = λ ten. (runs.cut LongInput ten).long refl;
   checked = λ named. no_run words _ named some;
   broken = λ six. absurd (no_six status runs.known six);
-  usage = (λ two. absurd (no_two status runs.known two), λ none. unnamed words _ _ none some);
+  usage = λ two. absurd (no_two status runs.known two);
+  unnamed = λ none. unnamed words _ _ none some;
   usage_written = λ two. absurd (no_two status runs.known two);
   known = inl runs.known;
   read_fault = runs.read_fault;
@@ -301,7 +347,8 @@ check_over words Safe salt last was ready output start status some opening kept 
         moments = opening.opens;
       });
       broken = λ six. absurd (none.3 six);
-      usage = (λ two. absurd (none.0 two), λ nothing. unnamed words Check _ nothing some);
+      usage = λ two. absurd (none.0 two);
+      unnamed = λ nothing. unnamed words Check _ nothing some;
       usage_written = λ two. absurd (none.0 two);
       known = told_known status is;
       read_fault = λ three. absurd (none.1 three);

@@ -1,21 +1,63 @@
--- What the words of a call name.
-use Rattle.std.specs.Prelude.{ℕ, List, [], ◌∷◌, codes, bytes_eq, Option, Some, None, if◌then◌else◌}
+-- What the words of a call name: what `clap` makes of them at the program's command line.
+use Rattle.std.specs.Prelude.{List, [], ◌∷◌, codes, bytes_eq, true, Option, Some, None, option_map, if◌then◌else◌}
+use Rattle.clap.specs.Simple.{on_top}
+use Rattle.clap.specs.Words.{App, Kinds, Row, Rule, Shape, Text, fault_of, first_of, new_app, new_rule, subcommand_of, with_rule, with_subcommand}
 use Rattle.sb_bus.specs.declared.command.Command.{Command}
 use Rattle.sb_bus.specs.declared.command.Command.TheVariants.{Run, Check}
+use Rattle.sb_bus.specs.declared.command.Form.{Form as ReadForm}
 
-abbrev pub command_named : List ℕ → Option Command
+-- ---- the command line
+
+-- `--data DIR`, which has to be there
+abbrev pub data_option : Rule
+data_option = record (new_rule (codes "data")) { long = Some (codes "data"); value_names = 1; required = true }
+
+-- a command over a folder
+abbrev pub over_folder : Text → Shape
+over_folder name = (with_rule (new_app name) data_option).top
+
+-- its words don't begin with its own name, one of them has to be a command, it tells its version, and `help` is no command
+abbrev pub bus : App
+bus = on_top (λ s. record s { no_binary_name = true; disable_help_subcommand = true; has_version = true; subcommand_required = true }) (new_app (codes "bus"))
+
+abbrev pub program : App
+program = with_subcommand (with_subcommand bus (over_folder (codes "run"))) (over_folder (codes "check"))
+
+-- ---- the forms
+
+-- what a form names
+pub record Form : Type 0 where
+  pub command : Command
+  pub folder : Text
+
+abbrev pub form_value : ReadForm → Form
+form_value f = record { command = f.command; folder = f.folder.now }
+
+abbrev pub command_named : Text → Option Command
 command_named word = if bytes_eq word (codes "run") then Some Run else (if bytes_eq word (codes "check") then Some Check else None)
 
--- the command that the words are a form of
-abbrev pub command_in : List (List ℕ) → Option Command
-command_in (a ∷ (b ∷ (c ∷ []))) = if bytes_eq b (codes "--data") then command_named a else None
-command_in _ = None
+abbrev pub form_by : Option Command → Option Text → Option Form
+form_by (Some command) (Some folder) = Some (record { command = command; folder = folder })
+form_by _ _ = None
 
-abbrev pub folder_for : Option Command → List ℕ → Option (List ℕ)
-folder_for None folder = None
-folder_for (Some command) folder = Some folder
+-- a command's name, and what was found for its options
+abbrev pub form_at : Option (Text × List Row) → Option Form
+form_at None = None
+form_at (Some used) = form_by (command_named used.0) (first_of (codes "data") used.1)
+
+-- what `clap` finds at fault keeps words from being a form
+abbrev pub unless_at_fault : Kinds → Option Form → Option Form
+unless_at_fault [] form = form
+unless_at_fault (kind ∷ kinds) form = None
+
+-- the form that the words are, if they are one
+unfoldable pub form_in : List Text → Option Form
+form_in words = unless_at_fault (fault_of program words) (form_at (subcommand_of program words))
+
+-- the command that they name
+abbrev pub command_in : List Text → Option Command
+command_in words = option_map (λ f. f.command) (form_in words)
 
 -- the folder that they name
-abbrev pub folder_in : List (List ℕ) → Option (List ℕ)
-folder_in (a ∷ (b ∷ (c ∷ []))) = folder_for (command_in (a ∷ (b ∷ (c ∷ [])))) c
-folder_in _ = None
+abbrev pub folder_in : List Text → Option Text
+folder_in words = option_map (λ f. f.folder) (form_in words)

@@ -8,6 +8,15 @@ pub enum Command {
     Check,
 }
 
+/// What a form of the words names.
+#[derive(Clone, Copy)]
+pub struct Form<'w> {
+    /// What is to be done.
+    pub command: Command,
+    /// The folder of the two journal files.
+    pub folder: &'w str,
+}
+
 /// What a command needs of the outside.
 #[derive(Debug, Drop)]
 pub struct Needs {

@@ -6,7 +6,7 @@ use std::test::Fail;
 
 const RUN: [&str; 3] = ["run", "--data", "."];
 
-const CHECK: [&str; 3] = ["check", "--data", "."];
+const CHECK: [&str; 2] = ["check", "--data=."];
 
 // That of the journal whose bytes docs/FORMATS.md has.
 pub(crate) const SALT: u64 = 0xa1b2_c3d4_e5f6_0718;
@@ -717,7 +717,14 @@ fn each_status_has_its_cause(rt: HostRuntime) -> Result<(), Fail> {
         };
         leaves(&rt, case)?;
     }
-    let no_forms: [&[&str]; 2] = [&["serve"], &["run", "--data"]];
+    let no_forms: [&[&str]; 6] = [
+        &["serve"],
+        &["run", "--data"],
+        &["--help"],
+        &["check", "-h"],
+        &["run", "--data=.", "--data", "."],
+        &["--data=.", "run"],
+    ];
     for words in &no_forms {
         let case = Case {
             words: *words,

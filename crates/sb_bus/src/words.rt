@@ -1,10 +1,66 @@
-// The words that the program is called with.
-ghost use Rattle.std.specs.Prelude.{◌≡◌, map, Option, None, Some, Ok, Err, IfOk, IfErr, IfSome, IfNone};
+// The words that the program is called with, read by `clap`.
+ghost use Rattle.std.specs.Prelude.{◌≡◌, ◌≢◌, map, option_map, true, false, Option, None, Some, Ok, Err, IfOk, IfErr, IfSome, IfNone};
 ghost use Rattle.std.specs.String.{string_bytes};
-ghost use Rattle.sb_bus.specs.Words.{command_named, command_in, folder_in};
+ghost use Rattle.clap.specs.Words.{FailsBy, HasMatchesOf, app_of, fault_of, found_of, kind_of, rows_of, rule_of, shape_of, subcommand_rows_of};
+ghost use Rattle.sb_bus.specs.Words.{command_in, command_named, folder_in, form_at, form_in, form_value};
+ghost use Rattle.sb_bus.specs.Words as line;
+ghost use Rattle.clap.specs.declared.builder.command.Command.TheViews.{out-Command as fields_of};
 
-use crate::command::{Command, Needs, WordsFault};
-use std::alloc::Global;
+use crate::command::{Command, Form, Needs, WordsFault};
+use clap::error::ErrorKind;
+use clap::{Arg, ArgMatches};
+use std::alloc::{AllocError, Global};
+
+/// What the program tells as its version.
+const VERSION: &str = "0.1.0";
+
+fn data_option<'a>(alloc: Global) -> Arg<'a>
+    ensures rule { rule_of result ≡ line.data_option }
+    ensures local { result.global ≡ false }
+{
+    Arg::new(alloc, "data")
+        .long("data")
+        .value_name("DIR")
+        .required(true)
+        .help("The folder of the journal")
+}
+
+// A command over a folder.
+fn over_folder<'a>(
+    alloc: Global,
+    name: &'a str,
+    about: &'a str,
+) -> Result<clap::Command<'a>, AllocError>
+    ensures shape { IfOk result (λ c. shape_of c ≡ line.over_folder name.entry.now) }
+    ensures local { IfOk result (λ c. (fields_of c).has_globals ≡ false) }
+{
+    clap::Command::new(alloc, name)
+        .about(about)
+        .arg(data_option(alloc))
+}
+
+// The command line, without the program's name.
+fn command_line<'a>(alloc: Global) -> Result<clap::Command<'a>, AllocError>
+    ensures { IfOk result (λ c. app_of c ≡ line.program) }
+{
+    let run = over_folder(alloc, "run", "Answer the script lines of the input")?;
+    let check = over_folder(alloc, "check", "Tell the numbers of the namespace")?;
+    clap::Command::new(alloc, "bus")
+        .about("A message broker over a journal in a folder")
+        .version(VERSION)
+        .no_binary_name(true)
+        .disable_help_subcommand(true)
+        .subcommand_required(true)
+        .subcommand(run)?
+        .subcommand(check)
+}
+
+fn parsed<'w>(alloc: Global, words: &'w [&str]) -> Result<ArgMatches<'w>, clap::Error>
+    ensures fault { FailsBy (fault_of line.program (map (λ w. w.now) words.now)) result }
+    ensures found { IfOk result (HasMatchesOf line.program (map (λ w. w.now) words.now)) }
+{
+    command_line(alloc)?.try_get_matches_from(words)
+}
 
 fn command_of(word: &str) -> Option<Command>
     ensures { result ≡ command_named word.now }
@@ -18,29 +74,60 @@ fn command_of(word: &str) -> Option<Command>
     }
 }
 
-/// What these words, without the program's name, ask for: `run --data DIR` or `check --data DIR`.
-pub fn named_command(words: &[&str]) -> Option<Command>
-    ensures some { IfSome result (λ k. command_in (map (λ w. w.now) words.now) ≡ Some k) }
-    ensures none { IfNone result (command_in (map (λ w. w.now) words.now) ≡ None) }
+// The form of the command with this name, by what was found for its options.
+fn form_of<'w>(name: &str, options: &ArgMatches<'w>) -> Option<Form<'w>>
+    ensures { option_map form_value result ≡ form_at (Some (name.now, rows_of (found_of options.now))) }
 {
-    match words {
-        [command, option, _folder] if *option == "--data" => command_of(*command),
-        _ => None,
+    let Some(command) = command_of(name) else {
+        return None;
+    };
+    let Some(folder) = options.get_str("data") else {
+        return None;
+    };
+    Some(Form { command, folder })
+}
+
+// The form of what was found.
+fn form_found<'w>(matches: &ArgMatches<'w>) -> Option<Form<'w>>
+    ensures { option_map form_value result ≡ form_at (subcommand_rows_of matches.now) }
+{
+    match matches.subcommand() {
+        Some((name, options)) => form_of(name, options),
+        None => None,
     }
 }
 
-// The folder of a command, if these are its words.
-fn folder<'w>(words: &[&'w str]) -> Option<&'w str>
-    ensures some { IfSome result (λ f. folder_in (map (λ w. w.now) words.now) ≡ Some f.now) }
-    ensures none { IfNone result (folder_in (map (λ w. w.now) words.now) ≡ None) }
+fn words_fault(error: &clap::Error) -> WordsFault
+    ensures { result ≡ WordsFault.BadWords → kind_of error.now ≢ ErrorKind.OutOfMemory }
 {
-    match words {
-        [command, option, folder] if *option == "--data" => match command_of(*command) {
-            Some(_) => Some(*folder),
-            None => None,
-        },
-        _ => None,
+    match error.kind() {
+        ErrorKind::OutOfMemory => WordsFault::OutOfMemory,
+        _ => WordsFault::BadWords,
     }
+}
+
+// The form that these words are.
+fn read_form<'w>(alloc: Global, words: &'w [&str]) -> Result<Form<'w>, WordsFault>
+    ensures ok { IfOk result (λ f. form_in (map (λ w. w.now) words.now) ≡ Some (form_value f)) }
+    ensures bad { IfErr result (λ e. e ≡ WordsFault.BadWords → form_in (map (λ w. w.now) words.now) ≡ None) }
+{
+    let matches = match parsed(alloc, words) {
+        Ok(matches) => matches,
+        Err(error) => return Err(words_fault(&error)),
+    };
+    match form_found(&matches) {
+        Some(form) => Ok(form),
+        None => Err(WordsFault::BadWords),
+    }
+}
+
+/// What these words, without the program's name, ask for.
+pub fn named_command(alloc: Global, words: &[&str]) -> Result<Command, WordsFault>
+    ensures ok { IfOk result (λ k. command_in (map (λ w. w.now) words.now) ≡ Some k) }
+    ensures bad { IfErr result (λ e. e ≡ WordsFault.BadWords → command_in (map (λ w. w.now) words.now) ≡ None) }
+{
+    let form = read_form(alloc, words)?;
+    Ok(form.command)
 }
 
 /// What the command of these words needs.
@@ -48,10 +135,8 @@ pub fn needs(alloc: Global, words: &[&str]) -> Result<Needs, WordsFault>
     ensures folder { IfOk result (λ n. folder_in (map (λ w. w.now) words.now) ≡ Some (string_bytes n.folder)) }
     ensures bad { IfErr result (λ e. e ≡ WordsFault.BadWords → folder_in (map (λ w. w.now) words.now) ≡ None) }
 {
-    let Some(folder) = folder(words) else {
-        return Err(WordsFault::BadWords);
-    };
-    let Ok(folder) = String::from_str(alloc, folder) else {
+    let form = read_form(alloc, words)?;
+    let Ok(folder) = String::from_str(alloc, form.folder) else {
         return Err(WordsFault::OutOfMemory);
     };
     Ok(Needs { folder })

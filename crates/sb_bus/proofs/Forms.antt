@@ -1,0 +1,41 @@
+-- From what `clap` answers to the form that the words are.
+use Rattle.std.proofs.Common.{◌≡◌, ◌≢◌, inl, inr, List, [], ◌∷◌, true, Option, Some, None, refl, sym, ◌∙◌, ap, ap₂}
+use Rattle.std.specs.Prelude.{codes}
+use Rattle.clap.specs.Words.{HasKind, HasMatchesOf, IsAmong, Kinds, Text, fault_of, first_value, is_simple, kind_of, rows_of, subcommand_of, subcommand_rows_of}
+use Rattle.clap.specs.declared.error.Error.{Error}
+use Rattle.clap.specs.declared.error.kind.ErrorKind.{ErrorKind}
+use Rattle.clap.specs.declared.error.kind.ErrorKind.TheVariants.{OutOfMemory}
+use Rattle.clap.specs.declared.parser.matches.ArgMatches.{ArgMatches}
+use Rattle.clap.specs.declared.parser.matches.Found.{Found}
+use Rattle.clap.proofs.OnLiterals.{clap_on_literals}
+use Rattle.clap.proofs.WalkLemmas.{first_value-rows}
+use Rattle.sb_bus.specs.declared.command.Command.{Command}
+use Rattle.sb_bus.specs.Words.{Form, command_named, form_at, form_by, form_in, program, unless_at_fault}
+
+-- ---- a form
+
+pub formed : (name folder : Text) (command : Command) (found : Found) → Some command ≡ command_named name → Some folder ≡ first_value found (codes "data")
+    → ◌≡◌ {A = Option Form} (Some (record { command = command; folder = folder })) (form_at (Some (name, rows_of found)))
+formed name folder command found named given = ap₂ form_by named (given ∙ first_value-rows found (codes "data"))
+
+pub no_folder : (name : Text) (command : Command) (found : Found) → Some command ≡ command_named name → None ≡ first_value found (codes "data") → None ≡ form_at (Some (name, rows_of found))
+no_folder name command found named none = ap₂ form_by named (none ∙ first_value-rows found (codes "data"))
+
+-- ---- the words
+
+is_simple_program : is_simple program ≡ true
+unfolding clap_on_literals
+is_simple_program = refl
+
+at_fault : (kinds : Kinds) (kind : ErrorKind) (form : Option Form) → IsAmong kind kinds → unless_at_fault kinds form ≡ None
+at_fault [] kind form is = absurd is
+at_fault (x ∷ xs) kind form is = refl
+
+pub refused : (words : List Text) (error : Error) → HasKind (fault_of program words) error → kind_of error ≢ OutOfMemory → form_in words ≡ None
+unfolding form_in
+refused words error (inl memory) other = absurd (other memory)
+refused words error (inr is) other = at_fault (fault_of program words) (kind_of error) (form_at (subcommand_of program words)) is
+
+pub taken : (words : List Text) (matches : ArgMatches) → fault_of program words ≡ [] → HasMatchesOf program words matches → form_in words ≡ form_at (subcommand_rows_of matches)
+unfolding form_in
+taken words matches none found = ap₂ unless_at_fault none (ap form_at (sym (found is_simple_program).1))
