@@ -1,5 +1,5 @@
 -- From what `clap` answers to the form that the words are.
-use Rattle.std.proofs.Common.{◌≡◌, ◌≢◌, inl, inr, List, [], ◌∷◌, true, Option, Some, None, refl, sym, ◌∙◌, ap, ap₂}
+use Rattle.std.proofs.Common.{◌≡◌, ◌≢◌, inl, inr, List, [], ◌∷◌, true, false, Option, Some, None, refl, sym, ◌∙◌, ap, ap₂}
 use Rattle.std.specs.Prelude.{codes}
 use Rattle.clap.specs.Words.{HasKind, HasMatchesOf, IsAmong, Kinds, Text, fault_of, first_value, is_simple, kind_of, rows_of, subcommand_of, subcommand_rows_of}
 use Rattle.clap.specs.declared.error.Error.{Error}
@@ -10,7 +10,7 @@ use Rattle.clap.specs.declared.parser.matches.Found.{Found}
 use Rattle.clap.proofs.OnLiterals.{clap_on_literals}
 use Rattle.clap.proofs.WalkLemmas.{first_value-rows}
 use Rattle.sb_bus.specs.declared.command.Command.{Command}
-use Rattle.sb_bus.specs.Words.{Form, command_named, form_at, form_by, form_in, program, unless_at_fault}
+use Rattle.sb_bus.specs.Words.{Form, asks_for_text, command_named, form_at, form_by, form_in, program, unless_at_fault}
 
 -- ---- a form
 
@@ -39,3 +39,8 @@ refused words error (inr is) other = at_fault (fault_of program words) (kind_of 
 pub taken : (words : List Text) (matches : ArgMatches) → fault_of program words ≡ [] → HasMatchesOf program words matches → form_in words ≡ form_at (subcommand_rows_of matches)
 unfolding form_in
 taken words matches none found = ap₂ unless_at_fault none (ap form_at (sym (found is_simple_program).1))
+
+-- ---- help and the version
+
+pub asked_refused : (words : List Text) (error : Error) → HasKind (fault_of program words) error → asks_for_text (kind_of error) ≡ true → form_in words ≡ None
+asked_refused words error fault asks = refused words error fault (λ memory. let no : asks_for_text (kind_of error) ≡ false = ap asks_for_text memory in absurd cc)

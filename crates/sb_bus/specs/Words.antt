@@ -1,7 +1,9 @@
 -- What the words of a call name: what `clap` makes of them at the program's command line.
-use Rattle.std.specs.Prelude.{List, [], ◌∷◌, codes, bytes_eq, true, Option, Some, None, option_map, if◌then◌else◌}
+use Rattle.std.specs.Prelude.{◌≡◌, ◌⊎◌, Bool, false, List, [], ◌∷◌, codes, bytes_eq, true, Option, Some, None, option_map, if◌then◌else◌}
 use Rattle.clap.specs.Simple.{on_top}
-use Rattle.clap.specs.Words.{App, Kinds, Row, Rule, Shape, Text, fault_of, first_of, new_app, new_rule, subcommand_of, with_rule, with_subcommand}
+use Rattle.clap.specs.Words.{App, IsAmong, Kinds, Row, Rule, Shape, Text, fault_of, first_of, new_app, new_rule, subcommand_of, with_rule, with_subcommand}
+use Rattle.clap.specs.declared.error.kind.ErrorKind.{ErrorKind}
+use Rattle.clap.specs.declared.error.kind.ErrorKind.TheVariants.{DisplayHelp, DisplayVersion}
 use Rattle.sb_bus.specs.declared.command.Command.{Command}
 use Rattle.sb_bus.specs.declared.command.Command.TheVariants.{Run, Check}
 use Rattle.sb_bus.specs.declared.command.Form.{Form as ReadForm}
@@ -61,3 +63,18 @@ command_in words = option_map (λ f. f.command) (form_in words)
 -- the folder that they name
 abbrev pub folder_in : List Text → Option Text
 folder_in words = option_map (λ f. f.folder) (form_in words)
+
+-- ---- help and the version
+
+abbrev pub asks_for_text : ErrorKind → Bool
+asks_for_text DisplayHelp = true
+asks_for_text DisplayVersion = true
+asks_for_text _ = false
+
+-- what `clap` answers to the words may be its help, or the version
+abbrev pub MayAsk : List Text → Type 0
+MayAsk words = (kind : ErrorKind) × IsAmong kind (fault_of program words) × (asks_for_text kind ≡ true)
+
+-- it may be something else
+abbrev pub MayNotAsk : List Text → Type 0
+MayNotAsk words = (fault_of program words ≡ []) ⊎ ((kind : ErrorKind) × IsAmong kind (fault_of program words) × (asks_for_text kind ≡ false))

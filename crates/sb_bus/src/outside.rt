@@ -1,7 +1,7 @@
 // Makes the real disks, streams and clock, and calls the top.
 use crate::command::WordsFault;
 use crate::top::top;
-use crate::words::needs;
+use crate::words::{asked_text, needs};
 use sb_outside::{
     MemDisk, NoDoor, NoLink, Reading, SystemClock, Writing, hold_streams, open_disk, sync_folder,
 };
@@ -13,6 +13,9 @@ use std::{env, io};
 
 // The status where something of the outside can't be had.
 const NOT_MADE: u8 = 11;
+
+// The status where the output failed.
+const OUTPUT_FAILED: u8 = 4;
 
 // The status for want of memory.
 const NO_MEMORY: u8 = 7;
@@ -100,6 +103,14 @@ fn over_nothing(rt: &HostRuntime, words: &[&str]) -> io::Result<u8> {
     Ok(status)
 }
 
+// Writes what was asked for to the standard output.
+fn tell(rt: &HostRuntime, text: &str) -> u8 {
+    match print!(rt; "{text}") {
+        Ok(()) => 0,
+        Err(_) => OUTPUT_FAILED,
+    }
+}
+
 // The status of the call that these words make.
 fn status_by(rt: &HostRuntime, words: &[&str]) -> io::Result<u8> {
     match needs(rt.alloc(), words) {
@@ -115,11 +126,16 @@ fn run(rt: &HostRuntime) -> io::Result<u8> {
     for word in &owned {
         words.push(word.as_str())?;
     }
-    status_by(rt, &words)
+    match asked_text(rt.alloc(), &words) {
+        Ok(Some(text)) => Ok(tell(rt, text.as_str())),
+        Ok(None) => status_by(rt, &words),
+        Err(_) => Ok(NO_MEMORY),
+    }
 }
 
 /// The status that the program ends with; 11, with one line on standard error, where another run holds
-/// the folder, or where a file, the clock or the words can't be had.
+/// the folder, or where a file, the clock or the words can't be had. Words that ask for help or for the
+/// version are answered here, and the top isn't called.
 pub fn status(rt: &HostRuntime) -> u8 {
     match run(rt) {
         Ok(status) => status,

@@ -2,7 +2,7 @@
 ghost use Rattle.std.specs.Prelude.{◌≡◌, ◌≢◌, map, option_map, true, false, Option, None, Some, Ok, Err, IfOk, IfErr, IfSome, IfNone};
 ghost use Rattle.std.specs.String.{string_bytes};
 ghost use Rattle.clap.specs.Words.{FailsBy, HasMatchesOf, app_of, fault_of, found_of, kind_of, rows_of, rule_of, shape_of, subcommand_rows_of};
-ghost use Rattle.sb_bus.specs.Words.{command_in, command_named, folder_in, form_at, form_in, form_value};
+ghost use Rattle.sb_bus.specs.Words.{MayAsk, MayNotAsk, command_in, command_named, folder_in, form_at, form_in, form_value};
 ghost use Rattle.sb_bus.specs.Words as line;
 ghost use Rattle.clap.specs.declared.builder.command.Command.TheViews.{out-Command as fields_of};
 
@@ -140,4 +140,33 @@ pub fn needs(alloc: Global, words: &[&str]) -> Result<Needs, WordsFault>
         return Err(WordsFault::OutOfMemory);
     };
     Ok(Needs { folder })
+}
+
+fn asks(error: &clap::Error) -> bool
+    ensures { result ≡ line.asks_for_text (kind_of error.now) }
+{
+    matches!(
+        error.kind(),
+        ErrorKind::DisplayHelp | ErrorKind::DisplayVersion
+    )
+}
+
+/// The help or the version that these words ask for, if they do: they are no form then.
+#[tactic(auto, using(crate::proofs::Forms::asked_refused))]
+pub fn asked_text(alloc: Global, words: &[&str]) -> Result<Option<String>, AllocError>
+    ensures asked { IfOk result (λ t. IfSome t (λ _. MayAsk (map (λ w. w.now) words.now))) }
+    ensures other { IfOk result (λ t. IfNone t (MayNotAsk (map (λ w. w.now) words.now))) }
+    ensures no_form { IfOk result (λ t. IfSome t (λ _. form_in (map (λ w. w.now) words.now) ≡ None)) }
+{
+    let Err(error) = parsed(alloc, words) else {
+        return Ok(None);
+    };
+    if asks(&error) {
+        let text = format!(in alloc; "{error}")?;
+        return Ok(Some(text));
+    }
+    if error.kind() == ErrorKind::OutOfMemory {
+        return Err(AllocError);
+    }
+    Ok(None)
 }
