@@ -15,7 +15,7 @@ use Rattle.sb_bus.specs.Words.{Form, asks_for_text, command_named, form_at, form
 -- ---- a form
 
 pub formed : (name folder : Text) (command : Command) (found : Found) → Some command ≡ command_named name → Some folder ≡ first_value found (codes "data")
-    → ◌≡◌ {A = Option Form} (Some (record { command = command; folder = folder })) (form_at (Some (name, rows_of found)))
+    → ◌≡◌ {A = Option Form} (Some (record { command = command; folder = folder; port = 0 })) (form_at (Some (name, rows_of found)))
 formed name folder command found named given = ap₂ form_by named (given ∙ first_value-rows found (codes "data"))
 
 pub no_folder : (name : Text) (command : Command) (found : Found) → Some command ≡ command_named name → None ≡ first_value found (codes "data") → None ≡ form_at (Some (name, rows_of found))

@@ -8,5 +8,6 @@ pub mod Nodes
 pub mod Runs
 pub mod Endings
 pub mod Words
+pub mod WordRows
 pub mod Checks
 pub mod Tops

@@ -1,5 +1,5 @@
 -- What the words of a call name: what `clap` makes of them at the program's command line.
-use Rattle.std.specs.Prelude.{◌≡◌, ◌⊎◌, Bool, false, List, [], ◌∷◌, codes, bytes_eq, true, Option, Some, None, option_map, if◌then◌else◌}
+use Rattle.std.specs.Prelude.{◌≡◌, ◌⊎◌, ℕ, Bool, false, List, [], ◌∷◌, codes, bytes_eq, true, Option, Some, None, option_map, string_bytes, if◌then◌else◌}
 use Rattle.clap.specs.Simple.{on_top}
 use Rattle.clap.specs.Words.{App, IsAmong, Kinds, Row, Rule, Shape, Text, fault_of, first_of, new_app, new_rule, subcommand_of, with_rule, with_subcommand}
 use Rattle.clap.specs.declared.error.kind.ErrorKind.{ErrorKind}
@@ -7,6 +7,7 @@ use Rattle.clap.specs.declared.error.kind.ErrorKind.TheVariants.{DisplayHelp, Di
 use Rattle.sb_bus.specs.declared.command.Command.{Command}
 use Rattle.sb_bus.specs.declared.command.Command.TheVariants.{Run, Check}
 use Rattle.sb_bus.specs.declared.command.Form.{Form as ReadForm}
+use Rattle.sb_bus.specs.declared.command.Needs.{Needs}
 
 -- ---- the command line
 
@@ -27,19 +28,23 @@ program = with_subcommand (with_subcommand bus (over_folder (codes "run"))) (ove
 
 -- ---- the forms
 
--- what a form names
+-- what a form names; 0 is no port
 pub record Form : Type 0 where
   pub command : Command
   pub folder : Text
+  pub port : ℕ
 
 abbrev pub form_value : ReadForm → Form
-form_value f = record { command = f.command; folder = f.folder.now }
+form_value f = record { command = f.command; folder = f.folder.now; port = f.port }
+
+abbrev pub needs_value : Needs → Form
+needs_value n = record { command = n.command; folder = string_bytes n.folder; port = n.port }
 
 abbrev pub command_named : Text → Option Command
 command_named word = if bytes_eq word (codes "run") then Some Run else (if bytes_eq word (codes "check") then Some Check else None)
 
 abbrev pub form_by : Option Command → Option Text → Option Form
-form_by (Some command) (Some folder) = Some (record { command = command; folder = folder })
+form_by (Some command) (Some folder) = Some (record { command = command; folder = folder; port = 0 })
 form_by _ _ = None
 
 -- a command's name, and what was found for its options
@@ -59,10 +64,6 @@ form_in words = unless_at_fault (fault_of program words) (form_at (subcommand_of
 -- the command that they name
 abbrev pub command_in : List Text → Option Command
 command_in words = option_map (λ f. f.command) (form_in words)
-
--- the folder that they name
-abbrev pub folder_in : List Text → Option Text
-folder_in words = option_map (λ f. f.folder) (form_in words)
 
 -- ---- help and the version
 

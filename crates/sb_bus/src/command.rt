@@ -15,13 +15,19 @@ pub struct Form<'w> {
     pub command: Command,
     /// The folder of the two journal files.
     pub folder: &'w str,
+    /// A port, or 0 where the form has none.
+    pub port: u16,
 }
 
 /// What a command needs of the outside.
 #[derive(Debug, Drop)]
 pub struct Needs {
-    /// The folder of the two journal files.
+    /// What is to be done.
+    pub command: Command,
+    /// The folder of the two journal files; empty where the form has none.
     pub folder: String,
+    /// The port that is listened at or connected to; 0 where the form has none.
+    pub port: u16,
 }
 
 /// Why there are no needs.

@@ -31,6 +31,8 @@ mod script_line;
 mod tests;
 mod top;
 mod words;
+#[cfg(test)]
+mod worked;
 
 use std::process::ExitCode;
 

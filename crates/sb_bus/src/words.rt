@@ -1,8 +1,7 @@
 // The words that the program is called with, read by `clap`.
 ghost use Rattle.std.specs.Prelude.{◌≡◌, ◌≢◌, map, option_map, true, false, Option, None, Some, Ok, Err, IfOk, IfErr, IfSome, IfNone};
-ghost use Rattle.std.specs.String.{string_bytes};
 ghost use Rattle.clap.specs.Words.{FailsBy, HasMatchesOf, app_of, fault_of, found_of, kind_of, rows_of, rule_of, shape_of, subcommand_rows_of};
-ghost use Rattle.sb_bus.specs.Words.{MayAsk, MayNotAsk, command_in, command_named, folder_in, form_at, form_in, form_value};
+ghost use Rattle.sb_bus.specs.Words.{MayAsk, MayNotAsk, command_in, command_named, form_at, form_in, form_value, needs_value};
 ghost use Rattle.sb_bus.specs.Words as line;
 ghost use Rattle.clap.specs.declared.builder.command.Command.TheViews.{out-Command as fields_of};
 
@@ -84,7 +83,11 @@ fn form_of<'w>(name: &str, options: &ArgMatches<'w>) -> Option<Form<'w>>
     let Some(folder) = options.get_str("data") else {
         return None;
     };
-    Some(Form { command, folder })
+    Some(Form {
+        command,
+        folder,
+        port: 0,
+    })
 }
 
 // The form of what was found.
@@ -132,14 +135,18 @@ pub fn named_command(alloc: Global, words: &[&str]) -> Result<Command, WordsFaul
 
 /// What the command of these words needs.
 pub fn needs(alloc: Global, words: &[&str]) -> Result<Needs, WordsFault>
-    ensures folder { IfOk result (λ n. folder_in (map (λ w. w.now) words.now) ≡ Some (string_bytes n.folder)) }
-    ensures bad { IfErr result (λ e. e ≡ WordsFault.BadWords → folder_in (map (λ w. w.now) words.now) ≡ None) }
+    ensures form { IfOk result (λ n. form_in (map (λ w. w.now) words.now) ≡ Some (needs_value n)) }
+    ensures bad { IfErr result (λ e. e ≡ WordsFault.BadWords → form_in (map (λ w. w.now) words.now) ≡ None) }
 {
     let form = read_form(alloc, words)?;
     let Ok(folder) = String::from_str(alloc, form.folder) else {
         return Err(WordsFault::OutOfMemory);
     };
-    Ok(Needs { folder })
+    Ok(Needs {
+        command: form.command,
+        folder,
+        port: form.port,
+    })
 }
 
 fn asks(error: &clap::Error) -> bool

@@ -1,0 +1,16 @@
+-- Words that are no form.
+use Rattle.std.specs.Prelude.{List, [], ◌∷◌, codes, Option, None, map}
+use Rattle.clap.specs.Words.{Text}
+use Rattle.sb_bus.specs.declared.command.Command.{Command}
+use Rattle.sb_bus.specs.Words.{Form}
+
+abbrev pub over : Command → Text → Form
+over command folder = record { command = command; folder = folder; port = 0 }
+
+abbrev pub no_forms : List (List Text)
+no_forms = [] ∷ (codes "serve" ∷ []) ∷ (codes "run" ∷ []) ∷ (codes "run" ∷ codes "--data" ∷ []) ∷ (codes "--data=a" ∷ codes "run" ∷ [])
+    ∷ (codes "run" ∷ codes "--data=a" ∷ codes "--data" ∷ codes "b" ∷ []) ∷ (codes "run" ∷ codes "--data" ∷ codes "--data" ∷ [])
+    ∷ (codes "run" ∷ codes "--data=a" ∷ codes "b" ∷ []) ∷ (codes "--help" ∷ []) ∷ (codes "-h" ∷ []) ∷ (codes "--version" ∷ []) ∷ (codes "run" ∷ codes "-h" ∷ []) ∷ []
+
+abbrev pub nones : List (Option Form)
+nones = map (λ (words : List Text). None) no_forms

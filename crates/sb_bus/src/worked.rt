@@ -1,0 +1,13 @@
+// What some words are, worked out by hand.
+ghost use Rattle.std.specs.Prelude.{◌≡◌, ◌∷◌, ◌++◌, [], List, ℕ, codes, Some, map};
+ghost use Rattle.sb_bus.specs.Words.{form_in};
+ghost use Rattle.sb_bus.specs.WordRows.{no_forms, nones, over};
+
+use crate::command::Command;
+
+/// Any folder can be named behind `=`, and one that doesn't begin with `-` as a word of its own.
+fn worked_words()
+    ensures joined { (folder : List ℕ) → form_in (codes "run" ∷ (codes "--data=" ++ folder) ∷ []) ≡ Some (over Command.Run folder) }
+    ensures separate { form_in (codes "check" ∷ codes "--data" ∷ codes "." ∷ []) ≡ Some (over Command.Check (codes ".")) }
+    ensures none { map form_in no_forms ≡ nones }
+{}
