@@ -4,17 +4,18 @@ use Rattle.std.proofs.lemmas.List.{append-nil, map-append}
 use Rattle.sb_outside.specs.Streams.{Gains}
 use Rattle.sb_outside.proofs.Gains.{gains-gains, gains-none}
 use Rattle.sb_machine.specs.declared.state.State.{State}
-use Rattle.sb_bus.specs.declared.partial_line.PartialLine.{PartialLine}
-use Rattle.sb_bus.specs.declared.reader.Reader.{Reader}
+use Rattle.sb_input.specs.declared.partial_line.PartialLine.{PartialLine}
+use Rattle.sb_input.specs.declared.reader.Reader.{Reader}
 use Rattle.sb_bus.specs.declared.script_line.ScriptLine.{ScriptLine}
 use Rattle.sb_bus.specs.declared.script_line.ScriptLine.TheVariants.{Blank, Malformed, Request}
-use Rattle.sb_bus.specs.Lines.{NoFeed, lines_of, script_line, script_lines, AreWhole}
-use Rattle.sb_bus.specs.Taking.{Took}
+use Rattle.sb_input.specs.Lines.{NoFeed, lines_of, AreWhole}
+use Rattle.sb_bus.specs.Lines.{script_line, script_lines}
+use Rattle.sb_input.specs.Taking.{Took}
 use Rattle.sb_bus.specs.Outside.{Output, Outside}
 use Rattle.sb_bus.specs.Runs.{reply_to, state_by, refuses_it, replies_to, state_after_all, any_refused, IsAnswered, IsScriptRun, RunsSoFar, FollowLines}
-use Rattle.sb_bus.specs.Readers.{pending_of, IsAt, IsNext, ReadsLine, ReadsNone}
+use Rattle.sb_input.specs.Readers.{pending_of, IsAt, IsNext, ReadsLine, ReadsNone}
 use Rattle.sb_bus.proofs.Follows.{followed_says}
-use Rattle.sb_bus.proofs.Splits.{lines_of-feed, lines_of-last}
+use Rattle.sb_input.proofs.Advances.{advances, fresh_at}
 
 state_after_all-push : (s : State) (xs : List ScriptLine) (x : ScriptLine) → state_after_all s (xs ++ x ∷ []) ≡ state_by (state_after_all s xs) x
 state_after_all-push s [] x = refl
@@ -38,45 +39,8 @@ any_refused-push s [] x = or-false (refuses_it s x)
 any_refused-push s (y ∷ xs) x =
     ap (λ b. refuses_it s y || b) (any_refused-push (state_by s y) xs x) ∙ or-assoc (refuses_it s y) (any_refused (state_by s y) xs) (refuses_it (state_after_all (state_by s y) xs) x)
 
--- the lines that were answered, with one more
-pub record Advances (input done : List ℕ) (line : List ℕ) (r : Reader) : Type 0 where
-  pub next : List ℕ
-  pub split : input ≡ next ++ pending_of r
-  pub says : script_lines next ≡ script_lines done ++ script_line line ∷ []
-  pub goes : AreWhole next ⊎ ((r.ended ≡ true) × (pending_of r ≡ []))
-
-feed_line : (done line rest : List ℕ) → AreWhole done → NoFeed line → lines_of ((done ++ (line ++ 10 ∷ [])) ++ rest) ≡ lines_of done ++ line ∷ lines_of rest
-feed_line done line rest whole none =
-    ap lines_of (append_assoc done (line ++ 10 ∷ []) rest ∙ ap (λ (l : List ℕ). done ++ l) (append_assoc line (10 ∷ []) rest)) ∙ whole (line ++ 10 ∷ rest) ∙ ap (λ (l : List (List ℕ)). lines_of done ++ l) (lines_of-feed line rest none)
-
-one_line : (done line : List ℕ) → AreWhole done → NoFeed line → lines_of (done ++ (line ++ 10 ∷ [])) ≡ lines_of done ++ line ∷ []
-one_line done line whole none = ap lines_of (sym (append-nil (done ++ (line ++ 10 ∷ [])))) ∙ feed_line done line [] whole none
-
-said_push : (done next line : List ℕ) → lines_of next ≡ lines_of done ++ line ∷ [] → script_lines next ≡ script_lines done ++ script_line line ∷ []
+pub said_push : (done next line : List ℕ) → lines_of next ≡ lines_of done ++ line ∷ [] → script_lines next ≡ script_lines done ++ script_line line ∷ []
 said_push done next line is = ap (map script_line) is ∙ map-append script_line (lines_of done) (line ∷ [])
-
-pub advances : (input done pending more line : List ℕ) (r : Reader) → input ≡ done ++ pending → AreWhole done → NoFeed line → IsNext (pending ++ more) line (pending_of r) r.ended → Advances (input ++ more) done line r
-advances input done pending more line r split whole none (inl fed) = record {
-  next = done ++ (line ++ 10 ∷ []);
-  split =
-      ap (λ (l : List ℕ). l ++ more) split
-      ∙ append_assoc done pending more
-      ∙ ap (λ (l : List ℕ). done ++ l) (fed ∙ sym (append_assoc line (10 ∷ []) (pending_of r)))
-      ∙ sym (append_assoc done (line ++ 10 ∷ []) (pending_of r));
-  says = said_push done (done ++ (line ++ 10 ∷ [])) line (one_line done line whole none);
-  goes = inl (λ rest. feed_line done line rest whole none ∙ sym (append_assoc (lines_of done) (line ∷ []) (lines_of rest)) ∙ ap (λ (l : List (List ℕ)). l ++ lines_of rest) (sym (one_line done line whole none)));
-}
-advances input done pending more line r split whole none (inr last) = record {
-  next = done ++ line;
-  split =
-      ap (λ (l : List ℕ). l ++ more) split
-      ∙ append_assoc done pending more
-      ∙ ap (λ (l : List ℕ). done ++ l) last.0
-      ∙ sym (append-nil (done ++ line))
-      ∙ ap (λ (l : List ℕ). (done ++ line) ++ l) (sym last.2);
-  says = said_push done (done ++ line) line (whole line ∙ ap (λ (l : List (List ℕ)). lines_of done ++ l) (lines_of-last line none last.1));
-  goes = inr (last.3, last.2);
-}
 
 -- what is known of a run after one more line
 pub record RunsOn (lines : List ScriptLine) (s : State) (start left told told_after : Option (List ℕ)) (r : Reader) (now : State) (refused : Bool) : Type 0 where
@@ -94,7 +58,7 @@ pub runs_on : (s now after : State) (start left left_after told : Option (List �
     → (reads : ReadsLine start so_far.input (pending_of r) left_after next front) → x ≡ script_line reads.line → IsAnswered now x mid later after was → both ≡ (refused || was) → RunsOn (script_lines so_far.done ++ x ∷ []) s start left_after told later.given next after both
 runs_on s now after start left left_after told mid later r next refused was both front x so_far reads says served both_is =
     let on = advances so_far.input so_far.done (pending_of r) reads.more reads.line next so_far.split so_far.whole reads.no_feed reads.next in
-    let all : script_lines on.next ≡ script_lines so_far.done ++ x ∷ [] = on.says ∙ ap (λ y. script_lines so_far.done ++ y ∷ []) (sym says) in
+    let all : script_lines on.next ≡ script_lines so_far.done ++ x ∷ [] = said_push so_far.done on.next reads.line on.says ∙ ap (λ y. script_lines so_far.done ++ y ∷ []) (sym says) in
     record {
       input = so_far.input ++ reads.more;
       done = on.next;
@@ -116,30 +80,20 @@ runs_on s now after start left left_after told mid later r next refused was both
 
 -- nothing is read yet
 pub nothing_yet : (s : State) (start told : Option (List ℕ)) (r : Reader) → (r.at ≡ 0) × (r.end ≡ 0) × (r.ended ≡ false) × (r.taken ≡ 0) → (so_far : RunsSoFar s start start told told r s false) × (script_lines so_far.done ≡ [])
-nothing_yet s start told r fresh = (
-  record {
-    input = [];
-    done = [];
-    at = record {
-      took = none_taken start;
-      ended = λ ended. let other : true ≡ false = sym ended ∙ fresh.2 in absurd cc;
-      taken = fresh.3;
-    };
-    split = sym (ap (λ (n : ℕ). take (n - r.at) (drop r.at r.piece.items)) fresh.1 ∙ ap (λ (n : ℕ). take n (drop r.at r.piece.items)) (none_less r.at));
-    whole = λ rest. refl;
-    written = gains-none told;
-    leads = refl;
-    says = refl;
-  },
-  refl,
-)
-  where
-    none_taken : (left : Option (List ℕ)) → Took left left []
-    none_taken None = tt
-    none_taken (Some all) = (all, refl, refl)
-
-    none_less : (n : ℕ) → 0 - n ≡ 0
-    none_less n = omega arith
+nothing_yet s start told r fresh =
+    let at = fresh_at start r fresh in (
+      record {
+        input = [];
+        done = [];
+        at = at.0;
+        split = sym at.1;
+        whole = λ rest. refl;
+        written = gains-none told;
+        leads = refl;
+        says = refl;
+      },
+      refl,
+    )
 
 -- it goes on
 pub still_runs : (lines : List ScriptLine) (s now : State) (start left told told_after : Option (List ℕ)) (r : Reader) (refused over : Bool) → RunsOn lines s start left told told_after r now refused → over ≡ false → (r.ended ≡ true → pending_of r ≡ [] → over ≡ true) → (so_far : RunsSoFar s start left told told_after r now refused) × (script_lines so_far.done ≡ lines)

@@ -17,7 +17,7 @@ use Rattle.sb_bus.specs.declared.command.Command.{Command}
 use Rattle.sb_bus.specs.declared.command.Command.TheVariants.{Run, Check}
 use Rattle.sb_bus.specs.Words.{command_in}
 use Rattle.sb_bus.specs.Checks.{check_line, IsTold, IsLineTold}
-use Rattle.sb_bus.specs.Taking.{IsLong}
+use Rattle.sb_input.specs.Taking.{IsLong}
 use Rattle.sb_bus.specs.Runs.{IsScriptRun, state_after_all, status_by}
 use Rattle.sb_bus.specs.Endings.{LastLine, IsLineWritten, EndsAt, IsCutRun, status_of_end}
 use Rattle.sb_bus.specs.Tops.{IsCheck, IsEarly, IsUnopened, IsRefused, IsDamageReported, usage_line, IsRunStatus, IsStatus, IsShort, IsFree, IsComplete, IsCarriedOut}
@@ -245,14 +245,14 @@ write_cut Safe start was now state run = by_last run.last run.ends
     by_last None ends = absurd ends.0
     by_last (Some last) ends = ends.1.2
 
-short_long : (left left_after : Option (List ℕ)) → IsShort left → IsLong left left_after → ⊥
+pub short_long : (left left_after : Option (List ℕ)) → IsShort left → IsLong left left_after → ⊥
 short_long None left_after short long = short
 short_long (Some all) left_after short long =
     let took = long.1 in
     let whole : length all ≡ length (long.0 ++ took.0) = ap length took.1 in
     omega (arith, short, long.2, whole, length-append long.0 took.0)
 
-rose_of : (before now : ℕ) → RoseByOne before now → Rose before now
+pub rose_of : (before now : ℕ) → RoseByOne before now → Rose before now
 rose_of before now one = omega (arith, one)
 
 -- where nothing keeps a run from taking its input, all its lines are answered or memory is wanting

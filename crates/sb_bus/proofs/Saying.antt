@@ -7,8 +7,9 @@ use Rattle.std.proofs.lemmas.Str.{is_utf8-from_IsUtf8, IsUtf8-from_is_utf8}
 use Rattle.std.proofs.lemmas.Bool.Decides.{nat_tests}
 use Rattle.sb_bus.specs.declared.script_line.ScriptLine.{ScriptLine}
 use Rattle.sb_bus.specs.declared.script_line.ScriptLine.TheVariants.{Blank, Malformed}
-use Rattle.sb_bus.specs.Limits.{max_line}
-use Rattle.sb_bus.specs.Lines.{is_blank, script_line, script_line_of}
+use Rattle.sb_input.specs.Limits.{max_line}
+use Rattle.sb_input.specs.Lines.{is_blank}
+use Rattle.sb_bus.specs.Lines.{script_line, script_line_of}
 use Rattle.sb_lines.specs.Lines.{line_of}
 
 short : (n : ℕ) → n ≤ 2097152 → nat_lt 2097152 n ≡ false

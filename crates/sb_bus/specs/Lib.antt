@@ -1,9 +1,6 @@
-pub mod Limits
 pub mod Outside
 pub mod Lines
-pub mod PartialLines
 pub mod Taking
-pub mod Readers
 pub mod Nodes
 pub mod Runs
 pub mod Endings
@@ -11,3 +8,5 @@ pub mod Words
 pub mod WordRows
 pub mod Checks
 pub mod Tops
+pub mod Clients
+pub mod Calls

@@ -1,29 +1,13 @@
--- The lines of a text, and what each says.
+-- What the lines of a text say.
 use Rattle.std.specs.Prelude.{◌≡◌, ℕ, List, [], ◌∷◌, ◌++◌, length, map, Bool, false, ◌==◌, ◌||◌, nat_lt, if◌then◌else◌, codes, Result, Ok, Err}
-use Rattle.std.specs.List.{list_all}
 use Rattle.std.specs.Str.{is_utf8}
 use Rattle.sb_machine.specs.Ordered.{IsActInOrder}
 use Rattle.sb_machine.specs.declared.call.TimedCall.{TimedCall}
 use Rattle.sb_bus.specs.declared.script_line.ScriptLine.{ScriptLine}
 use Rattle.sb_bus.specs.declared.script_line.ScriptLine.TheVariants.{Blank, Malformed, Request}
 use Rattle.sb_lines.specs.Lines.{line_of}
-use Rattle.sb_bus.specs.Limits.{max_line}
-
-abbrev pub onto_first : ℕ → List (List ℕ) → List (List ℕ)
-onto_first b [] = (b ∷ []) ∷ []
-onto_first b (l ∷ ls) = (b ∷ l) ∷ ls
-
--- each line ends at a line feed, which the last may lack
-abbrev pub lines_of : List ℕ → List (List ℕ)
-lines_of [] = []
-lines_of (b ∷ bs) = if b == 10 then [] ∷ lines_of bs else onto_first b (lines_of bs)
-
--- a space, a tab or a carriage return
-abbrev pub is_space : ℕ → Bool
-is_space b = (b == 32) || (b == 9) || (b == 13)
-
-abbrev pub is_blank : List ℕ → Bool
-is_blank line = list_all is_space line
+use Rattle.sb_input.specs.Limits.{max_line}
+use Rattle.sb_input.specs.Lines.{lines_of, is_blank}
 
 abbrev pub script_line_of : Result TimedCall (List ℕ) → ScriptLine
 script_line_of (Ok call) = Request call
@@ -42,12 +26,3 @@ IsLineInOrder (Request a) = IsActInOrder a.call.act
 -- what the lines of an input ask for
 abbrev pub script_lines : List ℕ → List ScriptLine
 script_lines input = map script_line (lines_of input)
-
--- these are whole lines: whatever follows begins a new one
-abbrev pub AreWhole : List ℕ → Type 0
-AreWhole done = (rest : List ℕ) → lines_of (done ++ rest) ≡ lines_of done ++ lines_of rest
-
--- no line feed here
-abbrev pub NoFeed : List ℕ → Type 0
-NoFeed [] = Unit {0}
-NoFeed (b ∷ bs) = ((b == 10) ≡ false) × NoFeed bs

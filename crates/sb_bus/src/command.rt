@@ -6,6 +6,15 @@ pub enum Command {
     Run,
     /// Tell the numbers of the namespace.
     Check,
+    /// Have a server answer the script lines of the input.
+    Client,
+}
+
+/// What is done over a journal.
+#[derive(Clone, Copy, Debug, PartialEq, Eq)]
+pub enum Task {
+    Run,
+    Check,
 }
 
 /// What a form of the words names.

@@ -3,7 +3,7 @@ ghost use Rattle.std.specs.Prelude.{◌≡◌};
 ghost use Rattle.sb_bus.specs.Taking.{end_of_reading};
 ghost use Rattle.sb_bus.specs.Endings.{status_of_end};
 
-use crate::reader::ReadEnd;
+use sb_input::ReadEnd;
 
 /// Why a run ended before its input did.
 #[derive(Clone, Copy, Debug, PartialEq, Eq)]

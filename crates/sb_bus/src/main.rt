@@ -15,14 +15,14 @@
 #[cfg(test)]
 mod adapter_tests;
 mod checking;
+mod client;
+#[cfg(test)]
+mod client_tests;
 mod command;
 mod dispatch;
 mod ending;
 mod final_line;
-mod limits;
 mod outside;
-mod partial_line;
-mod reader;
 #[cfg(test)]
 mod rows;
 mod running;

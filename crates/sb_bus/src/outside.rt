@@ -1,9 +1,10 @@
 // Makes the real disks, streams and clock, and calls the top.
-use crate::command::WordsFault;
+use crate::command::{Command, WordsFault};
 use crate::top::top;
 use crate::words::{asked_text, needs};
 use sb_outside::{
-    MemDisk, NoDoor, NoLink, Reading, SystemClock, Writing, hold_streams, open_disk, sync_folder,
+    Dialing, Link, MemDisk, NoDoor, NoLink, Reading, SystemClock, Writing, hold_streams, open_disk,
+    sync_folder,
 };
 use std::alloc::Global;
 use std::fs::{File, TryLockError};
@@ -81,8 +82,13 @@ fn over_folder(rt: &HostRuntime, words: &[&str], folder: &str) -> io::Result<u8>
     Ok(status)
 }
 
-// Calls the top over empty disks in memory.
-fn over_nothing(rt: &HostRuntime, words: &[&str]) -> io::Result<u8> {
+// Calls the top over a link to the server at this port.
+fn with_server(rt: &HostRuntime, words: &[&str], port: u16) -> io::Result<u8> {
+    over_nothing(rt, words, &mut Dialing::new(rt, port))
+}
+
+// Calls the top over empty disks in memory, and this link.
+fn over_nothing<N: Link>(rt: &HostRuntime, words: &[&str], link: &mut N) -> io::Result<u8> {
     let alloc = rt.alloc();
     let disk_a = MemDisk::new(alloc, Vec::new(alloc), Vec::new(alloc))?;
     let disk_b = MemDisk::new(alloc, Vec::new(alloc), Vec::new(alloc))?;
@@ -98,7 +104,7 @@ fn over_nothing(rt: &HostRuntime, words: &[&str]) -> io::Result<u8> {
         &mut Reading::new(rt.stdin()),
         &mut Writing::new(rt.stdout()),
         &mut doors,
-        &mut NoLink::new(),
+        link,
     );
     Ok(status)
 }
@@ -114,8 +120,11 @@ fn tell(rt: &HostRuntime, text: &str) -> u8 {
 // The status of the call that these words make.
 fn status_by(rt: &HostRuntime, words: &[&str]) -> io::Result<u8> {
     match needs(rt.alloc(), words) {
-        Ok(needs) => over_folder(rt, words, needs.folder.as_str()),
-        Err(WordsFault::BadWords) => over_nothing(rt, words),
+        Ok(needs) => match needs.command {
+            Command::Run | Command::Check => over_folder(rt, words, needs.folder.as_str()),
+            Command::Client => with_server(rt, words, needs.port),
+        },
+        Err(WordsFault::BadWords) => over_nothing(rt, words, &mut NoLink::new()),
         Err(WordsFault::OutOfMemory) => Ok(NO_MEMORY),
     }
 }

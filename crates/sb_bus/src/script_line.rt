@@ -1,11 +1,11 @@
 // What a line of the script asks for.
 ghost use Rattle.std.specs.Prelude.{◌≡◌, ◌≤◌, ℕ, List, length, IfOk};
-ghost use Rattle.sb_bus.specs.Limits.{max_line};
+ghost use Rattle.sb_input.specs.Limits.{max_line};
 ghost use Rattle.sb_bus.specs.Lines.{script_line, script_line_of, IsLineInOrder};
-ghost use Rattle.sb_bus.specs.PartialLines.{StandsFor};
+ghost use Rattle.sb_input.specs.PartialLines.{StandsFor};
 ghost use Rattle.sb_lines.specs.Lines.{line_of};
 
-use crate::partial_line::{PartialLine, is_blank_line};
+use sb_input::{PartialLine, is_blank_line};
 use sb_lines::{LineFault, read_line};
 use sb_machine::TimedCall;
 use sb_model::Text;

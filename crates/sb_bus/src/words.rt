@@ -1,6 +1,6 @@
 // The words that the program is called with, read by `clap`.
-ghost use Rattle.std.specs.Prelude.{◌≡◌, ◌≢◌, map, option_map, true, false, Option, None, Some, Ok, Err, IfOk, IfErr, IfSome, IfNone};
-ghost use Rattle.clap.specs.Words.{FailsBy, HasMatchesOf, app_of, fault_of, found_of, kind_of, rows_of, rule_of, shape_of, subcommand_rows_of};
+ghost use Rattle.std.specs.Prelude.{◌≡◌, ◌≢◌, codes, map, option_map, option_and_then, true, false, Option, None, Some, Ok, Err, IfOk, IfErr, IfSome, IfNone};
+ghost use Rattle.clap.specs.Words.{FailsBy, HasMatchesOf, app_of, fault_of, first_of, found_of, kind_of, rows_of, rule_of, shape_of, subcommand_rows_of};
 ghost use Rattle.sb_bus.specs.Words.{MayAsk, MayNotAsk, command_in, command_named, form_at, form_in, form_value, needs_value};
 ghost use Rattle.sb_bus.specs.Words as line;
 ghost use Rattle.clap.specs.declared.builder.command.Command.TheViews.{out-Command as fields_of};
@@ -8,6 +8,7 @@ ghost use Rattle.clap.specs.declared.builder.command.Command.TheViews.{out-Comma
 use crate::command::{Command, Form, Needs, WordsFault};
 use clap::error::ErrorKind;
 use clap::{Arg, ArgMatches};
+use sb_http::number;
 use std::alloc::{AllocError, Global};
 
 /// What the program tells as its version.
@@ -38,9 +39,34 @@ fn over_folder<'a>(
         .arg(data_option(alloc))
 }
 
-// The command line, without the program's name.
-fn command_line<'a>(alloc: Global) -> Result<clap::Command<'a>, AllocError>
-    ensures { IfOk result (λ c. app_of c ≡ line.program) }
+fn port_option<'a>(alloc: Global) -> Arg<'a>
+    ensures rule { rule_of result ≡ line.port_option }
+    ensures local { result.global ≡ false }
+{
+    Arg::new(alloc, "port")
+        .long("port")
+        .value_name("P")
+        .required(true)
+        .help("The port of the server on this machine")
+}
+
+// A command with a server.
+fn with_server<'a>(
+    alloc: Global,
+    name: &'a str,
+    about: &'a str,
+) -> Result<clap::Command<'a>, AllocError>
+    ensures shape { IfOk result (λ c. shape_of c ≡ line.with_server name.entry.now) }
+    ensures local { IfOk result (λ c. (fields_of c).has_globals ≡ false) }
+{
+    clap::Command::new(alloc, name)
+        .about(about)
+        .arg(port_option(alloc))
+}
+
+// The commands over a folder.
+fn folder_commands<'a>(alloc: Global) -> Result<clap::Command<'a>, AllocError>
+    ensures { IfOk result (λ c. app_of c ≡ line.folder_commands) }
 {
     let run = over_folder(alloc, "run", "Answer the script lines of the input")?;
     let check = over_folder(alloc, "check", "Tell the numbers of the namespace")?;
@@ -52,6 +78,19 @@ fn command_line<'a>(alloc: Global) -> Result<clap::Command<'a>, AllocError>
         .subcommand_required(true)
         .subcommand(run)?
         .subcommand(check)
+}
+
+// The command line, without the program's name.
+fn command_line<'a>(alloc: Global) -> Result<clap::Command<'a>, AllocError>
+    ensures { IfOk result (λ c. app_of c ≡ line.program) }
+{
+    let commands = folder_commands(alloc)?;
+    let client = with_server(
+        alloc,
+        "client",
+        "Have a server answer the script lines of the input",
+    )?;
+    commands.subcommand(client)
 }
 
 fn parsed<'w>(alloc: Global, words: &'w [&str]) -> Result<ArgMatches<'w>, clap::Error>
@@ -68,9 +107,65 @@ fn command_of(word: &str) -> Option<Command>
         Some(Command::Run)
     } else if word == "check" {
         Some(Command::Check)
+    } else if word == "client" {
+        Some(Command::Client)
     } else {
         None
     }
+}
+
+fn begins_with_zero(word: &[u8]) -> bool
+    ensures { result ≡ line.begins_with_zero word.now }
+{
+    match word {
+        [b, ..] => *b == b'0',
+        [] => false,
+    }
+}
+
+// The port that a word writes.
+fn port_of(word: &str) -> Option<u16>
+    ensures { result ≡ line.port_in word.now }
+{
+    let digits = word.as_bytes();
+    let Some(n) = number(digits) else {
+        return None;
+    };
+    if begins_with_zero(digits) || n > 65_535 {
+        return None;
+    }
+    Some(n as u16)
+}
+
+// The form of a command over a folder, by what was found for its options.
+fn folder_form<'w>(command: Command, options: &ArgMatches<'w>) -> Option<Form<'w>>
+    ensures { option_map form_value result ≡ line.over_folder_in command (first_of (codes "data") (rows_of (found_of options.now))) }
+{
+    let Some(folder) = options.get_str("data") else {
+        return None;
+    };
+    Some(Form {
+        command,
+        folder,
+        port: 0,
+    })
+}
+
+// The form of a client, by what was found for its options.
+fn server_form<'w>(options: &ArgMatches<'w>) -> Option<Form<'w>>
+    ensures { option_map form_value result ≡ line.with_server_at (option_and_then line.port_in (first_of (codes "port") (rows_of (found_of options.now)))) }
+{
+    let Some(word) = options.get_str("port") else {
+        return None;
+    };
+    let Some(port) = port_of(word) else {
+        return None;
+    };
+    Some(Form {
+        command: Command::Client,
+        folder: "",
+        port,
+    })
 }
 
 // The form of the command with this name, by what was found for its options.
@@ -80,14 +175,11 @@ fn form_of<'w>(name: &str, options: &ArgMatches<'w>) -> Option<Form<'w>>
     let Some(command) = command_of(name) else {
         return None;
     };
-    let Some(folder) = options.get_str("data") else {
-        return None;
-    };
-    Some(Form {
-        command,
-        folder,
-        port: 0,
-    })
+    match command {
+        Command::Run => folder_form(Command::Run, options),
+        Command::Check => folder_form(Command::Check, options),
+        Command::Client => server_form(options),
+    }
 }
 
 // The form of what was found.

@@ -9,5 +9,6 @@ use crate::command::Command;
 fn worked_words()
     ensures joined { (folder : List ℕ) → form_in (codes "run" ∷ (codes "--data=" ++ folder) ∷ []) ≡ Some (over Command.Run folder) }
     ensures separate { form_in (codes "check" ∷ codes "--data" ∷ codes "." ∷ []) ≡ Some (over Command.Check (codes ".")) }
+    ensures server { form_in (codes "client" ∷ codes "--port" ∷ codes "65535" ∷ []) ≡ Some (record { command = Command.Client; folder = []; port = 65535 }) }
     ensures none { map form_in no_forms ≡ nones }
 {}

@@ -9,7 +9,7 @@ use Rattle.sb_bus.specs.declared.ending.RunEnd.TheVariants.{DiskFault}
 use Rattle.sb_bus.specs.Runs.{states_of}
 use Rattle.sb_bus.proofs.Steps.{accepted_answer, refused_answer, stepped, answered_call, called_moments, still_runs_wanting}
 use Rattle.sb_bus.proofs.Cuts.{step_at, not_failed, failed_answer, wanting_answer, disk_cut, memory_cut, reply_cut_at}
-use Rattle.sb_bus.proofs.Errors.{passed_on}
+use Rattle.sb_input.proofs.Errors.{passed_on}
 use Rattle.sb_bus.proofs.Faults.{present_one}
 use Rattle.sb_bus.proofs.dispatch.dispatch_call.Goals as goal
 

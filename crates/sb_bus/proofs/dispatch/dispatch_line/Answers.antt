@@ -5,7 +5,7 @@ use Rattle.sb_node.proofs.Crashes.{untouched_moments}
 use Rattle.sb_bus.specs.declared.script_line.ScriptLine.{ScriptLine}
 use Rattle.sb_bus.specs.Runs.{states_of}
 use Rattle.sb_bus.proofs.Cuts.{malformed_cut}
-use Rattle.sb_bus.proofs.Errors.{passed_on}
+use Rattle.sb_input.proofs.Errors.{passed_on}
 use Rattle.sb_bus.proofs.dispatch.dispatch_line.Goals as goal
 
 pub returns-in_err-write_answer-in-Malformed-clause-cut : goal.returns-in_err-write_answer-in-Malformed-clause-cut

@@ -1,21 +1,21 @@
-use Rattle.std.proofs.Common.{◌≡◌, ◌≢◌, Option, Err, refl, arith, sym, ◌∙◌, ap, subst}
+use Rattle.std.proofs.Common.{◌≡◌, ◌≢◌, ◌++◌, Option, Err, refl, arith, sym, ◌∙◌, ap, subst}
 use Rattle.sb_journal.specs.Disks.{AreQuiet, HaveFailed}
 use Rattle.sb_node.specs.Nodes.{node_state, node_disks, IsKept}
 use Rattle.sb_bus.specs.Outside.{output_of}
 use Rattle.sb_bus.specs.Nodes.{outside_with}
-use Rattle.sb_bus.specs.declared.partial_line.PartialLine.{PartialLine}
+use Rattle.sb_input.specs.declared.partial_line.PartialLine.{PartialLine}
 use Rattle.sb_bus.specs.declared.ending.RunEnd.{RunEnd}
 use Rattle.sb_bus.specs.declared.ending.RunEnd.TheVariants.{DiskFault, OutOfMemory}
 use Rattle.sb_bus.specs.Lines.{script_lines}
 use Rattle.sb_bus.specs.Taking.{IsTaken, end_of_reading}
-use Rattle.sb_bus.specs.Readers.{Reads, pending_of}
+use Rattle.sb_input.specs.Readers.{Reads, pending_of}
 use Rattle.sb_bus.specs.Endings.{IsBetween}
-use Rattle.sb_bus.proofs.Errors.{passed_on, passes_on, same_error}
+use Rattle.sb_input.proofs.Errors.{passed_on, passes_on, same_error}
 use Rattle.sb_bus.proofs.Faults.{quiet_on, failed_on, honest_on}
-use Rattle.sb_bus.proofs.Readings.{line_ahead}
+use Rattle.sb_input.proofs.Readings.{line_ahead}
 use Rattle.sb_bus.proofs.Follows.{followed_more, followed_says}
 use Rattle.sb_bus.proofs.Advances.{runs_on, ended_run, nothing_yet, still_runs, is_over}
-use Rattle.sb_bus.proofs.Cuts.{taken_behind, cut_at_once, cut_between, cut_at_line, reading_between, reading_long}
+use Rattle.sb_bus.proofs.Cuts.{taken_behind, cut_at_once, cut_between, cut_at_line, reading_between, reading_long, reading_ahead}
 use Rattle.sb_bus.proofs.running.run_script.Goals as goal
 
 pub returns-then-is_done-clause-done : goal.returns-then-is_done-clause-done
@@ -77,7 +77,7 @@ returns-in-Err-clause-cut g c =
     let now = outside_with g.S.Source g.K.Sink c.lines.node c.next_line.new.source c.lines.output in
     let end : c.end_of.result ≡ end_of_reading c.in-Err.end = c.end_of.ensures in
     let none = c.in-Err.ensures.ahead start so_far.input so_far.at in
-    let taken = taken_behind was.input now.input so_far.done (pending_of c.lines.reader) so_far.input none.more (end_of_reading c.in-Err.end) so_far.split none.took none.is_ahead in
+    let taken = taken_behind was.input now.input so_far.done (pending_of c.lines.reader) so_far.input none.more (end_of_reading c.in-Err.end) so_far.split none.took (reading_ahead c.in-Err.end (pending_of c.lines.reader ++ none.more) none.is_ahead) in
     cut_between (IsKept c.args.node.now) (node_state c.args.node.now) (node_state c.lines.node) was now (g.S.Source.left c.lines.input) c.lines.reader c.lines.refused c.end_of.result so_far c.lines.invariant.moments (subst IsBetween (sym end) (reading_between c.in-Err.end)) c.lines.invariant.write_same
     (subst (λ (e : RunEnd). IsTaken was.input now.input (script_lines so_far.done) e) (sym end) taken) (λ is. c.in-Err.ensures.long start so_far.input so_far.at (ap Err (reading_long c.in-Err.end (sym end ∙ is))))
 

@@ -1,9 +1,14 @@
+use Rattle.std.proofs.Common.{◌∙◌, Some, ap, sym}
 use Rattle.clap.specs.Words.{found_of}
-use Rattle.sb_bus.proofs.Forms.{formed, no_folder}
+use Rattle.sb_bus.proofs.Forms.{form_named}
+use Rattle.sb_bus.specs.declared.command.Command.TheVariants.{Run, Check, Client}
 use Rattle.sb_bus.proofs.words.form_of.Goals as goal
 
-pub returns-in_default-get_str : goal.returns-in_default-get_str
-returns-in_default-get_str c = no_folder c.args.name.now c.in-Some.command (found_of c.args.options.now) c.in-Some.ensures c.in_default-get_str.ensures
+pub returns-in-Run : goal.returns-in-Run
+returns-in-Run c = form_named c.args.name.now Run (found_of c.args.options.now) _ (ap Some (sym c.in-Run.is) ∙ c.in-Some.ensures) c.folder_form.ensures
 
-pub returns : goal.returns
-returns c = formed c.args.name.now c.in-Some-get_str.folder.now c.in-Some.command (found_of c.args.options.now) c.in-Some.ensures c.in-Some-get_str.ensures
+pub returns-in-Check : goal.returns-in-Check
+returns-in-Check c = form_named c.args.name.now Check (found_of c.args.options.now) _ (ap Some (sym c.in-Check.is) ∙ c.in-Some.ensures) c.folder_form-in-Check.ensures
+
+pub returns-in-Client : goal.returns-in-Client
+returns-in-Client c = form_named c.args.name.now Client (found_of c.args.options.now) _ (ap Some (sym c.in-Client.is) ∙ c.in-Some.ensures) c.server_form.ensures

@@ -14,3 +14,7 @@ returns-clause-separate c = refl
 pub returns-clause-none : goal.returns-clause-none
 unfolding form_in clap_on_literals
 returns-clause-none c = refl
+
+pub returns-clause-server : goal.returns-clause-server
+unfolding form_in clap_on_literals
+returns-clause-server c = refl
