@@ -1,9 +1,11 @@
 // Requests that are fed in pieces, each stepped over a node, and its response. A row is the moment and
 // the request, as in `driver`, and behind it the response without `HTTP/1.1`.
+ghost use Rattle.sb_machine.specs.Ordered.{IsActInOrder};
+
 use crate::driver::{bytes_of, request_of, response_bytes};
 use sb_http::{Incoming, Request, Response, write_response};
 use sb_lines::{LineFault, read_line, reply_line};
-use sb_machine::{Answer, Refusal};
+use sb_machine::{Answer, Call, Refusal};
 use sb_model::Text;
 use sb_node::Node;
 use sb_outside::MemDisk;
@@ -62,6 +64,30 @@ fn script_answer(
     }
 }
 
+fn response_to_script(
+    alloc: Global,
+    node: &mut Node<MemDisk>,
+    body: &[u8],
+    moment: u64,
+) -> Result<Response, Fail> {
+    let answer = script_answer(alloc, node, body, moment)?;
+    let line = reply_line(alloc, &answer)?;
+    Ok(line_response(alloc, line))
+}
+
+fn response_to_call(
+    alloc: Global,
+    node: &mut Node<MemDisk>,
+    call: &Call,
+    host: &[u8],
+    moment: u64,
+) -> Result<Response, Fail>
+    requires order { IsActInOrder call.now.act }
+{
+    let answer = node.step(moment, call);
+    Ok(response_of(alloc, call, &answer, host)?)
+}
+
 fn response_to(
     alloc: Global,
     routes: &Routes,
@@ -70,14 +96,8 @@ fn response_to(
     moment: u64,
 ) -> Result<Response, Fail> {
     match call_of(alloc, routes, request) {
-        Ok(wanted) => {
-            let answer = node.step(moment, &wanted.call);
-            Ok(response_of(alloc, &wanted.call, &answer, host_of(request))?)
-        }
-        Err(RestFault::Script) => {
-            let answer = script_answer(alloc, node, request.body, moment)?;
-            Ok(line_response(alloc, reply_line(alloc, &answer)?))
-        }
+        Ok(wanted) => response_to_call(alloc, node, &wanted.call, host_of(request), moment),
+        Err(RestFault::Script) => response_to_script(alloc, node, request.body, moment),
         Err(fault) => Ok(fault_response(alloc, fault)?),
     }
 }
