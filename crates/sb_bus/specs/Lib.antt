@@ -6,6 +6,7 @@ pub mod Runs
 pub mod Endings
 pub mod Words
 pub mod WordRows
+pub mod Commits
 pub mod Checks
 pub mod Tops
 pub mod Clients

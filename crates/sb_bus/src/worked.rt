@@ -1,6 +1,7 @@
-// What some words are, worked out by hand.
+// What some words are, and some commits, worked out by hand.
 ghost use Rattle.std.specs.Prelude.{◌≡◌, ◌∷◌, ◌++◌, [], List, ℕ, codes, Some, map};
 ghost use Rattle.sb_bus.specs.Words.{form_in};
+ghost use Rattle.sb_bus.specs.Commits.{IsPastQuota, IsNet};
 ghost use Rattle.sb_bus.specs.WordRows.{no_forms, nones, over};
 
 use crate::command::Command;
@@ -11,4 +12,10 @@ fn worked_words()
     ensures separate { form_in (codes "check" ∷ codes "--data" ∷ codes "." ∷ []) ≡ Some (over Command.Check (codes ".")) }
     ensures server { form_in (codes "client" ∷ codes "--port" ∷ codes "65535" ∷ []) ≡ Some (record { command = Command.Client; folder = []; port = 65535 }) }
     ensures none { map form_in no_forms ≡ nones }
+{}
+
+/// A commit is counted as a whole against the quota of 1,000,000 live copies, in every namespace.
+fn worked_commits()
+    ensures past { IsPastQuota }
+    ensures net { IsNet }
 {}
