@@ -17,8 +17,6 @@ import uuid
 
 SALT = "a1b2c3d4-e5f6-0718"
 AFTER = {"LATER_RUN": "TIME_GOES_ON", "REPEATED": "NUMBERED"}
-# those that are asked of files which stand in the test itself
-OF_FILES = {"NOT_MADE", "MADE"}
 ROWS = os.path.join(os.path.dirname(__file__), "..", "crates", "sb_bus", "src", "rows.rt")
 
 
@@ -58,8 +56,6 @@ def main():
     folders = {}
     failed = False
     for name, text in scripts:
-        if name in OF_FILES:
-            continue
         lines = text.splitlines()
         folder = folders.get(AFTER.get(name)) or tempfile.mkdtemp()
         folders[name] = folder
