@@ -1,4 +1,5 @@
 ghost use Rattle.std.specs.Prelude.{◌≡◌, ◌<◌, List, [], length, map, IfOk, IfErr};
+ghost use Rattle.sb_machine.specs.Ordered.{IsActInOrder};
 ghost use Rattle.sb_machine.specs.declared.history.Entry.{Entry};
 ghost use Rattle.sb_desk.specs.Desks.{Open, IsOf, IsNew, Calls, HasLegal, IsKeptIn, below, value_of};
 ghost use Rattle.sb_desk.specs.Entries.{IsReport};
@@ -75,6 +76,7 @@ impl<V: Served> Desk<V> {
     /// turn, and takes no memory but what the value's step takes.
     pub fn call<R: Wait>(&self, rt: &R, pass: Pass, reading: u64, call: &Call) -> (Pass, Answer)
         requires desk { IsOf self.now pass }
+        requires order { IsActInOrder call.now.act }
         ensures call { Calls pass reading call.now result.0 result.1 }
         ensures legal { HasLegal result.0 }
     {

@@ -2,6 +2,7 @@
 ghost use Rattle.std.specs.Prelude.{◌≡◌, ℕ, List, ◌++◌};
 ghost use Rattle.sb_machine.specs.Consistent.{IsConsistent};
 ghost use Rattle.sb_machine.specs.History.{IsLegal};
+ghost use Rattle.sb_machine.specs.Ordered.{IsActInOrder};
 ghost use Rattle.sb_machine.specs.declared.history.Entry.{Entry};
 ghost use Rattle.sb_machine.specs.declared.state.State.{State};
 ghost use Rattle.sb_desk.specs.Entries.{made_by, IsReport};
@@ -32,6 +33,7 @@ pub trait Served {
     /// Makes a call at a reading of the clock, in ms since 1970. The entries are those of
     /// whatever seat makes it.
     fn step(&mut self, reading: u64, call: &Call) -> Stepped
+        requires order { IsActInOrder call.now.act }
         ensures stands { (seat : ℕ) (from : State) (h : List Entry) → stands self.old from h → stands self.new from (h ++ made_by seat result.tick reading call.now result.answer) }
         ensures origin { origin self.new ≡ origin self.old };
 

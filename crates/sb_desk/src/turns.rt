@@ -2,6 +2,7 @@
 ghost use Rattle.std.specs.Prelude.{◌≡◌, ℕ, ◌+◌, ◌<◌, List, [], ◌∷◌, ◌++◌, Option, Some, None, length};
 ghost use Rattle.sb_machine.specs.Consistent.{IsConsistent};
 ghost use Rattle.sb_machine.specs.History.{IsLegal};
+ghost use Rattle.sb_machine.specs.Ordered.{IsActInOrder};
 ghost use Rattle.sb_machine.specs.declared.history.Entry.{Entry};
 ghost use Rattle.sb_desk.specs.declared.view.Stage.TheVariants.{Idle, Waits, Turn, Out};
 ghost use Rattle.sb_desk.specs.Entries.{made_by, entries_by};
@@ -40,6 +41,7 @@ pub(crate) fn serve_one<V: Served, R: Wait>(
 ) -> Answer
     requires table { (place.old.table_id ≡ top.now.table_id) × IsSized top.now.table_id }
     requires idle { (place.old.me.0.stage ≡ Idle) × (place.old.me.1 ≡ []) × (0 < place.old.me.0.parts) }
+    requires order { IsActInOrder call.now.act }
     ensures seat { (place.new.table_id ≡ place.old.table_id) × (place.new.id ≡ place.old.id) }
     ensures call { (tick : Option ℕ) × (between : List Entry) × (entries_by place.old.me.0.seat between ≡ [])
         × (place.new.me ≡ (record place.old.me.0 { seen = (place.old.me.0.seen ++ between) ++ made_by place.old.me.0.seat tick reading call.now result; stage = Idle }, [])) }

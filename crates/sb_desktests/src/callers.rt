@@ -1,5 +1,6 @@
 //! Callers of a desk: two passes on one thread, and a thread for each pass.
 ghost use Rattle.std.specs.Prelude.{◌≡◌, ℕ, List, ◌++◌, Option, length, IfOk, IfSome};
+ghost use Rattle.sb_machine.specs.Ordered.{IsActInOrder};
 ghost use Rattle.sb_machine.specs.declared.history.Entry.{Entry};
 ghost use Rattle.sb_desk.specs.Desks.{IsOf, IsNew};
 ghost use Rattle.sb_desk.specs.Entries.{made_by};
@@ -20,7 +21,9 @@ pub fn on_one_thread<R: Wait>(
     alloc: Global,
     reading: u64,
     call: &Call,
-) -> Option<(Answer, Answer, Report)> {
+) -> Option<(Answer, Answer, Report)>
+    requires { IsActInOrder call.now.act }
+{
     let (desk, passes) = Desk::new(alloc, OneQueue::new(), 2).ok()?;
     let (one, other) = pair_of(&desk, passes);
     let (one, other, first, second) = one_then_other(rt, &desk, one, other, reading, call);
@@ -36,7 +39,9 @@ pub fn on_eight_threads<R: Threads + Wait + Sync>(
     alloc: Global,
     times: u64,
     call: &Call,
-) -> Option<Report> {
+) -> Option<Report>
+    requires { IsActInOrder call.now.act }
+{
     let (desk, passes) = Desk::new(alloc, OneQueue::new(), 8).ok()?;
     let passes = on_threads(rt, &desk, passes, times, call).ok()?;
     let (_, report) = desk.close(passes).ok()?;
@@ -73,6 +78,7 @@ pub fn one_then_other<V: Served, R: Wait>(
     call: &Call,
 ) -> (Pass, Pass, Answer, Answer)
     requires new { IsNew desk.now one × IsNew desk.now other }
+    requires order { IsActInOrder call.now.act }
     ensures seen { (t : Option ℕ) × (u : Option ℕ) × (a : List Entry) × (b : List Entry) × (result.1.seen ≡ a ++ b)
         × IsEnd (made_by one.seat t reading call.now result.2) a × IsEnd (made_by other.seat u reading call.now result.3) b }
     ensures desk { IsOf desk.now result.0 × IsOf desk.now result.1 }
@@ -85,7 +91,8 @@ pub fn one_then_other<V: Served, R: Wait>(
 
 // So many calls at this pass.
 fn repeat<V: Served, R: Wait>(rt: &R, desk: &Desk<V>, pass: Pass, times: u64, call: &Call) -> Pass
-    requires { IsOf desk.now pass }
+    requires desk { IsOf desk.now pass }
+    requires order { IsActInOrder call.now.act }
     ensures { IsOf desk.now result }
 {
     let mut pass = pass;
@@ -104,7 +111,8 @@ pub fn on_threads<V: Served + Send, R: Threads + Wait + Sync>(
     times: u64,
     call: &Call,
 ) -> Result<Vec<Pass>, AllocError>
-    requires { Each (IsNew desk.now) passes.items }
+    requires new { Each (IsNew desk.now) passes.items }
+    requires order { IsActInOrder call.now.act }
     ensures length { IfOk result (λ v. length v.items ≡ length passes.items) }
     ensures each { IfOk result (λ v. Each (IsOf desk.now) v.items) }
 {
@@ -112,7 +120,8 @@ pub fn on_threads<V: Served + Send, R: Threads + Wait + Sync>(
         rt,
         passes,
         &|pass: Pass| -> Pass
-            requires { IsNew desk.now pass }
+            requires new { IsNew desk.now pass }
+            requires order { IsActInOrder call.now.act }
             ensures { IsOf desk.entry.now result }
         { repeat(rt, desk, pass, times, call) },
     )

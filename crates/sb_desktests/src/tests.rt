@@ -1,3 +1,6 @@
+ghost use Rattle.std.specs.Prelude.{IfOk};
+ghost use Rattle.sb_machine.specs.Ordered.{IsActInOrder};
+
 use crate::{on_eight_threads, on_one_thread};
 use sb_desk::Report;
 use sb_machine::{Act, Answered, Call, Description, Refusal, Reply};
@@ -5,7 +8,9 @@ use sb_model::Text;
 use std::alloc::{AllocError, Global};
 use std::test::Fail;
 
-fn creation(alloc: Global) -> Result<Call, AllocError> {
+fn creation(alloc: Global) -> Result<Call, AllocError>
+    ensures { IfOk result (λ c. IsActInOrder c.act) }
+{
     Ok(Call {
         by: None,
         act: Act::CreateQueue {
