@@ -1,12 +1,12 @@
 -- Fronts of a history and its entries by seat.
-use Rattle.std.proofs.Common.{◌≡◌, ◌≢◌, ℕ, ◌==◌, List, [], ◌∷◌, ◌++◌, sym, refl, ap, ◌∙◌, subst, inl, inr, arith, append_assoc, Option, Some, None, Result}
+use Rattle.std.proofs.Common.{◌≡◌, ◌≢◌, ℕ, ◌<◌, ◌==◌, List, [], ◌∷◌, ◌++◌, sym, refl, ap, ◌∙◌, subst, inl, inr, arith, append_assoc, Option, Some, None, Result}
 use Rattle.std.proofs.lemmas.List.Elements.{filter-append}
 use Rattle.sb_machine.specs.declared.call.Call.{Call}
 use Rattle.sb_machine.specs.declared.history.Entry.{Entry}
 use Rattle.sb_machine.specs.declared.reply.Answered.{Answered}
 use Rattle.sb_machine.specs.declared.reply.Refusal.{Refusal}
 use Rattle.sb_desk.specs.Entries.{entries_by, made_by, seat_of}
-use Rattle.sb_desk.specs.Lists.{IsFront, GoesOn, AreComparable}
+use Rattle.sb_desk.specs.Lists.{IsFront, GoesOn, AreComparable, HaveSeatsBelow}
 
 pub by_append : (seat : ℕ) (xs ys : List Entry) → entries_by seat (xs ++ ys) ≡ entries_by seat xs ++ entries_by seat ys
 by_append seat xs ys = filter-append (λ (e : Entry). seat_of e == seat) xs ys
@@ -74,3 +74,13 @@ by_added seat between t reading call answer none =
 -- a seat that has no entries may begin behind any front
 pub goes_on_fresh : (log : List Entry) (seat : ℕ) (seen : List Entry) → IsFront seen log → entries_by seat log ≡ [] → GoesOn log seat seen
 goes_on_fresh log seat seen f none = (f.0, f.1, (append_empty (entries_by seat seen) (entries_by seat f.0) (sym (by_append seat seen f.0) ∙ (ap (entries_by seat) (sym f.1) ∙ none))).1)
+
+-- ---- seats below a number
+
+pub below_append : (passes : ℕ) (xs ys : List Entry) → HaveSeatsBelow passes xs → HaveSeatsBelow passes ys → HaveSeatsBelow passes (xs ++ ys)
+below_append passes [] ys a b = b
+below_append passes (x ∷ xs) ys a b = (a.0, below_append passes xs ys a.1 b)
+
+pub below_made : (passes seat : ℕ) (t : Option ℕ) (reading : ℕ) (call : Call) (answer : Result Answered Refusal) → seat < passes → HaveSeatsBelow passes (made_by seat t reading call answer)
+below_made passes seat (Some t) reading call answer lt = (lt, (lt, tt))
+below_made passes seat None reading call answer lt = (lt, tt)

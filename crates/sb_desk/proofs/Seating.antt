@@ -12,7 +12,7 @@ use Rattle.sb_desk.specs.declared.view.View.{View}
 use Rattle.sb_desk.specs.declared.view.Claim.{Claim}
 use Rattle.sb_desk.specs.declared.view.Stage.{Stage}
 use Rattle.sb_desk.specs.declared.view.Stage.TheVariants.{Note, Idle, Waits, Turn, Out, Spent}
-use Rattle.sb_desk.specs.Lists.{IsFront, GoesOn, total, Each}
+use Rattle.sb_desk.specs.Lists.{IsFront, GoesOn, total, Each, HaveSeatsBelow}
 use Rattle.sb_desk.specs.Rule.{parts, ticketed, tickets, out_at, outs, IsClaim, IsUnused, Sits, IsPlaced, Began, Fits, Kept, opening_view}
 use Rattle.sb_desk.specs.Steps.{compared, note_of, less_one, one_more, spent_view, told, gathered}
 use Rattle.sb_desk.proofs.Sums.{total_set, total_snoc, total_le}
@@ -91,6 +91,7 @@ module _ {X : Type 0} (stands : X → model.State → List Entry → Type 0) (or
       let n = note_of v in let f = r.each me v at in let vs = set s.views me v in
       let h : Sits r.log r.seats me v = placed_at s r me v Idle at idle in let b = began_at s r me v Idle at idle in record {
         log = r.log;
+        numbered = r.numbered;
         drawn = r.drawn;
         served = r.served;
         owner = r.owner;
@@ -101,7 +102,7 @@ module _ {X : Type 0} (stands : X → model.State → List Entry → Type 0) (or
         busy = omega (arith, total_snoc tickets vs n, total_set tickets s.views me v v at, r.busy);
         each = λ j u e. ⊎_elim
             (λ old. views_stay (Fit r.log r.drawn r.served r.owner r.seats) s.views me v f (λ i x _ d. r.each i x d) j u old)
-            (λ (t : (j ≡ length vs) × (n ≡ u)). subst (Fit r.log r.drawn r.served r.owner r.seats j) t.1 record { part = omega arith; began = b; placed = (h.front.0, h.front.1) })
+            (λ (t : (j ≡ length vs) × (n ≡ u)). subst (Fit r.log r.drawn r.served r.owner r.seats j) t.1 record { part = omega arith; began = (b.0, b.1, b.2, omega (arith, b.3)); placed = (h.front.0, h.front.1) })
             (at_end vs n u j e);
         home = λ z. r.home (same_outs s r me v v at refl (omega (arith, total_snoc outs vs n, z)));
       }
@@ -116,6 +117,7 @@ module _ {X : Type 0} (stands : X → model.State → List Entry → Type 0) (or
       let stay : (l : ℕ) → r.seats l ≡ None → seats' l ≡ None = λ l e. put_else r.seats k (Some (length vs)) l (apart_gone r.seats me k l last.0 e) ∙ e in
       let none : tickets v ≡ 0 = ap ticketed idle in record {
         log = r.log;
+        numbered = r.numbered;
         drawn = r.drawn;
         served = r.served;
         owner = r.owner;
@@ -128,7 +130,7 @@ module _ {X : Type 0} (stands : X → model.State → List Entry → Type 0) (or
             (λ old. views_stay (Fit r.log r.drawn r.served r.owner seats') s.views me w
             record {
               part = omega (arith, none);
-              began = subst (λ z. Began start origin z w) (sym idle) b;
+              began = subst (λ z. Began start origin passes z w) (sym idle) (b.0, b.1, b.2, omega (arith, b.3));
               placed = subst (λ z. IsPlaced r.log r.drawn r.served r.owner seats' z me w) (sym idle)
                   record {
                     here = put_else r.seats k (Some (length vs)) v.seat (λ e. omega (arith, e, some_spare)) ∙ h.here;
@@ -143,7 +145,7 @@ module _ {X : Type 0} (stands : X → model.State → List Entry → Type 0) (or
             (λ (t : (j ≡ length vs) × (n ≡ u)). subst (λ (z : ℕ × View). Fit r.log r.drawn r.served r.owner seats' z.0 z.1) (λ i. (sym t.0 i, t.1 i))
             record {
               part = omega arith;
-              began = b;
+              began = (b.0, b.1, b.2, omega (arith, b.3));
               placed = record {
                 here = put_here r.seats k (Some (length vs));
                 front = goes_on_fresh r.log k v.seen (h.front.0, h.front.1) last.1;
@@ -166,6 +168,7 @@ module _ {X : Type 0} (stands : X → model.State → List Entry → Type 0) (or
   merges s r me other v w both seats at apart there as_parts tv tw tb ov ow ob mine others =
       let vs = set s.views me both in record {
         log = r.log;
+        numbered = r.numbered;
         drawn = r.drawn;
         served = r.served;
         owner = r.owner;
@@ -187,7 +190,7 @@ module _ {X : Type 0} (stands : X → model.State → List Entry → Type 0) (or
       merges s r me other v w both r.seats at apart there (omega (arith, bare)) (ap ticketed idle) (ap ticketed note) (ap ticketed idle) (ap out_at idle) (ap out_at note) (ap out_at idle)
       record {
         part = f.part;
-        began = subst (λ z. Began start origin z both) (sym idle) (began_at s r me v Idle at idle);
+        began = subst (λ z. Began start origin passes z both) (sym idle) (began_at s r me v Idle at idle);
         placed = subst (λ z. IsPlaced r.log r.drawn r.served r.owner r.seats z me both) (sym idle)
             record { here = h.here; front = longer_front r.log v.seen w.seen v.seat h.front n (nat_lt (length v.seen) (length w.seen)) refl; one = (h.front.0, h.front.1); other = n; claims = h.claims; unused = h.unused };
       }
@@ -202,7 +205,7 @@ module _ {X : Type 0} (stands : X → model.State → List Entry → Type 0) (or
       merges s r me other v w both (put r.seats w.seat None) at apart there refl (ap ticketed idle) (ap ticketed idle') (ap ticketed idle) (ap out_at idle) (ap out_at idle') (ap out_at idle)
       record {
         part = omega (arith, f.part);
-        began = subst (λ z. Began start origin z both) (sym idle) (began_at s r me v Idle at idle);
+        began = subst (λ z. Began start origin passes z both) (sym idle) (began_at s r me v Idle at idle);
         placed = subst (λ z. IsPlaced r.log r.drawn r.served r.owner (put r.seats w.seat None) z me both) (sym idle)
             record { here = m.here; front = m.front; one = m.one; other = m.other; claims = ((put_here r.seats w.seat None, n.front), m.claims); unused = m.unused };
       }
@@ -210,7 +213,7 @@ module _ {X : Type 0} (stands : X → model.State → List Entry → Type 0) (or
 
   -- a seat that stands for all passes: no other one has a ticket, so the value is at home
   pub closes : (s : St) (r : Rule s) (me : ℕ) (v : View) → get_elem? s.views me ≡ some v → v.stage ≡ Idle → v.parts ≡ passes
-      → (x : X) × (s.homes ≡ some (Some x) ∷ []) × stands x start r.log × (origin_of x ≡ origin) × GoesOn r.log v.seat v.seen × Each (λ c. GoesOn r.log c.seat c.seen) v.claims
+      → (x : X) × (s.homes ≡ some (Some x) ∷ []) × stands x start r.log × (origin_of x ≡ origin) × GoesOn r.log v.seat v.seen × Each (λ c. GoesOn r.log c.seat c.seen) v.claims × HaveSeatsBelow passes r.log
   closes s r me v at idle all =
       let h : Sits r.log r.seats me v = placed_at s r me v Idle at idle in
       let vs = set s.views me spent_view in
@@ -218,7 +221,7 @@ module _ {X : Type 0} (stands : X → model.State → List Entry → Type 0) (or
       let low : total outs vs ≤ total parts vs = total_le outs parts vs (views_stay (λ i u. outs u ≤ parts u) s.views me spent_view (omega arith) (λ i u _ e. out_below u (r.each i u e).part)) in
       let o : outs v ≡ 0 = ap out_at idle in
       let home = r.home (omega (arith, total_set outs s.views me v spent_view at, none, low, o)) in
-      (home.0, home.1, home.2, home.3, h.front, claims_so r.log r.seats v.claims h.claims)
+      (home.0, home.1, home.2, home.3, h.front, claims_so r.log r.seats v.claims h.claims, r.numbered)
     where
       out_le : (stage : Stage) → out_at stage ≤ ticketed stage
       out_le Note = omega arith
@@ -235,9 +238,10 @@ module _ {X : Type 0} (stands : X → model.State → List Entry → Type 0) (or
       claims_so log seats [] h = tt
       claims_so log seats (c ∷ cs) h = (h.0.1, claims_so log seats cs h.1)
 
-  pub opens : (x : X) → passes ≤ 2 ^ 63 → stands x start [] → origin_of x ≡ origin → Rule (opening (0 ∷ 0 ∷ 0 ∷ []) (Some x ∷ []) (opening_view start origin passes))
-  opens x few stood from = record {
+  pub opens : (x : X) → 0 < passes → passes ≤ 2 ^ 63 → stands x start [] → origin_of x ≡ origin → Rule (opening (0 ∷ 0 ∷ 0 ∷ []) (Some x ∷ []) (opening_view start origin passes))
+  opens x some_pass few stood from = record {
     log = [];
+    numbered = tt;
     drawn = 0;
     served = 0;
     owner = λ _. 0;
@@ -252,13 +256,13 @@ module _ {X : Type 0} (stands : X → model.State → List Entry → Type 0) (or
     where
       first_one : (j : ℕ) (u : View) → get_elem? (opening_view start origin passes ∷ []) j ≡ some u → Fit [] 0 0 (λ _. 0) (λ _. Some 0) j u
       first_one zero u e = subst (Fit [] 0 0 (λ _. 0) (λ _. Some 0) 0) (some-injective _ _ e)
-          record { part = omega arith; began = (refl, refl); placed = record { here = refl; front = ([], refl, refl); one = ([], refl); other = ([], refl); claims = tt; unused = λ l lt le. (refl, refl) } }
+          record { part = omega arith; began = (refl, refl, refl, omega (arith, some_pass)); placed = record { here = refl; front = ([], refl, refl); one = ([], refl); other = ([], refl); claims = tt; unused = λ l lt le. (refl, refl) } }
       first_one (suc j) u e = absurd (some-ne-none u (sym e))
 
   -- what is left of the table once a seat stands for all passes
   pub closed : (ws : List ℕ) (xs : List (Option X)) (me : ℕ) (v : View) → Final (Seen Rule me v) ws xs → v.stage ≡ Idle → v.parts ≡ passes
-      → (x : X) × (get_elem? xs 0 ≡ some (Some x)) × ((log : List Entry) × stands x start log × (origin_of x ≡ origin) × GoesOn log v.seat v.seen × Each (λ c. GoesOn log c.seat c.seen) v.claims)
+      → (x : X) × (get_elem? xs 0 ≡ some (Some x)) × ((log : List Entry) × stands x start log × (origin_of x ≡ origin) × GoesOn log v.seat v.seen × Each (λ c. GoesOn log c.seat c.seen) v.claims × HaveSeatsBelow passes log)
   closed ws xs me v f idle all =
       let r : Rule f.0 = f.1.0 in
       let k = closes f.0 r me v f.1.1 idle all in
-      (k.0, f.4 0 (Some k.0) (ap (λ hs. get_elem? hs 0) k.1), (r.log, k.2, k.3, k.4, k.5))
+      (k.0, f.4 0 (Some k.0) (ap (λ hs. get_elem? hs 0) k.1), (r.log, k.2, k.3, k.4, k.5, k.6))

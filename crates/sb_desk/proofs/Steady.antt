@@ -14,7 +14,7 @@ use Rattle.sb_desk.specs.declared.report.Origin.{Origin}
 use Rattle.sb_desk.specs.declared.view.View.{View}
 use Rattle.sb_desk.specs.declared.view.Stage.{Stage}
 use Rattle.sb_desk.specs.declared.view.Stage.TheVariants.{Note, Idle, Waits, Turn, Out, Spent}
-use Rattle.sb_desk.specs.Lists.{total}
+use Rattle.sb_desk.specs.Lists.{total, HaveSeatsBelow}
 use Rattle.sb_desk.specs.Rule.{word, parts, ticket_of, log_of, tickets, out_at, outs, Sits, IsPlaced, Began, IsHome, Fits, Kept}
 use Rattle.sb_desk.specs.Steps.{placed}
 use Rattle.sb_desk.proofs.Sums.{total_set, total_none, total_le}
@@ -68,6 +68,7 @@ module _ {X : Type 0} {stands : X → model.State → List Entry → Type 0} {or
   -- a step of the seat me, which goes from v to w
   pub changes : (s : State (Option X) View) (r : Kept stands origin_of start origin passes s) (me : ℕ) (v w : View) → get_elem? s.views me ≡ some v
       → (words : List ℕ) (homes : List (maybe.Option (Option X))) (log : List Entry) (drawn served : ℕ) (owner : ℕ → ℕ)
+      → HaveSeatsBelow passes log
       → words ≡ word (length log) ∷ word drawn ∷ word served ∷ []
       → w.parts ≡ v.parts
       → drawn + r.served + tickets v ≡ r.drawn + served + tickets w
@@ -75,8 +76,9 @@ module _ {X : Type 0} {stands : X → model.State → List Entry → Type 0} {or
       → ((j : ℕ) (u : View) → j ≢ me → get_elem? s.views j ≡ some u → Fits stands origin_of start origin passes log drawn served owner r.seats j u)
       → (total outs (set s.views me w) ≡ 0 → IsHome stands origin_of start origin passes log homes)
       → Kept stands origin_of start origin passes record { words = words; homes = homes; views = set s.views me w }
-  changes s r me v w at words homes log drawn served owner as_words as_parts as_busy mine others home = record {
+  changes s r me v w at words homes log drawn served owner numbered as_words as_parts as_busy mine others home = record {
     log = log;
+    numbered = numbered;
     drawn = drawn;
     served = served;
     owner = owner;
@@ -94,15 +96,15 @@ module _ {X : Type 0} {stands : X → model.State → List Entry → Type 0} {or
       → Fits stands origin_of start origin passes r.log r.drawn r.served r.owner r.seats me w → (total outs (set s.views me w) ≡ 0 → IsHome stands origin_of start origin passes r.log homes)
       → Kept stands origin_of start origin passes record { words = set s.words i (get_or s.words i 0); homes = homes; views = set s.views me w }
   loads s r i me v w homes at as_parts as_tickets mine home =
-      changes s r me v w at (set s.words i (get_or s.words i 0)) homes r.log r.drawn r.served r.owner (set-get_or s.words i 0 ∙ r.words) as_parts (omega (arith, as_tickets)) mine
+      changes s r me v w at (set s.words i (get_or s.words i 0)) homes r.log r.drawn r.served r.owner r.numbered (set-get_or s.words i 0 ∙ r.words) as_parts (omega (arith, as_tickets)) mine
       (λ j u apart e. r.each j u e) home
 
   -- the facts of a view at a stage that is known
   pub placed_at : (s : State (Option X) View) (r : Kept stands origin_of start origin passes s) (me : ℕ) (v : View) (stage : Stage) → get_elem? s.views me ≡ some v → v.stage ≡ stage → IsPlaced r.log r.drawn r.served r.owner r.seats stage me v
   placed_at s r me v stage at is = subst (λ z. IsPlaced r.log r.drawn r.served r.owner r.seats z me v) is (r.each me v at).placed
 
-  pub began_at : (s : State (Option X) View) (r : Kept stands origin_of start origin passes s) (me : ℕ) (v : View) (stage : Stage) → get_elem? s.views me ≡ some v → v.stage ≡ stage → Began start origin stage v
-  began_at s r me v stage at is = subst (λ z. Began start origin z v) is (r.each me v at).began
+  pub began_at : (s : State (Option X) View) (r : Kept stands origin_of start origin passes s) (me : ℕ) (v : View) (stage : Stage) → get_elem? s.views me ≡ some v → v.stage ≡ stage → Began start origin passes stage v
+  began_at s r me v stage at is = subst (λ z. Began start origin passes z v) is (r.each me v at).began
 
   -- fewer seats wait than there are passes
   pub few_wait : (s : State (Option X) View) (r : Kept stands origin_of start origin passes s) → r.drawn ≤ r.served + 2 ^ 63

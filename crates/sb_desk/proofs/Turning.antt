@@ -15,11 +15,11 @@ use Rattle.sb_desk.specs.declared.view.Claim.{Claim}
 use Rattle.sb_desk.specs.declared.view.Stage.{Stage}
 use Rattle.sb_desk.specs.declared.view.Stage.TheVariants.{Note, Idle, Waits, Turn, Out, Spent}
 use Rattle.sb_desk.specs.Entries.{entries_by}
-use Rattle.sb_desk.specs.Lists.{total, Each}
+use Rattle.sb_desk.specs.Lists.{total, Each, HaveSeatsBelow}
 use Rattle.sb_desk.specs.Rule.{word, ticket_of, log_of, ticketed, tickets, out_at, outs, IsClaim, IsUnused, Sits, IsPlaced, Kept}
 use Rattle.sb_desk.specs.Steps.{placed, with_made, drew, looked, took, carried_made, recorded, gave, passed}
 use Rattle.sb_desk.proofs.Sums.{total_set, total_at}
-use Rattle.sb_desk.proofs.Logs.{by_append, front_later, goes_on_later}
+use Rattle.sb_desk.proofs.Logs.{by_append, below_append, front_later, goes_on_later}
 use Rattle.sb_desk.proofs.Steady.{inside, put, put_here, put_else, apart_by, apart_gone, sits_so, changes, loads, placed_at, began_at, few_wait, same_outs, alone, none_out}
 
 -- ---- a longer history, of which other seats than that of the number `mine` have nothing new
@@ -68,7 +68,7 @@ module _ {X : Type 0} (stands : X → model.State → List Entry → Type 0) (or
         w,
         keeps,
         tt,
-        changes s r me v w at (set s.words 1 ((get_or s.words 1 0 + 1) % 2 ^ 64)) s.homes r.log (r.drawn + 1) r.served (put r.owner r.drawn me)
+        changes s r me v w at (set s.words 1 ((get_or s.words 1 0 + 1) % 2 ^ 64)) s.homes r.log (r.drawn + 1) r.served (put r.owner r.drawn me) r.numbered
             (ap (λ ws. set ws 1 ((get_or ws 1 0 + 1) % 2 ^ 64)) r.words ∙ ap (λ n. word (length r.log) ∷ n ∷ word r.served ∷ []) (mod-add-mod r.drawn (2 ^ 64) 1))
             refl
             (omega (arith, old))
@@ -127,9 +127,9 @@ module _ {X : Type 0} (stands : X → model.State → List Entry → Type 0) (or
 
   -- the entries that the value in the seat's hand has made, all of this seat
   pub records : (slots me n : ℕ) (m : Me (Option X) View) (made_in : ℕ → X → List Entry) (made : List Entry) → m.0.stage ≡ Out (ticket_of m.0.stage) (log_of m.0.stage) → carried_made made_in m.0.seat m.1 ≡ made
-      → n ≡ length made → ((l : ℕ) → l ≢ m.0.seat → entries_by l made ≡ [])
+      → n ≡ length made → ((l : ℕ) → l ≢ m.0.seat → entries_by l made ≡ []) → ((l : ℕ) → m.0.seat < l → HaveSeatsBelow l made)
       → Allows Rule slots me m 0 (λ x. (x + n) % 2 ^ 64) (recorded made_in (step slots 0 n 0 none) m)
-  records slots me n m made_in made' out carried count' silent' s r len at fits =
+  records slots me n m made_in made' out carried count' silent' below' s r len at fits =
       let v = m.0 in let k = ticket_of v.stage in let l = log_of v.stage in let f = r.each me v at in
       let p = placed_at s r me v (Out k l) at out in let b = began_at s r me v (Out k l) at out in
       let sits : Sits r.log r.seats me v = p.0 in
@@ -139,11 +139,13 @@ module _ {X : Type 0} (stands : X → model.State → List Entry → Type 0) (or
       let next : List Entry = r.log ++ made in
       let as_next : l ++ made ≡ next = ap (λ z. z ++ made) whole in
       let count : n ≡ length made = count' ∙ ap length (sym carried) in
+      let low : v.seat < passes = omega (arith, b.3) in
+      let numbered : HaveSeatsBelow passes next = below_append passes r.log made r.numbered (subst (HaveSeatsBelow passes) (sym carried) (below' passes low)) in
       let many : length next ≡ length r.log + n = length-append r.log made ∙ ap (λ z. length r.log + z) (sym count) in (
         w,
         keeps,
         tt,
-        changes s r me v w at (set s.words 0 ((get_or s.words 0 0 + n) % 2 ^ 64)) s.homes next r.drawn r.served r.owner
+        changes s r me v w at (set s.words 0 ((get_or s.words 0 0 + n) % 2 ^ 64)) s.homes next r.drawn r.served r.owner numbered
             (ap (λ ws. set ws 0 ((get_or ws 0 0 + n) % 2 ^ 64)) r.words ∙ ap (λ z. z ∷ word r.drawn ∷ word r.served ∷ []) (mod-add-mod (length r.log) (2 ^ 64) n ∙ ap word (sym many)))
             refl
             (omega (arith, one))
@@ -167,7 +169,7 @@ module _ {X : Type 0} (stands : X → model.State → List Entry → Type 0) (or
             }
             (λ j u apart e. let g = r.each j u e in record { part = g.part; began = g.began; placed = others_record j u apart e u.stage refl g.placed })
             (λ z. absurd (let t : outs w ≤ total outs (set s.views me w) = total_at outs (set s.views me w) me w (set_here s.views me w (inside s.views me v at)) in omega (arith, t, z))),
-        (refl, sits.front.0, whole ∙ sits.front.1, sits.front.2),
+        (refl, sits.front.0, whole ∙ sits.front.1, sits.front.2, subst (λ (z : ℕ × List Entry). HaveSeatsBelow z.0 z.1) (λ i. (sym b.2 i, sym as_next i)) numbered),
       )
     where
       made : List Entry
@@ -214,7 +216,7 @@ module _ {X : Type 0} (stands : X → model.State → List Entry → Type 0) (or
         w,
         keeps,
         tt,
-        changes s r me v w at (set s.words 2 ((get_or s.words 2 0 + 1) % 2 ^ 64)) s.homes r.log r.drawn (r.served + 1) r.owner
+        changes s r me v w at (set s.words 2 ((get_or s.words 2 0 + 1) % 2 ^ 64)) s.homes r.log r.drawn (r.served + 1) r.owner r.numbered
             (ap (λ ws. set ws 2 ((get_or ws 2 0 + 1) % 2 ^ 64)) r.words ∙ ap (λ n. word (length r.log) ∷ word r.drawn ∷ n ∷ []) (mod-add-mod r.served (2 ^ 64) 1))
             refl
             (omega (arith, one))

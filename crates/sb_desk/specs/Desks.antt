@@ -15,13 +15,14 @@ use Rattle.sb_desk.specs.declared.view.Claim.{Claim}
 use Rattle.sb_desk.specs.declared.view.Stage.TheVariants.{Idle}
 use Rattle.sb_desk.specs.declared.view.View.{View}
 use Rattle.sb_desk.specs.Entries.{entries_by, made_by}
-use Rattle.sb_desk.specs.Lists.{IsFront, IsEnd}
+use Rattle.sb_desk.specs.Lists.{IsFront, IsEnd, HaveSeatsBelow}
 use Rattle.sb_desk.specs.Steps.{spent_view}
 
--- A pass: its desk, its number, how the desk began, and the entries from the desk's first on that it has seen.
+-- A pass: its desk, its number, how many passes the desk has and how it began, and the entries from the desk's first on that it has seen.
 pub record Sitting : Type 0 where
   pub desk : TableId
   pub seat : ℕ
+  pub passes : ℕ
   pub start : State
   pub origin : Origin
   pub seen : List Entry
@@ -41,7 +42,7 @@ mine p = entries_by p.seat p.seen
 
 -- the pass is one of the desk's
 abbrev pub IsOf : Open → Sitting → Type 0
-IsOf d p = (p.desk ≡ d.desk) × (p.start ≡ d.start) × (p.origin ≡ d.origin)
+IsOf d p = (p.desk ≡ d.desk) × (p.start ≡ d.start) × (p.origin ≡ d.origin) × (p.passes ≡ d.passes)
 
 abbrev pub IsNew : Open → Sitting → Type 0
 IsNew d p = IsOf d p × (p.seen ≡ [])
@@ -74,7 +75,7 @@ view_of [] = spent_view
 view_of (v ∷ vs) = v
 
 abbrev pub sitting : TableId → View → Sitting
-sitting desk v = record { desk = desk; seat = v.seat; start = v.start; origin = v.origin; seen = v.seen }
+sitting desk v = record { desk = desk; seat = v.seat; passes = v.passes; start = v.start; origin = v.origin; seen = v.seen }
 
 -- a view between two calls
 pub record IsResting (v : View) : Type 0 where
@@ -83,6 +84,7 @@ pub record IsResting (v : View) : Type 0 where
   pub claims : v.claims ≡ []
   pub consistent : IsConsistent v.start
   pub legal : IsLegal v.start v.seen
+  pub seats : HaveSeatsBelow v.passes v.seen
 
 abbrev pub claim_of : Sitting → Claim
 claim_of p = record { seat = p.seat; seen = p.seen }

@@ -1,7 +1,7 @@
 -- Fronts of a history, and sums and facts over a list.
-use Rattle.std.specs.Prelude.{◌≡◌, ◌⊎◌, ℕ, ◌+◌, List, [], ◌∷◌, ◌++◌, if◌then◌else◌, nat_lt, length}
+use Rattle.std.specs.Prelude.{◌≡◌, ◌⊎◌, ℕ, ◌+◌, List, [], ◌∷◌, ◌++◌, ◌<◌, if◌then◌else◌, nat_lt, length}
 use Rattle.sb_machine.specs.declared.history.Entry.{Entry}
-use Rattle.sb_desk.specs.Entries.{entries_by}
+use Rattle.sb_desk.specs.Entries.{entries_by, seat_of}
 
 -- a list begins another
 abbrev pub IsFront : List Entry → List Entry → Type 0
@@ -29,3 +29,7 @@ total f (x ∷ xs) = f x + total f xs
 abbrev pub Each : {A : Type 0} → (A → Type 0) → List A → Type 0
 Each P [] = Unit {0}
 Each P (x ∷ xs) = P x × Each P xs
+
+-- entries of seats below this number, and of no other
+abbrev pub HaveSeatsBelow : ℕ → List Entry → Type 0
+HaveSeatsBelow passes entries = Each (λ e. seat_of e < passes) entries

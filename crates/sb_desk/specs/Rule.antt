@@ -12,7 +12,7 @@ use Rattle.sb_desk.specs.declared.view.Claim.{Claim}
 use Rattle.sb_desk.specs.declared.view.Stage.{Stage}
 use Rattle.sb_desk.specs.declared.view.Stage.TheVariants.{Note, Idle, Waits, Turn, Out, Spent}
 use Rattle.sb_desk.specs.Entries.{entries_by}
-use Rattle.sb_desk.specs.Lists.{IsFront, GoesOn, total, Each}
+use Rattle.sb_desk.specs.Lists.{IsFront, GoesOn, total, Each, HaveSeatsBelow}
 
 -- ---- what a view counts for
 
@@ -82,10 +82,10 @@ module _ (log : List Entry) (drawn served : ℕ) (owner : ℕ → ℕ) (seats : 
   IsPlaced (Out k l) i v = Sits log seats i v × (k ≡ served) × (k < drawn) × (owner k ≡ i) × (l ≡ log)
   IsPlaced Spent i v = Unit {0}
 
--- a seat that was not joined into another knows how the desk began
-abbrev pub Began : State → Origin → Stage → View → Type 0
-Began start origin Spent v = Unit {0}
-Began start origin _ v = (v.start ≡ start) × (v.origin ≡ origin)
+-- a seat that was not joined into another knows how the desk began, and has none but a pass's numbers
+abbrev pub Began : State → Origin → ℕ → Stage → View → Type 0
+Began start origin passes Spent v = Unit {0}
+Began start origin passes _ v = (v.start ≡ start) × (v.origin ≡ origin) × (v.passes ≡ passes) × (v.seat + v.spare < passes)
 
 -- ---- the rule
 
@@ -97,12 +97,13 @@ module _ {X : Type 0} (stands : X → State → List Entry → Type 0) (origin_o
   pub record Fits (log : List Entry) (drawn served : ℕ) (owner : ℕ → ℕ) (seats : ℕ → Option ℕ) (i : ℕ) (v : View) : Type 0 where
     -- who has a ticket stands for a pass
     pub part : tickets v ≤ v.parts
-    pub began : Began start origin v.stage v
+    pub began : Began start origin passes v.stage v
     pub placed : IsPlaced log drawn served owner seats v.stage i v
 
   pub record Kept (s : table.State (Option X) View) : Type 0 where
-    -- the history
+    -- the history, in which passes alone have entries
     pub log : List Entry
+    pub numbered : HaveSeatsBelow passes log
     -- how many tickets were drawn, and how many had their turn
     pub drawn : ℕ
     pub served : ℕ
@@ -118,4 +119,4 @@ module _ {X : Type 0} (stands : X → State → List Entry → Type 0) (origin_o
 
 -- the first seat stands for all passes, and may give all other numbers
 abbrev pub opening_view : State → Origin → ℕ → View
-opening_view start origin passes = record { seat = 0; spare = passes - 1; start = start; origin = origin; seen = []; parts = passes; stage = Idle; one = []; other = []; claims = [] }
+opening_view start origin passes = record { seat = 0; spare = passes - 1; passes = passes; start = start; origin = origin; seen = []; parts = passes; stage = Idle; one = []; other = []; claims = [] }

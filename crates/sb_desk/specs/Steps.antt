@@ -11,7 +11,7 @@ use Rattle.sb_desk.specs.declared.view.View.{View}
 use Rattle.sb_desk.specs.declared.view.Stage.{Stage}
 use Rattle.sb_desk.specs.declared.view.Stage.TheVariants.{Note, Idle, Waits, Turn, Out, Spent}
 use Rattle.sb_desk.specs.Entries.{entries_by, made_by}
-use Rattle.sb_desk.specs.Lists.{AreComparable, longer}
+use Rattle.sb_desk.specs.Lists.{AreComparable, HaveSeatsBelow, longer}
 use Rattle.sb_desk.specs.Rule.{word, ticket_of, log_of}
 
 -- ---- steps on a word
@@ -47,10 +47,11 @@ module _ {X : Type 0} where
   carried_made made_in seat ((k, Some x) ∷ c) = made_in seat x
   carried_made made_in seat _ = []
 
-  -- between what it had seen and its own entries stand those of others
+  -- between what it had seen and its own entries stand those of others, and all are of the desk's seats
   abbrev pub recorded : (ℕ → X → List Entry) → Step (Option X) → Sat X → ℕ → Sat X → Type 0
   recorded made_in st m r m' =
       (m' ≡ (with_made (carried_made made_in m.0.seat m.1) m.0, m.1)) × (between : List Entry) × (log_of m.0.stage ≡ m.0.seen ++ between) × (entries_by m.0.seat between ≡ [])
+      × HaveSeatsBelow m'.0.passes m'.0.seen
 
   abbrev pub gave : Step (Option X) → Sat X → ℕ → Sat X → Type 0
   gave st m r m' = m' ≡ (placed (Turn (ticket_of m.0.stage)) m.0, rest m.1)
@@ -65,7 +66,7 @@ module _ {X : Type 0} where
 
 -- a seat that has seen as much, and has no number
 abbrev pub note_of : View → View
-note_of v = record { seat = 0; spare = 0; start = v.start; origin = v.origin; seen = v.seen; parts = 0; stage = Note; one = []; other = []; claims = [] }
+note_of v = record { seat = 0; spare = 0; passes = v.passes; start = v.start; origin = v.origin; seen = v.seen; parts = 0; stage = Note; one = []; other = []; claims = [] }
 
 -- one pass less, and without the last of the numbers
 abbrev pub less_one : View → View
@@ -73,10 +74,10 @@ less_one v = record v { parts = v.parts - 1; spare = v.spare - 1 }
 
 -- one more pass, with the last of the numbers
 abbrev pub one_more : View → View
-one_more v = record { seat = v.seat + v.spare; spare = 0; start = v.start; origin = v.origin; seen = v.seen; parts = 1; stage = Idle; one = []; other = []; claims = [] }
+one_more v = record { seat = v.seat + v.spare; spare = 0; passes = v.passes; start = v.start; origin = v.origin; seen = v.seen; parts = 1; stage = Idle; one = []; other = []; claims = [] }
 
 abbrev pub spent_view : View
-spent_view = record { seat = 0; spare = 0; start = empty_state 0; origin = record { disk_a = record { faults = 0; honest = false }; disk_b = record { faults = 0; honest = false } }; seen = []; parts = 0; stage = Spent; one = []; other = []; claims = [] }
+spent_view = record { seat = 0; spare = 0; passes = 0; start = empty_state 0; origin = record { disk_a = record { faults = 0; honest = false }; disk_b = record { faults = 0; honest = false } }; seen = []; parts = 0; stage = Spent; one = []; other = []; claims = [] }
 
 -- the seat has the longer one of two lists
 abbrev pub told : View → View → View

@@ -3,7 +3,7 @@ ghost use Rattle.std.specs.Prelude.{◌≡◌, ◌+◌, List, [], ◌++◌, leng
 ghost use Rattle.sb_machine.specs.declared.history.Entry.{Entry};
 ghost use Rattle.sb_desk.specs.declared.view.Stage.TheVariants.{Idle};
 ghost use Rattle.sb_desk.specs.Desks.{claim_of};
-ghost use Rattle.sb_desk.specs.Lists.{GoesOn, Each};
+ghost use Rattle.sb_desk.specs.Lists.{GoesOn, Each, HaveSeatsBelow};
 ghost use Rattle.sb_desk.specs.Steps.{IsSized, gathered};
 
 use crate::plays::Gather;
@@ -41,7 +41,7 @@ pub(crate) fn finish<V: Served>(table: Whole<V>, place: Place<V>) -> V
     requires table { (place.table_id ≡ table.shared.table_id) × IsSized table.shared.table_id }
     requires whole { (place.me.0.stage ≡ Idle) × (place.me.0.parts ≡ table.shared.key.passes) }
     ensures { (log : List Entry) × V.stands result (V.state table.shared.key.value.value) log × (V.origin result ≡ V.origin table.shared.key.value.value)
-        × GoesOn log place.me.0.seat place.me.0.seen × Each (λ c. GoesOn log c.seat c.seen) place.me.0.claims }
+        × GoesOn log place.me.0.seat place.me.0.seen × Each (λ c. GoesOn log c.seat c.seen) place.me.0.claims × HaveSeatsBelow table.shared.key.passes log }
 {
     let mut closed = table.close_with(place);
     let slot = closed.take(0);

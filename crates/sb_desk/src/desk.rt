@@ -3,7 +3,7 @@ ghost use Rattle.sb_machine.specs.Ordered.{IsActInOrder};
 ghost use Rattle.sb_machine.specs.declared.history.Entry.{Entry};
 ghost use Rattle.sb_desk.specs.Desks.{Open, IsOf, IsNew, Calls, HasLegal, IsKeptIn, below, value_of};
 ghost use Rattle.sb_desk.specs.Entries.{IsReport};
-ghost use Rattle.sb_desk.specs.Lists.{IsFront, Each, longer};
+ghost use Rattle.sb_desk.specs.Lists.{IsFront, Each, HaveSeatsBelow, longer};
 ghost use Rattle.sb_desk.specs.Steps.{IsSized};
 
 use crate::closing::{finish, gather_all};
@@ -79,6 +79,7 @@ impl<V: Served> Desk<V> {
         requires order { IsActInOrder call.now.act }
         ensures call { Calls pass reading call.now result.0 result.1 }
         ensures legal { HasLegal result.0 }
+        ensures seats { HaveSeatsBelow self.now.passes result.0.seen }
     {
         let Pass { badge } = pass;
         let mut place: Place<V> = badge.into_seat();
@@ -98,6 +99,7 @@ impl<V: Served> Desk<V> {
         ensures other { result.1 ≡ record other { seen = longer one.seen other.seen } }
         ensures longer { IsFront one.seen (longer one.seen other.seen) × IsFront other.seen (longer one.seen other.seen) }
         ensures legal { HasLegal result.0 × HasLegal result.1 }
+        ensures seats { HaveSeatsBelow self.now.passes (longer one.seen other.seen) }
     {
         let Pass { badge: one } = one;
         let Pass { badge: other } = other;
@@ -118,11 +120,11 @@ impl<V: Served> Desk<V> {
         )
     }
 
-    /// The value with the numbers of its history, once all passes are given back. It takes no
-    /// memory, and never fails.
+    /// The value with the numbers of its history, once all passes are given back: their entries,
+    /// and no other. It takes no memory, and never fails.
     pub fn close(self, passes: Vec<Pass>) -> Result<(V, Report), CloseFault<V>>
         requires all { (length passes.items ≡ self.passes) × Each (IsOf self) passes.items }
-        ensures ok { IfOk result (λ r. (h : List Entry) × V.stands r.0 self.start h × (V.origin r.0 ≡ self.origin) × IsReport self.start h r.1 × Each (IsKeptIn h) passes.items) }
+        ensures ok { IfOk result (λ r. (h : List Entry) × V.stands r.0 self.start h × (V.origin r.0 ≡ self.origin) × IsReport self.start h r.1 × Each (IsKeptIn h) passes.items × HaveSeatsBelow self.passes h) }
         ensures err { IfErr result (λ _. ⊥) }
     {
         let mut passes = passes;

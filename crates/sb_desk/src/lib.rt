@@ -5,10 +5,11 @@
 //! Contracts see a pass as the entries that it has seen. Each call gives a longer list, which begins
 //! with the old one, is a legal history of the state in which the desk began, and ends with this
 //! call and the answer that was handed out (`Calls` in `specs/Desks`). `close` gives the value back
-//! with one history that all these lists begin. It stands on the machine, whose `specs/History`
-//! says which histories are legal, and on the kit's `atomic_table`: one slot for the value, and
-//! three words by which seats take turns, under a rule that each step keeps (`specs/Rule`). Nothing
-//! is said of who comes first, nor that anybody is served.
+//! with one history that all these lists begin and in which nobody else has an entry. It stands on
+//! the machine, whose `specs/History` says which histories are legal, and on the kit's
+//! `atomic_table`: one slot for the value, and three words by which seats take turns, under a rule
+//! that each step keeps (`specs/Rule`). Nothing is said of who comes first, nor that anybody is
+//! served.
 //!
 //! ```text
 //! let (desk, passes) = Desk::new(alloc, namespace, 8)?;

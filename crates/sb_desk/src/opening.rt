@@ -24,7 +24,7 @@ pub(crate) fn open_table<V: Served>(
     value: V,
     passes: usize,
 ) -> Result<(Whole<V>, Place<V>), V>
-    requires few { passes ≤ 2 ^ 63 }
+    requires few { (0 < passes) × (passes ≤ 2 ^ 63) }
     requires stands { V.stands value (V.state value) [] }
     ensures ok { IfOk result (λ r. IsSized r.0.shared.table_id × (r.0.shared.key.passes ≡ passes) × (r.0.shared.key.value.value ≡ value) × (r.1.table_id ≡ r.0.shared.table_id) × (r.1.me ≡ (opening_view (V.state value) (V.origin value) passes, []))) }
     ensures err { IfErr result (λ v. v ≡ value) }
@@ -86,7 +86,7 @@ pub(crate) fn deal_out<V: Served>(
     requires place { (start : State) × (origin : Origin) × (place.me ≡ (opening_view start origin passes, [])) × (passes ≤ 2 ^ 63) × IsConsistent start }
     requires room { (room.items ≡ []) × (passes ≤ vec_capacity room) }
     ensures all { length result.items ≡ passes }
-    ensures each { Each (λ p. (p.desk ≡ top.now.table_id) × (p.start ≡ place.me.0.start) × (p.origin ≡ place.me.0.origin) × (p.seen ≡ [])) result.items }
+    ensures each { Each (λ p. (p.desk ≡ top.now.table_id) × (p.start ≡ place.me.0.start) × (p.origin ≡ place.me.0.origin) × (p.passes ≡ place.me.0.passes) × (p.seen ≡ [])) result.items }
     ensures seats { map (λ p. p.seat) result.items ≡ below passes }
 {
     let mut place = place;

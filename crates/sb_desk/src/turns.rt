@@ -6,6 +6,7 @@ ghost use Rattle.sb_machine.specs.Ordered.{IsActInOrder};
 ghost use Rattle.sb_machine.specs.declared.history.Entry.{Entry};
 ghost use Rattle.sb_desk.specs.declared.view.Stage.TheVariants.{Idle, Waits, Turn, Out};
 ghost use Rattle.sb_desk.specs.Entries.{made_by, entries_by};
+ghost use Rattle.sb_desk.specs.Lists.{HaveSeatsBelow};
 ghost use Rattle.sb_desk.specs.Rule.{word, ticket_of, log_of};
 ghost use Rattle.sb_desk.specs.Steps.{IsSized, placed, with_made};
 
@@ -46,6 +47,7 @@ pub(crate) fn serve_one<V: Served, R: Wait>(
     ensures call { (tick : Option ℕ) × (between : List Entry) × (entries_by place.old.me.0.seat between ≡ [])
         × (place.new.me ≡ (record place.old.me.0 { seen = (place.old.me.0.seen ++ between) ++ made_by place.old.me.0.seat tick reading call.now result; stage = Idle }, [])) }
     ensures legal { IsConsistent place.new.me.0.start × IsLegal place.new.me.0.start place.new.me.0.seen }
+    ensures seats { HaveSeatsBelow place.new.me.0.passes place.new.me.0.seen }
 {
     let ticket = draw(top, place);
     wait(rt, top, place, ticket);
@@ -118,6 +120,7 @@ fn record_step<V: Served>(
     ensures seat { (place.new.table_id ≡ place.old.table_id) × (place.new.id ≡ place.old.id) }
     ensures recorded { (between : List Entry) × (log_of place.old.me.0.stage ≡ place.old.me.0.seen ++ between) × (entries_by place.old.me.0.seat between ≡ [])
         × (place.new.me.0 ≡ with_made (made_by place.old.me.0.seat stepped.now.tick reading call.now stepped.now.answer) place.old.me.0) }
+    ensures seats { HaveSeatsBelow place.new.me.0.passes place.new.me.0.seen }
     ensures held { (made : Option Made) × (place.new.me.1 ≡ (0, Some (record { value = value; made = made })) ∷ []) }
 {
     let made = Made {

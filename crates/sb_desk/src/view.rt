@@ -35,6 +35,8 @@ pub struct View {
     /// Its number, and how many numbers behind it no seat has yet.
     pub seat: u64,
     pub spare: u64,
+    /// How many passes the desk has. The numbers of their seats are below it.
+    pub passes: u64,
     /// The state and the origin of the value as the desk was made.
     pub start: State,
     pub origin: Origin,

@@ -15,4 +15,4 @@ returns g c =
     let same : c.take-slot.result ≡ Some k.0 = some-injective _ _ (sym c.take-slot.ensures.value ∙ k.1) in
     let x : k.0.value ≡ c.unwrap-value.result.value = search rules in
     let log = k.2 in
-    (log.0, subst (λ y. g.V.Served.stands y (g.V.Served.state c.args.table.shared.key.value.value) log.0) x log.1, subst (λ y. g.V.Served.origin y ≡ g.V.Served.origin c.args.table.shared.key.value.value) x log.2, log.3, log.4)
+    (log.0, subst (λ y. g.V.Served.stands y (g.V.Served.state c.args.table.shared.key.value.value) log.0) x log.1, subst (λ y. g.V.Served.origin y ≡ g.V.Served.origin c.args.table.shared.key.value.value) x log.2, log.3, log.4, log.5)

@@ -9,7 +9,7 @@ loop-preserved g c =
     let i = c.loop.invariant in
     let less : c.loop.place.me.0.parts ≡ c.deal-more.new.place.me.0.parts + 1 = search rules in
     let long : length c.add.new.passes.items ≡ length c.loop.dealt.items + 1 = ap length c.add.ensures.items ∙ length-append c.loop.dealt.items _ in
-    let New : Sitting → Type 0 = λ p. (p.desk ≡ c.args.top.now.table_id) × (p.start ≡ c.args.place.me.0.start) × (p.origin ≡ c.args.place.me.0.origin) × (p.seen ≡ []) in
+    let New : Sitting → Type 0 = λ p. (p.desk ≡ c.args.top.now.table_id) × (p.start ≡ c.args.place.me.0.start) × (p.origin ≡ c.args.place.me.0.origin) × (p.passes ≡ c.args.place.me.0.passes) × (p.seen ≡ []) in
     record {
       table = search rules;
       place = search rules;
@@ -24,7 +24,7 @@ loop-preserved g c =
 
 pub returns-clause-each : goal.returns-clause-each
 returns-clause-each g c =
-    let New : Sitting → Type 0 = λ p. (p.desk ≡ c.args.top.now.table_id) × (p.start ≡ c.args.place.me.0.start) × (p.origin ≡ c.args.place.me.0.origin) × (p.seen ≡ []) in
+    let New : Sitting → Type 0 = λ p. (p.desk ≡ c.args.top.now.table_id) × (p.start ≡ c.args.place.me.0.start) × (p.origin ≡ c.args.place.me.0.origin) × (p.passes ≡ c.args.place.me.0.passes) × (p.seen ≡ []) in
     subst (Each New) (sym c.add-2.ensures.items) (each_more New c.loop.dealt.items _ c.loop.invariant.each (search rules))
 
 pub returns-clause-seats : goal.returns-clause-seats

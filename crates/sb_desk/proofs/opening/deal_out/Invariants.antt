@@ -12,6 +12,6 @@ invariant-loop g l = record {
   parts : length l.dealt.items + l.place.me.0.parts ≡ l.passes;
   spare : l.place.me.0.spare + 1 ≡ l.place.me.0.parts;
   room : l.passes ≤ vec_capacity l.dealt;
-  each : Each (λ p. (p.desk ≡ l.top.table_id) × (p.start ≡ l.fn.place.me.0.start) × (p.origin ≡ l.fn.place.me.0.origin) × (p.seen ≡ [])) l.dealt.items;
+  each : Each (λ p. (p.desk ≡ l.top.table_id) × (p.start ≡ l.fn.place.me.0.start) × (p.origin ≡ l.fn.place.me.0.origin) × (p.passes ≡ l.fn.place.me.0.passes) × (p.seen ≡ [])) l.dealt.items;
   seats : map (λ p. p.seat) l.dealt.items ++ below l.place.me.0.parts ≡ below l.passes;
 }

@@ -13,7 +13,7 @@ new-requires g c =
     let slots : c.in-Ok.slots.items ≡ Some held ∷ [] = search rules in
     let Opens : g.row.V.Denot × List (Option (Held g.row.V.Denot)) → Type 0 = λ z. Kept (λ x. S.stands x.value) (λ x. S.origin x.value) (S.state z.0) (S.origin z.0) c.args.passes
     (opening (0 ∷ 0 ∷ 0 ∷ []) z.1 (opening_view (S.state z.0) (S.origin z.0) c.args.passes)) in
-    subst Opens (λ i. (sym is i, sym slots i)) (opens (λ x. S.stands x.value) (λ x. S.origin x.value) (S.state c.args.value) (S.origin c.args.value) c.args.passes held c.requires.few c.requires.stands refl)
+    subst Opens (λ i. (sym is i, sym slots i)) (opens (λ x. S.stands x.value) (λ x. S.origin x.value) (S.state c.args.value) (S.origin c.args.value) c.args.passes held c.requires.few.0 c.requires.few.1 c.requires.stands refl)
 
 pub only_one-value-requires : goal.only_one-value-requires
 only_one-value-requires g c =

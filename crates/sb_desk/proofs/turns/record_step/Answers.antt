@@ -8,7 +8,7 @@ use Rattle.sb_desk.specs.declared.view.Held.{Held}
 use Rattle.sb_desk.specs.declared.view.Made.{Made}
 use Rattle.sb_desk.specs.declared.view.View.{View}
 use Rattle.sb_desk.specs.declared.view.Stage.TheVariants.{Out}
-use Rattle.sb_desk.proofs.Logs.{by_other}
+use Rattle.sb_desk.proofs.Logs.{by_other, below_made}
 use Rattle.sb_desk.proofs.Turning.{records}
 use Rattle.sb_desk.proofs.turns.record_step.Goals as goal
 
@@ -27,7 +27,8 @@ fetch_add-requires g c =
           (subst (λ (v : View). v.stage ≡ Out (ticket_of v.stage) (log_of v.stage)) (sym same) c.requires.out.0)
           (ap (carried_made (λ seat x. entries_in seat x.made) c.exchange-old.new.seat.me.0.seat) carried)
           (c.count_of.ensures c.exchange-old.new.seat.me.0.seat made.reading.value made.call.value ∙ ap (λ (z : Stepped). length (made_by c.exchange-old.new.seat.me.0.seat z.tick made.reading.value made.call.value z.answer)) (sym c.of-3.ensures))
-          (λ l ne. by_other c.exchange-old.new.seat.me.0.seat l made.stepped.value.tick made.reading.value made.call.value made.stepped.value.answer ne),
+          (λ l ne. by_other c.exchange-old.new.seat.me.0.seat l made.stepped.value.tick made.reading.value made.call.value made.stepped.value.answer ne)
+          (λ n lt. below_made n c.exchange-old.new.seat.me.0.seat made.stepped.value.tick made.reading.value made.call.value made.stepped.value.answer lt),
     )
 
 pub returns-clause-held : goal.returns-clause-held

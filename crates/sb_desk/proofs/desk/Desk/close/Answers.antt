@@ -2,7 +2,7 @@ use Rattle.std.proofs.Common.{rules, ◌≡◌, ℕ, List, [], ◌∷◌, ◌++�
 use Rattle.sb_machine.specs.declared.history.Entry.{Entry}
 use Rattle.sb_desk.specs.Desks.{IsKeptIn, claim_of}
 use Rattle.sb_desk.specs.Entries.{IsReport}
-use Rattle.sb_desk.specs.Lists.{GoesOn, Each}
+use Rattle.sb_desk.specs.Lists.{GoesOn, Each, HaveSeatsBelow}
 use Rattle.sb_desk.proofs.Ends.{kept_all}
 use Rattle.sb_desk.proofs.desk.Desk.close.Goals as goal
 
@@ -22,4 +22,5 @@ returns-clause-ok g c =
       f.2 ∙ ap (λ d. d.origin) c.self.view_is,
       subst (λ s. IsReport s log c.tally-report.result) (ap (λ d. d.start) c.self.view_is) (c.tally-report.ensures _ log f.1),
       subst (Each (IsKeptIn log)) (sym items) (kept_all log c.pop.new.self.items first begins others),
+      subst (λ n. HaveSeatsBelow n log) (ap (λ d. d.passes) c.self.view_is) f.5,
     )
