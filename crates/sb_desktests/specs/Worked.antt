@@ -9,7 +9,7 @@ use Rattle.sb_machine.specs.declared.reply.Refusal.TheVariants.{EntityExists}
 use Rattle.sb_machine.specs.declared.reply.Reply.TheVariants.{Done}
 use Rattle.sb_desk.specs.Desks.{below}
 use Rattle.sb_desk.specs.Entries.{entries_by, IsReport}
-use Rattle.sb_desk.specs.Lists.{longer}
+use Rattle.sb_desk.specs.Lists.{HaveSeatsBelow, longer}
 use Rattle.sb_desktests.specs.Namespaces.{creation, state_at}
 
 abbrev pub first : Entry
@@ -27,4 +27,6 @@ pub record WorkedRows : Type 0 where
   pub none : entries_by 2 history ≡ []
   pub longer : longer (first ∷ []) history ≡ history
   pub numbers : IsReport (empty_state 0) history (record { entries = 2; changing = 1; refused = 1 })
+  pub two : HaveSeatsBelow 2 history
+  pub not_one : HaveSeatsBelow 1 history → ⊥
   pub seats : below 3 ≡ 2 ∷ 1 ∷ 0 ∷ []
