@@ -1,0 +1,16 @@
+// What some words are, worked out by hand.
+ghost use Rattle.std.specs.Prelude.{◌≡◌, ◌∷◌, ◌++◌, [], List, ℕ, codes, Some, map};
+ghost use Rattle.sb_words.specs.Words.{form_in};
+ghost use Rattle.sb_words.specs.WordRows.{no_forms, no_servers, nones, over, serve_with, servers, with_port};
+
+use crate::command::Command;
+
+/// Any folder can be named behind `=`, and one that doesn't begin with `-` as a word of its own.
+pub fn worked_words()
+    ensures joined { (folder : List ℕ) → form_in (codes "run" ∷ (codes "--data=" ++ folder) ∷ []) ≡ Some (over Command.Run folder) }
+    ensures separate { form_in (codes "check" ∷ codes "--data" ∷ codes "." ∷ []) ≡ Some (over Command.Check (codes ".")) }
+    ensures client { form_in (codes "client" ∷ codes "--port" ∷ codes "65535" ∷ []) ≡ Some (with_port 65535) }
+    ensures serve { map (λ row. form_in (serve_with row.0)) servers ≡ map (λ row. Some row.1) servers }
+    ensures none { map form_in no_forms ≡ nones no_forms }
+    ensures no_serve { map form_in no_servers ≡ nones no_servers }
+{}
