@@ -1,18 +1,20 @@
 -- An opening: what was read, and what a crash leaves while it is finished.
 use Rattle.std.proofs.Common.{◌≡◌, ◌⊎◌, inl, inr, ℕ, ◌+◌, ◌<◌, ◌≤◌, ◌^◌, List, [], ◌∷◌, ◌++◌, length, true, false, refl, sym, ◌∙◌, ap, subst, arith, length-append}
-use Rattle.std.specs.Prelude.{nat_lt, ◌&&◌, ◌==◌, slice_index, Bool, if◌then◌else◌, Option, Some, None, Result, Ok, Err}
+use Rattle.std.specs.Prelude.{slice_index, Bool, if◌then◌else◌, Option, Some, None, Result, Ok, Err}
 use Rattle.sb_outside.specs.Held.{Held, IsImage, Moves, at_rest}
-use Rattle.sb_journal.specs.Text.{File, new_file, new_bytes, file_text, IsWithin, AreBytes}
+use Rattle.sb_journal.specs.Text.{File, new_file, new_bytes, file_text, IsWithin, Spells}
 use Rattle.sb_journal.specs.Framing.{Framing, Uncreated, Whole, Damaged, framing, is_created, head_fault, payloads_in, sound_or_damaged, whole_or_damaged}
 use Rattle.sb_journal.specs.Crashes.{Rests, IsOldNoneOrNew, IsTornEnd, MayLeave}
 use Rattle.sb_journal.specs.Moments.{EachMoment, FromSync, IsUnwritten}
-use Rattle.sb_journal.specs.Opened.{Stands, opened_alone, IsRead}
+use Rattle.sb_journal.specs.Opened.{Stands, opened_alone, stand_file, is_shut, IsStand, IsWholeStand, IsRead}
 use Rattle.sb_journal.specs.declared.found.Side.{Side}
 use Rattle.sb_journal.specs.declared.found.Side.TheVariants.{A}
 use Rattle.sb_journal.specs.declared.reading.Ending.{Ending}
+use Rattle.sb_journal.specs.declared.reading.Stand.{Stand}
 use Rattle.sb_journal.proofs.Moments.{started, from_start, weaker_moments}
 use Rattle.sb_journal.proofs.Images.{rest_image}
 use Rattle.sb_journal.proofs.Heads.{length-file_text, new_rests}
+use Rattle.sb_journal.proofs.Texts.{has_text}
 use Rattle.sb_journal.proofs.Wholes.{not_created}
 
 read_is_created : (bytes : List ℕ) (r : Result (List (List ℕ)) ℕ) → whole_or_damaged bytes r ≡ Uncreated → ⊥
@@ -61,11 +63,13 @@ file_is salt bytes file made stands = by_framing (framing bytes) refl stands
 length-new : (salt : ℕ) → length (file_text (new_file salt 1 1 [])) ≡ 42
 length-new salt = length-file_text (new_file salt 1 1 [])
 
-pub read_no_file : (bytes : List ℕ) (e : Ending) → AreBytes bytes → length bytes ≤ 2 ^ 62 → framing bytes ≡ Uncreated → e.made ≡ false → e.end ≡ 42 → e.next ≡ 1 → IsRead (at_rest bytes) e
-read_no_file bytes e are fits none made end next = record {
+no_whole : (bytes : List ℕ) (f : File) → framing bytes ≡ Uncreated → framing bytes ≡ Whole f → ⊥
+no_whole bytes f none whole = let both : true ≡ false = sym (whole_is_created bytes f whole) ∙ uncreated_isnt bytes none in absurd cc
+
+pub read_no_file : (bytes : List ℕ) (e : Ending) → framing bytes ≡ Uncreated → e.made ≡ false → e.end ≡ 42 → e.next ≡ 1 → IsRead (at_rest bytes) e
+read_no_file bytes e none made end next = record {
   rests = refl;
-  bytes = are;
-  small = fits;
+  text = λ file whole. absurd (no_whole bytes file none whole);
   made = made ∙ sym (uncreated_isnt bytes none);
   inside = λ is. let both : true ≡ false = sym is ∙ made in absurd cc;
   closed = λ is. let both : true ≡ false = sym is ∙ made in absurd cc;
@@ -73,18 +77,33 @@ read_no_file bytes e are fits none made end next = record {
   next = λ salt file stands. next ∙ ap (λ f. f.first + length f.payloads) (sym (new_file_is salt (framing bytes) file none stands));
 }
 
-pub read_file : (bytes : List ℕ) (e : Ending) (f : File) → AreBytes bytes → length bytes ≤ 2 ^ 62 → framing bytes ≡ Whole f → e.made ≡ true → e.end ≤ length bytes → e.closed ≡ (nat_lt e.end (length bytes) && (slice_index bytes e.end == 0))
-    → e.end ≡ length (file_text f) → e.next ≡ f.first + length f.payloads → IsRead (at_rest bytes) e
-read_file bytes e f are fits whole made inside closed end next = record {
+-- where a whole file is read there is no other
+same_whole : (bytes : List ℕ) (f file : File) → framing bytes ≡ Whole f → framing bytes ≡ Whole file → Spells f bytes → Spells file bytes
+same_whole bytes f file is whole spells = let same : f ≡ file = cc in subst (λ g. Spells g bytes) same spells
+
+pub read_file : (bytes : List ℕ) (e : Ending) (f : File) → framing bytes ≡ Whole f → Spells f bytes → e.made ≡ true → e.closed ≡ is_shut e.end bytes → e.end ≡ length (file_text f) → e.next ≡ f.first + length f.payloads → IsRead (at_rest bytes) e
+read_file bytes e f whole spells made closed end next = record {
   rests = refl;
-  bytes = are;
-  small = fits;
+  text = λ file is. has_text file bytes (same_whole bytes f file whole is spells);
   made = made ∙ sym (whole_is_created bytes f whole);
-  inside = λ is. inside;
+  inside = λ is. omega (arith, end, ap length spells.is, length-append (file_text f) spells.rest);
   closed = λ is. closed;
   end = λ salt file stands. end ∙ ap (λ g. length (file_text g)) (sym (same_file_is salt (framing bytes) f file whole stands));
   next = λ salt file stands. next ∙ ap (λ g. g.first + length g.payloads) (sym (same_file_is salt (framing bytes) f file whole stands));
 }
+
+-- what is read of a disk that was synced
+pub read_none_synced : (p0 p1 : List Held) (h0 h1 h2 : Held) (e : Ending) → Moves p0 h0 p1 h1 (at_rest h0.seen) → h2 ≡ h1 → framing h1.seen ≡ Uncreated → e.made ≡ false → e.end ≡ 42 → e.next ≡ 1 → IsRead h2 e
+read_none_synced p0 p1 h0 h1 h2 e synced same none made end next =
+    let at : h2 ≡ at_rest h0.seen = same ∙ synced.now_is in
+    subst (λ h. IsRead h e) (sym at) (read_no_file h0.seen e (ap framing (sym (ap (λ m. m.seen) synced.now_is)) ∙ none) made end next)
+
+pub read_file_synced : (p0 p1 : List Held) (h0 h1 h2 : Held) (s : Stand) (e : Ending) → Moves p0 h0 p1 h1 (at_rest h0.seen) → h2 ≡ h1 → IsWholeStand s h1.seen → IsStand s → e.made ≡ true → e.closed ≡ s.closed → e.end ≡ s.end → e.next ≡ s.next → IsRead h2 e
+read_file_synced p0 p1 h0 h1 h2 s e synced same read stand made closed end next =
+    let at : h2 ≡ at_rest h0.seen = same ∙ synced.now_is in
+    let seen : h1.seen ≡ h0.seen = ap (λ m. m.seen) synced.now_is in
+    let here = subst (IsWholeStand s) seen read in
+    subst (λ h. IsRead h e) (sym at) (read_file h0.seen e (stand_file s) here.whole here.spells made (closed ∙ here.closed ∙ ap (λ n. is_shut n h0.seen) (sym end)) (end ∙ stand.end_is) (next ∙ stand.next_is))
 
 -- nothing was written
 pub unwritten_same : (p q : List Held) (h k : Held) → q ≡ p → k ≡ h → IsUnwritten p h q k

@@ -1,11 +1,11 @@
 -- Reading back what records spell.
-use Rattle.std.proofs.Common.{◌≡◌, ◌≢◌, ℕ, zero, suc, ◌+◌, ◌-◌, ◌^◌, ◌<◌, ◌≤◌, List, [], ◌∷◌, ◌++◌, length, take, drop, true, refl, sym, ◌∙◌, ap, arith, append_assoc, length-append, w32, w64}
+use Rattle.std.proofs.Common.{◌≡◌, ◌≢◌, ℕ, zero, suc, ◌+◌, ◌-◌, ◌^◌, ◌<◌, ◌≤◌, List, [], ◌∷◌, ◌++◌, length, take, drop, true, false, refl, sym, ◌∙◌, ap, arith, append_assoc, length-append, w32, w64}
 use Rattle.std.specs.Prelude.{Bool, if◌then◌else◌, Result, Ok, Err}
 use Rattle.std.specs.Int.{to_be_bytes, from_be_bytes}
 use Rattle.std.proofs.lemmas.Nat.{from_be_bytes-to_be_bytes_4, from_be_bytes-to_be_bytes_8}
 use Rattle.std.proofs.lemmas.List.{append-nil, take_at, drop_at}
 use Rattle.std.proofs.lemmas.Bool.Decides.{nat_tests}
-use Rattle.sb_journal.specs.Text.{max_payload, framed, records, gate_after, AreShort, Ends}
+use Rattle.sb_journal.specs.Text.{max_payload, framed, records, next_gate, gate_after, AreShort, Ends}
 use Rattle.sb_journal.specs.Framing.{with_first, payload_length, is_record, read}
 
 pub length-framed : (number : ℕ) (p : List ℕ) → length (framed number p) ≡ 12 + length p
@@ -49,38 +49,31 @@ pub with_all-Err : (ps : List (List ℕ)) (place : ℕ) → with_all ps (Err pla
 with_all-Err [] place = refl
 with_all-Err (p ∷ ps) place = ap (with_first p) (with_all-Err ps place)
 
-pub with_all-push : (ps : List (List ℕ)) (p : List ℕ) (r : Result (List (List ℕ)) ℕ) → with_all (ps ++ p ∷ []) r ≡ with_all ps (with_first p r)
-with_all-push [] p r = refl
-with_all-push (q ∷ ps) p r = ap (with_first q) (with_all-push ps p r)
-
 step : (turns place number : ℕ) (p rest : List ℕ) → number < 2 ^ 64 → length p ≤ max_payload
-    → read (suc turns) place number (1 ∷ (framed number p ++ rest)) ≡ with_first p (read turns (place + (13 + payload_length (framed number p ++ rest))) (number + 1) rest)
+    → read (suc turns) place number (1 ∷ (framed number p ++ rest)) ≡ with_first p (read turns (next_gate place p) (number + 1) rest)
 step turns place number p rest fits short =
     let bytes = framed number p ++ rest in
     let next = place + (13 + payload_length bytes) in
     ap (λ (b : Bool). if b then with_first (take (payload_length bytes) (drop 12 bytes)) (read turns next (number + 1) (drop (12 + payload_length bytes) bytes)) else Err place) (is_whole number p rest fits short)
     ∙ ap (λ (q : List ℕ). with_first q (read turns next (number + 1) (drop (12 + payload_length bytes) bytes))) (its_payload number p rest fits short)
     ∙ ap (λ (r : List ℕ). with_first p (read turns next (number + 1) r)) (its_rest number p rest fits short)
-
-abbrev Reads : ℕ → ℕ → ℕ → List ℕ → List (List ℕ) → ℕ → List ℕ → Type 0
-Reads turns place number bytes ps more rest = (further : ℕ) × (read turns place number bytes ≡ with_all ps (read more further (number + length ps) rest))
+    ∙ ap (λ n. with_first p (read turns (place + (13 + n)) (number + 1) rest)) (its_length number p rest fits short)
 
 -- open records are read one after another
 pub read-records : (ps : List (List ℕ)) (turns more place number : ℕ) (rest : List ℕ) → turns ≡ length ps + more → number + length ps ≤ 2 ^ 64 → AreShort ps
-    → Reads turns place number (records number ps ++ rest) ps more rest
+    → read turns place number (records number ps ++ rest) ≡ with_all ps (read more (gate_after place ps) (number + length ps) rest)
 read-records [] turns more place number rest is fits short =
-    (place, ap (λ t. read t place number rest) (let e : turns ≡ more = omega (arith, is) in e) ∙ ap (λ n. read more place n rest) (let e : number ≡ number + 0 = omega arith in e))
+    ap (λ t. read t place number rest) (let e : turns ≡ more = omega (arith, is) in e) ∙ ap (λ n. read more place n rest) (let e : number ≡ number + 0 = omega arith in e)
 read-records (p ∷ ps) zero more place number rest is fits short = absurd (omega (arith, is))
 read-records (p ∷ ps) (suc turns) more place number rest is fits short =
     let tail = records (number + 1) ps ++ rest in
-    let next = place + (13 + payload_length (framed number p ++ tail)) in
-    let so_far = read-records ps turns more next (number + 1) rest (omega (arith, is)) (omega (arith, fits)) short.1 in
+    let next = next_gate place p in
     let here : read (suc turns) place number (records number (p ∷ ps) ++ rest) ≡ with_first p (read turns next (number + 1) tail) =
     ap (λ (l : List ℕ). read (suc turns) place number (1 ∷ l)) (append_assoc (framed number p) (records (number + 1) ps) rest) ∙ step turns place number p tail (omega (arith, fits)) short.0 in
-    let count : number + 1 + length ps ≡ number + length (p ∷ ps) = omega arith in (
-      so_far.0,
-      here ∙ ap (with_first p) so_far.1 ∙ ap (λ n. with_first p (with_all ps (read more so_far.0 n rest))) count,
-    )
+    let count : number + 1 + length ps ≡ number + length (p ∷ ps) = omega arith in
+    here
+    ∙ ap (with_first p) (read-records ps turns more next (number + 1) rest (omega (arith, is)) (omega (arith, fits)) short.1)
+    ∙ ap (λ n. with_first p (with_all ps (read more (gate_after next ps) n rest))) count
 
 shut : (turns place number gate : ℕ) (rest : List ℕ) → gate ≢ 1 → read turns place number (gate ∷ rest) ≡ Ok []
 shut zero place number gate rest closed = refl
@@ -98,8 +91,20 @@ ended turns place number (gate ∷ tail) ends = shut turns place number gate tai
 pub read_ended : (ps : List (List ℕ)) (turns place number : ℕ) (rest : List ℕ) → length ps ≤ turns → number + length ps ≤ 2 ^ 64 → AreShort ps → Ends rest
     → read turns place number (records number ps ++ rest) ≡ Ok ps
 read_ended ps turns place number rest long fits short ends =
-    let so_far = read-records ps turns (turns - length ps) place number rest (omega (arith, long)) fits short in
-    so_far.1 ∙ ap (with_all ps) (ended (turns - length ps) so_far.0 (number + length ps) rest ends) ∙ with_all-Ok ps [] ∙ ap Ok (append-nil ps)
+    read-records ps turns (turns - length ps) place number rest (omega (arith, long)) fits short
+    ∙ ap (with_all ps) (ended (turns - length ps) (gate_after place ps) (number + length ps) rest ends)
+    ∙ with_all-Ok ps []
+    ∙ ap Ok (append-nil ps)
+
+-- or what stands at an open gate behind them is no record
+pub read_broken : (ps : List (List ℕ)) (turns place number : ℕ) (rest : List ℕ) → length ps < turns → number + length ps ≤ 2 ^ 64 → AreShort ps → is_record (number + length ps) rest ≡ false
+    → read turns place number (records number ps ++ 1 ∷ rest) ≡ Err (gate_after place ps)
+read_broken ps turns place number rest long fits short isnt =
+    let more = turns - (length ps + 1) in
+    let gate = gate_after place ps in
+    read-records ps turns (suc more) place number (1 ∷ rest) (omega (arith, long)) fits short
+    ∙ ap (λ (b : Bool). with_all ps (if b then with_first (take (payload_length rest) (drop 12 rest)) (read more (gate + (13 + payload_length rest)) (number + length ps + 1) (drop (12 + payload_length rest) rest)) else Err gate)) isnt
+    ∙ with_all-Err ps gate
 
 pub records-push : (ps : List (List ℕ)) (number : ℕ) (p rest : List ℕ) → records number (ps ++ p ∷ []) ++ rest ≡ records number ps ++ 1 ∷ (framed (number + length ps) p ++ rest)
 records-push [] number p rest =

@@ -11,6 +11,9 @@ pub mod Moments
 pub mod Onward
 pub mod Pairs
 pub mod Parts
+pub mod Pieces
+pub mod Readings
 pub mod Scan
 pub mod Shut
+pub mod Texts
 pub mod Wholes

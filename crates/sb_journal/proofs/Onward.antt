@@ -1,7 +1,7 @@
 -- A read goes on where the last one ended.
 use Rattle.std.proofs.Common.{◌≡◌, ℕ, zero, suc, ◌+◌, ◌≤◌, List, [], ◌∷◌, ◌++◌, length, take, drop, refl, sym, ◌∙◌, ap, arith, length-take}
 use Rattle.std.specs.Prelude.{Result, Ok, Err, IfOk}
-use Rattle.std.proofs.lemmas.List.{take_at, drop_at, take-append-le}
+use Rattle.std.proofs.lemmas.List.{take_at, drop_at, drop-drop, take-append-le}
 
 abbrev nothing : List ℕ
 nothing = []
@@ -24,7 +24,7 @@ read_more at n old new post seen inside so_far within more =
     ∙ ap (λ (l : List ℕ). take at seen ++ l) (take-append-le n new post within ∙ more)
     ∙ sym (take_sum at n seen)
 
-pub reads_more : {E : Type 0} (r : Result ℕ E) (at : ℕ) (old new post seen : List ℕ) → at ≤ length old → take at old ≡ take at seen → IfOk r (λ n. n ≤ length new) → IfOk r (λ n. take n new ≡ take n (drop at seen))
-    → IfOk r (λ n. take (at + n) (take at old ++ (new ++ post)) ≡ take (at + n) seen)
-reads_more (Ok n) at old new post seen inside so_far within more = read_more at n old new post seen inside so_far within more
-reads_more (Err e) at old new post seen inside so_far within more = tt
+pub reads_more : {E : Type 0} (r : Result ℕ E) (at from : ℕ) (old new post seen : List ℕ) → at ≤ length old → take at old ≡ take at (drop from seen) → IfOk r (λ n. n ≤ length new) → IfOk r (λ n. take n new ≡ take n (drop (from + at) seen))
+    → IfOk r (λ n. take (at + n) (take at old ++ (new ++ post)) ≡ take (at + n) (drop from seen))
+reads_more (Ok n) at from old new post seen inside so_far within more = read_more at n old new post (drop from seen) inside so_far within (more ∙ ap (take n) (sym (drop-drop at from seen)))
+reads_more (Err e) at from old new post seen inside so_far within more = tt

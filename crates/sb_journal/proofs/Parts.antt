@@ -6,7 +6,7 @@ use Rattle.std.proofs.lemmas.Nat.{be_bytes_4, be_bytes_8}
 use Rattle.std.proofs.lemmas.List.{drop-drop, get_or-drop}
 use Rattle.std.proofs.lemmas.Bool.{cases_eq, cases_Bool}
 use Rattle.std.proofs.lemmas.Bool.Decides.{nat_tests}
-use Rattle.sb_journal.specs.Text.{max_payload, framed, records, AreShort, Ends, AreBytes}
+use Rattle.sb_journal.specs.Text.{max_payload, framed, records, AreShort, Ends, Spelled, AreBytes}
 use Rattle.sb_journal.specs.Framing.{with_first, payload_length, is_record, read}
 
 pub AreBytes-drop : (n : ℕ) (xs : List ℕ) → AreBytes xs → AreBytes (drop n xs)
@@ -27,18 +27,18 @@ number_part place xs long bytes =
     part place 8 xs
     ∙ ap (λ (l : List ℕ). l ++ drop (place + 8) xs) (sym (be_bytes_8 (take 8 (drop place xs)) _ (omega (arith, length-take 8 (drop place xs), length-drop place xs)) (AreBytes-take 8 (drop place xs) (AreBytes-drop place xs bytes)) refl))
 
-record Tests (number : ℕ) (rest : List ℕ) : Type 0 where
-  head : 12 ≤ length rest
-  short : payload_length rest ≤ max_payload
-  whole : 12 + payload_length rest ≤ length rest
-  number_is : from_be_bytes w64 (take 8 (drop 4 rest)) ≡ number
+pub record Tests (number : ℕ) (rest : List ℕ) : Type 0 where
+  pub head : 12 ≤ length rest
+  pub short : payload_length rest ≤ max_payload
+  pub whole : 12 + payload_length rest ≤ length rest
+  pub number_is : from_be_bytes w64 (take 8 (drop 4 rest)) ≡ number
 
 pub both : (a b : Bool) → (a && b) ≡ true → (a ≡ true) × (b ≡ true)
 both true true e = (refl, refl)
 both true false e = absurd cc
 both false b e = absurd cc
 
-tests : (number : ℕ) (rest : List ℕ) → is_record number rest ≡ true → Tests number rest
+pub tests : (number : ℕ) (rest : List ℕ) → is_record number rest ≡ true → Tests number rest
 unfolding is_record
 tests number rest is =
     let head = nat_le 12 (length rest) in
@@ -56,7 +56,7 @@ payload_of rest = take (payload_length rest) (drop 12 rest)
 length-payload : (number : ℕ) (rest : List ℕ) → Tests number rest → length (payload_of rest) ≡ payload_length rest
 length-payload number rest t = let whole = t.whole in omega (arith, length-take (payload_length rest) (drop 12 rest), length-drop 12 rest)
 
-record_text : (number : ℕ) (rest : List ℕ) → Tests number rest → AreBytes rest → rest ≡ framed number (payload_of rest) ++ drop (12 + payload_length rest) rest
+pub record_text : (number : ℕ) (rest : List ℕ) → Tests number rest → AreBytes rest → rest ≡ framed number (payload_of rest) ++ drop (12 + payload_length rest) rest
 unfolding framed
 record_text number rest t bytes =
     let p = payload_of rest in
@@ -67,13 +67,6 @@ record_text number rest t bytes =
     let load : drop 12 rest ≡ p ++ after = part 12 (payload_length rest) rest in
     len ∙ ap (λ (l : List ℕ). to_be_bytes w32 (length p) ++ l) (num ∙ ap (λ (l : List ℕ). to_be_bytes w64 number ++ l) load)
 
--- these records stand there, and then none
-pub record Spelled (number : ℕ) (ps : List (List ℕ)) (bytes : List ℕ) : Type 0 where
-  pub rest : List ℕ
-  pub is : bytes ≡ records number ps ++ rest
-  pub ends : Ends rest
-  pub short : AreShort ps
-
 abbrev nothing : Result (List (List ℕ)) ℕ
 nothing = Ok []
 
@@ -81,13 +74,13 @@ none_here : (number : ℕ) (ps : List (List ℕ)) (bytes : List ℕ) → Ends by
 none_here number [] bytes ends e = record { rest = bytes; is = refl; ends = ends; short = tt }
 none_here number (p ∷ ps) bytes ends e = absurd cc
 
-abbrev pub reads_on : ℕ → ℕ → ℕ → List ℕ → Result (List (List ℕ)) ℕ
+abbrev reads_on : ℕ → ℕ → ℕ → List ℕ → Result (List (List ℕ)) ℕ
 reads_on turns place number rest = read turns (place + (13 + payload_length rest)) (number + 1) (drop (12 + payload_length rest) rest)
 
-pub open_here : (turns place number : ℕ) (rest : List ℕ) → is_record number rest ≡ true → read (suc turns) place number (1 ∷ rest) ≡ with_first (payload_of rest) (reads_on turns place number rest)
+open_here : (turns place number : ℕ) (rest : List ℕ) → is_record number rest ≡ true → read (suc turns) place number (1 ∷ rest) ≡ with_first (payload_of rest) (reads_on turns place number rest)
 open_here turns place number rest is = ap (λ (b : Bool). if b then with_first (payload_of rest) (reads_on turns place number rest) else Err place) is
 
-pub broken_here : (turns place number : ℕ) (rest : List ℕ) → is_record number rest ≡ false → read (suc turns) place number (1 ∷ rest) ≡ Err place
+broken_here : (turns place number : ℕ) (rest : List ℕ) → is_record number rest ≡ false → read (suc turns) place number (1 ∷ rest) ≡ Err place
 broken_here turns place number rest is = ap (λ (b : Bool). if b then with_first (payload_of rest) (reads_on turns place number rest) else Err place) is
 
 pub closed_here : (turns place number gate : ℕ) (rest : List ℕ) → gate ≢ 1 → read (suc turns) place number (gate ∷ rest) ≡ Ok []

@@ -1,62 +1,109 @@
--- One record more is read.
-use Rattle.std.proofs.Common.{◌≡◌, ◌≢◌, ℕ, suc, ◌+◌, ◌-◌, ◌<◌, ◌≤◌, List, [], ◌∷◌, ◌++◌, length, get_or, take, drop, true, false, sym, ◌∙◌, ap, arith, length-append, length-drop}
-use Rattle.std.specs.Prelude.{Result, Ok, Err}
-use Rattle.std.proofs.lemmas.List.{drop-drop, drop_more, drop_all, take_all, append-nil}
-use Rattle.sb_journal.specs.Text.{records, framed}
-use Rattle.sb_journal.specs.Framing.{with_first, payload_length, is_record, read}
-use Rattle.sb_journal.proofs.Frames.{with_all, with_all-push, with_all-Ok, with_all-Err, length-framed, length-records, records-push, ended}
-use Rattle.sb_journal.proofs.Parts.{open_here, broken_here}
+-- What stands at a place, by a part that begins there.
+use Rattle.std.proofs.Common.{◌≡◌, ◌≢◌, ◌⊎◌, inl, inr, ℕ, ◌+◌, ◌-◌, ◌^◌, ◌<◌, ◌≤◌, List, [], ◌∷◌, ◌++◌, length, get_or, take, drop, true, false, refl, sym, ◌∙◌, ap, subst, arith, append_assoc, length-append, length-take, length-drop, take-append-drop, w32, w64}
+use Rattle.std.specs.Prelude.{nat_le, ◌&&◌, ◌==◌, Err}
+use Rattle.std.specs.Int.{from_be_bytes}
+use Rattle.std.proofs.lemmas.List.{drop-drop, drop-append-le, drop_more, drop_all, drop_at, take-append-le, append-nil}
+use Rattle.std.proofs.lemmas.Bool.Decides.{nat_tests}
+use Rattle.sb_journal.specs.Text.{max_payload, records, framed, gate_after, AreShort, Ends, AreBytes, Spelled}
+use Rattle.sb_journal.specs.Framing.{payload_length, is_record, read}
+use Rattle.sb_journal.specs.Pieces.{BeginsWith}
+use Rattle.sb_journal.proofs.Frames.{length-framed, length-records, length-records_from, records-push, read_broken}
+use Rattle.sb_journal.proofs.Parts.{tests, record_text}
 
--- a slice to the end
-pub rest_is : (n : ℕ) (xs : List ℕ) → take (length xs - n) (drop n xs) ≡ drop n xs
-rest_is n xs = take_all (length xs - n) (drop n xs) (omega (arith, length-drop n xs))
+-- a piece of the bytes from one place on is a part from a later place on
+pub begins : (piece bytes : List ℕ) (from place : ℕ) → piece ≡ take (length piece) (drop from bytes) → from ≤ place → place ≤ from + length piece
+    → (max_payload + 13 + place ≤ from + length piece) ⊎ (length bytes ≤ from + length piece) → BeginsWith (drop (place - from) piece) (drop place bytes)
+begins piece bytes from place is least greatest enough =
+    let tail = drop (length piece) (drop from bytes) in
+    let onward : from + (place - from) ≡ place = omega (arith, least) in
+    record {
+      tail = tail;
+      is =
+          ap (λ n. drop n bytes) (sym onward)
+          ∙ sym (drop-drop (place - from) from bytes)
+          ∙ ap (drop (place - from)) (sym (take-append-drop (length piece) (drop from bytes)) ∙ ap (λ (l : List ℕ). l ++ tail) (sym is))
+          ∙ drop-append-le (place - from) piece tail (omega (arith, least, greatest));
+      enough = elim enough [
+        | inl long ↦ inl (omega (arith, long, least, length-drop (place - from) piece))
+        | inr all ↦ inr (drop-drop (length piece) from bytes ∙ drop_all (from + length piece) bytes all)
+      ];
+    }
+
+module _ (part bytes : List ℕ) (starts : BeginsWith part bytes) where
+  abbrev behind : List ℕ
+  behind = drop 1 part
+
+  at_gate : (gate : ℕ) → 1 ≤ length part → get_or part 0 0 ≡ gate → bytes ≡ gate ∷ (behind ++ starts.tail)
+  at_gate gate here is = starts.is ∙ ap (λ (l : List ℕ). l ++ starts.tail) (drop_more part 0 0 here ∙ ap (λ (b : ℕ). b ∷ behind) is)
+
+  -- a record of this payload, and then what stands behind it
+  pub record_at : (number : ℕ) (p : List ℕ) → 1 ≤ length part → get_or part 0 0 ≡ 1 → is_record number behind ≡ true → AreBytes behind → p ≡ take (payload_length behind) (drop 12 behind)
+      → bytes ≡ 1 ∷ (framed number p ++ drop (13 + length p) bytes)
+  record_at number p here gate is are p_is =
+      let text : behind ≡ framed number p ++ drop (12 + payload_length behind) behind = record_text number behind (tests number behind is) are ∙ ap (λ (q : List ℕ). framed number q ++ drop (12 + payload_length behind) behind) (sym p_is) in
+      let after = drop (12 + payload_length behind) behind ++ starts.tail in
+      let whole : bytes ≡ (1 ∷ framed number p) ++ after = at_gate 1 here gate ∙ ap (λ (l : List ℕ). 1 ∷ (l ++ starts.tail)) text ∙ ap (λ (l : List ℕ). 1 ∷ l) (append_assoc (framed number p) (drop (12 + payload_length behind) behind) starts.tail) in
+      whole ∙ ap (λ (l : List ℕ). 1 ∷ (framed number p ++ l)) (sym (ap (drop (13 + length p)) whole ∙ drop_at (1 ∷ framed number p) after (13 + length p) (omega (arith, length-framed number p))))
+
+  same_tests : (number : ℕ) (r : List ℕ) → max_payload + 12 ≤ length r → is_record number (r ++ starts.tail) ≡ is_record number r
+  unfolding is_record
+  same_tests number r long =
+      let len : payload_length (r ++ starts.tail) ≡ payload_length r = ap (from_be_bytes w32) (take-append-le 4 r starts.tail (omega (arith, long))) in
+      let num : from_be_bytes w64 (take 8 (drop 4 (r ++ starts.tail))) ≡ from_be_bytes w64 (take 8 (drop 4 r)) =
+      ap (λ (l : List ℕ). from_be_bytes w64 (take 8 l)) (drop-append-le 4 r starts.tail (omega (arith, long))) ∙ ap (from_be_bytes w64) (take-append-le 8 (drop 4 r) starts.tail (omega (arith, long, length-drop 4 r))) in
+      let all = length-append r starts.tail in
+      grind (arith, nat_tests, len, num, all, long)
+
+  -- an open gate with no record behind it
+  pub broken_at : (number : ℕ) → 1 ≤ length part → get_or part 0 0 ≡ 1 → is_record number behind ≡ false → (rest : List ℕ) × (bytes ≡ 1 ∷ rest) × (is_record number rest ≡ false)
+  broken_at number here gate isnt = (
+    behind ++ starts.tail,
+    at_gate 1 here gate,
+    elim starts.enough [
+      | inl long ↦ same_tests number behind (omega (arith, long, length-drop 1 part)) ∙ isnt
+      | inr none ↦ ap (λ (l : List ℕ). is_record number (behind ++ l)) none ∙ ap (is_record number) (append-nil behind) ∙ isnt
+    ],
+  )
+
+  none_there : length part ≡ 0 → bytes ≡ []
+  none_there none = elim starts.enough [
+    | inl long ↦ absurd (omega (arith, long, none))
+    | inr over ↦ starts.is ∙ ap (λ (l : List ℕ). l ++ starts.tail) (drop_all 0 part (omega (arith, none))) ∙ over
+  ]
+
+  -- or no open gate
+  pub ends_at : (1 ≤ length part → get_or part 0 0 ≢ 1) → Ends bytes
+  ends_at shut = elim (some_or_none part) [
+    | inl some ↦ subst Ends (sym (at_gate (get_or part 0 0) some refl)) (shut some)
+    | inr none ↦ subst Ends (sym (none_there none)) tt
+  ]
+    where
+      some_or_none : (xs : List ℕ) → (1 ≤ length xs) ⊎ (length xs ≡ 0)
+      some_or_none [] = inr refl
+      some_or_none (x ∷ xs) = inl (omega arith)
+
+-- these records stand behind the head, up to this place
+module _ (first place number : ℕ) (ps : List (List ℕ)) (bytes : List ℕ) (text : drop 42 bytes ≡ records first ps ++ drop place bytes)
+    (place_is : place ≡ 42 + length (records first ps)) (number_is : number ≡ first + length ps) where
+  -- one more
+  pub one_more : (p : List ℕ) → drop place bytes ≡ 1 ∷ (framed number p ++ drop (13 + length p) (drop place bytes)) → drop 42 bytes ≡ records first (ps ++ p ∷ []) ++ drop (place + (13 + length p)) bytes
+  one_more p here =
+      text
+      ∙ ap (λ (l : List ℕ). records first ps ++ l) (here ∙ ap (λ (l : List ℕ). 1 ∷ (framed number p ++ l)) (drop-drop (13 + length p) place bytes) ∙ ap (λ n. 1 ∷ (framed n p ++ drop (place + (13 + length p)) bytes)) number_is)
+      ∙ sym (records-push ps first p (drop (place + (13 + length p)) bytes))
+
+  pub all_read : AreShort ps → Ends (drop place bytes) → Spelled first ps (drop 42 bytes)
+  all_read short ends = record { rest = drop place bytes; is = text; ends = ends; short = short }
+
+  pub breaks : (rest : List ℕ) → first ≤ 2 ^ 62 → length bytes ≤ 2 ^ 62 → AreShort ps → drop place bytes ≡ 1 ∷ rest → is_record number rest ≡ false → read (length bytes) 42 first (drop 42 bytes) ≡ Err place
+  breaks rest low small short here isnt =
+      let long = length-drop place bytes in
+      let some = ap length here in
+      ap (read (length bytes) 42 first) (text ∙ ap (λ (l : List ℕ). records first ps ++ l) here)
+      ∙ read_broken ps (length bytes) 42 first rest (omega (arith, length-records ps first, place_is, long, some)) (omega (arith, low, small, length-records ps first, place_is, long, some)) short (subst (λ n. is_record n rest ≡ false) number_is isnt)
+      ∙ ap Err (sym (place_is ∙ length-records_from ps 42 first))
 
 pub length-records-push : (ps : List (List ℕ)) (first : ℕ) (p : List ℕ) → length (records first (ps ++ p ∷ [])) ≡ length (records first ps) + (13 + length p)
 length-records-push ps first p =
     let e = ap length (sym (append-nil (records first (ps ++ p ∷ []))) ∙ records-push ps first p []) in
     omega (arith, e, length-append (records first ps) (1 ∷ (framed (first + length ps) p ++ [])), length-append (framed (first + length ps) p) [], length-framed (first + length ps) p)
-
-module _ (bytes : List ℕ) (first place number : ℕ) (ps : List (List ℕ)) (whole : Result (List (List ℕ)) ℕ)
-    (so_far : whole ≡ with_all ps (read (length bytes - length ps) place number (drop place bytes)))
-    (place_is : place ≡ 42 + length (records first ps)) where
-  turns_left : place < length bytes → length bytes - length ps ≡ suc (length bytes - (length ps + 1))
-  turns_left here = omega (arith, length-records ps first)
-
-  at_gate : place < length bytes → get_or bytes place 0 ≡ 1 → read (length bytes - length ps) place number (drop place bytes) ≡ read (suc (length bytes - (length ps + 1))) place number (1 ∷ drop (place + 1) bytes)
-  at_gate here gate =
-      ap (λ t. read t place number (drop place bytes)) (turns_left here)
-      ∙ ap (λ (l : List ℕ). read (suc (length bytes - (length ps + 1))) place number l) (drop_more bytes place 0 here ∙ ap (λ b. b ∷ drop (place + 1) bytes) gate)
-
-  abbrev rest : List ℕ
-  rest = drop (place + 1) bytes
-
-  pub one_more : place < length bytes → get_or bytes place 0 ≡ 1 → is_record number rest ≡ true → (p : List ℕ) → p ≡ take (payload_length rest) (drop 12 rest) → length p ≡ payload_length rest
-      → whole ≡ with_all (ps ++ p ∷ []) (read (length bytes - length (ps ++ p ∷ [])) (place + (13 + length p)) (number + 1) (drop (place + (13 + length p)) bytes))
-  one_more here gate is p p_is len =
-      let t = length bytes - (length ps + 1) in
-      let turns : t ≡ length bytes - length (ps ++ p ∷ []) = omega (arith, length-append ps (p ∷ [])) in
-      let onward : drop (12 + payload_length rest) rest ≡ drop (place + (13 + payload_length rest)) bytes = drop-drop (12 + payload_length rest) (place + 1) bytes ∙ ap (λ n. drop n bytes) (let e : place + 1 + (12 + payload_length rest) ≡ place + (13 + payload_length rest) = omega arith in e) in
-      so_far
-      ∙ ap (with_all ps) (
-      at_gate here gate
-      ∙ open_here t place number rest is
-      ∙ ap (λ (q : List ℕ). with_first q (read t (place + (13 + payload_length rest)) (number + 1) (drop (12 + payload_length rest) rest))) (sym p_is)
-      ∙ ap (λ (l : List ℕ). with_first p (read t (place + (13 + payload_length rest)) (number + 1) l)) onward
-      ∙ ap (λ n. with_first p (read t (place + (13 + n)) (number + 1) (drop (place + (13 + n)) bytes))) (sym len)
-      ∙ ap (λ n. with_first p (read n (place + (13 + length p)) (number + 1) (drop (place + (13 + length p)) bytes))) turns)
-      ∙ sym (with_all-push ps p _)
-
-  pub broken_one : place < length bytes → get_or bytes place 0 ≡ 1 → is_record number rest ≡ false → whole ≡ Err place
-  broken_one here gate isnt =
-      so_far ∙ ap (with_all ps) (at_gate here gate ∙ broken_here (length bytes - (length ps + 1)) place number rest isnt) ∙ with_all-Err ps place
-
-  all_read : read (length bytes - length ps) place number (drop place bytes) ≡ Ok [] → whole ≡ Ok ps
-  all_read done = so_far ∙ ap (with_all ps) done ∙ with_all-Ok ps [] ∙ ap Ok (append-nil ps)
-
-  pub past_end : length bytes ≤ place → whole ≡ Ok ps
-  past_end over = all_read (ap (λ (l : List ℕ). read (length bytes - length ps) place number l) (drop_all place bytes over) ∙ ended (length bytes - length ps) place number [] tt)
-
-  pub at_closed : place < length bytes → get_or bytes place 0 ≢ 1 → whole ≡ Ok ps
-  at_closed here shut = all_read (
-      ap (λ (l : List ℕ). read (length bytes - length ps) place number l) (drop_more bytes place 0 here)
-      ∙ ended (length bytes - length ps) place number (get_or bytes place 0 ∷ drop (place + 1) bytes) shut)

@@ -1,14 +1,17 @@
 -- A file that is read as whole is spelled so.
-use Rattle.std.proofs.Common.{◌≡◌, ◌≢◌, ℕ, ◌+◌, ◌*◌, ◌^◌, ◌<◌, ◌≤◌, List, [], ◌∷◌, ◌++◌, length, take, drop, true, false, refl, sym, ◌∙◌, ap, subst, arith, append_assoc, length-append, length-drop, w64}
+use Rattle.std.proofs.Common.{◌≡◌, ◌≢◌, inl, inr, ℕ, ◌+◌, ◌*◌, ◌^◌, ◌<◌, ◌≤◌, List, [], ◌∷◌, ◌++◌, length, take, drop, true, false, refl, sym, ◌∙◌, ap, subst, arith, append_assoc, length-append, length-drop, w64}
 use Rattle.std.specs.Prelude.{Bool, if◌then◌else◌, Option, Some, None, Result, Ok, Err, nat_le, ◌==◌, slice_index}
-use Rattle.std.specs.Int.{to_be_bytes}
+use Rattle.std.specs.Int.{to_be_bytes, from_be_bytes}
 use Rattle.std.specs.Str.{bytes_eq}
-use Rattle.std.proofs.lemmas.List.{drop_more}
+use Rattle.std.proofs.lemmas.List.{drop_more, drop-append-le, take-append-le, append-nil, get_or_append_left}
 use Rattle.std.proofs.lemmas.Bool.Decides.{nat_tests}
 use Rattle.std.proofs.lemmas.Slice.Eq.{bytes_eq-Decides}
 use Rattle.sb_journal.specs.Text.{File, magic, head, records, file_text, AreBytes, max_count}
 use Rattle.sb_journal.specs.Framing.{Framing, Whole, Damaged, Uncreated, first_failing, is_created, number_at, is_count, head_fault, read, payloads_in, file_with, whole_or_damaged, sound_or_damaged, framing}
-use Rattle.sb_journal.specs.Text.{Spells}
+use Rattle.sb_journal.specs.Text.{IsWithin, Spelled, Spells}
+use Rattle.sb_journal.specs.Opened.{IsHead}
+use Rattle.sb_journal.specs.Pieces.{BeginsWith}
+use Rattle.sb_journal.specs.declared.reading.Head.{Head}
 use Rattle.sb_journal.proofs.Frames.{length-records}
 use Rattle.sb_journal.proofs.Parts.{spelled, part, number_part, both, AreBytes-drop, AreBytes-take}
 
@@ -102,41 +105,111 @@ from_bytes_small bytes place are =
     let at = AreBytes-take 8 (drop place bytes) (AreBytes-drop place bytes are) in
     eight_bytes _ _ _ _ _ _ _ _ (at 0) (at 1) (at 2) (at 3) (at 4) (at 5) (at 6) (at 7)
 
-spells : (bytes : List ℕ) (ps : List (List ℕ)) → 43 ≤ length bytes → length bytes ≤ 2 ^ 62 → slice_index bytes 0 ≡ 1 → Sound bytes → AreBytes bytes → payloads_in bytes ≡ Ok ps → Spells (file_with bytes ps) bytes
-unfolding payloads_in file_text
-spells bytes ps long fits gate s are is =
-    let first = number_at 26 bytes in
-    let found = spelled (length bytes) 42 first (drop 42 bytes) ps (omega (arith, length-drop 42 bytes)) (AreBytes-drop 42 bytes are) is in
-    let h = head (number_at 10 bytes) (number_at 18 bytes) first 0 in
-    record {
-      rest = found.rest;
-      is =
-          head_text bytes long gate s are
-          ∙ ap (λ (l : List ℕ). 1 ∷ (h ++ l)) found.is
-          ∙ ap (λ (l : List ℕ). 1 ∷ l) (sym (append_assoc h (records first ps) found.rest));
-      ends = found.ends;
-      within = record {
-        salt = from_bytes_small bytes 10 are;
-        generation_least = s.generation_least;
-        generation_greatest = s.generation_greatest;
-        first_least = s.first_least;
-        first_greatest = s.first_greatest;
-        no_base = refl;
-        few =
-            let high = s.first_greatest in
-            omega (arith, length-records ps first, ap length found.is, length-append (records first ps) found.rest, length-drop 42 bytes);
-        short = found.short;
-      };
-    }
+-- the file with this head and these payloads
+abbrev pub file_of : Head → List (List ℕ) → File
+file_of h ps = record { salt = h.salt; generation = h.generation; first = h.first; base = []; payloads = ps }
+
+front_number : (place : ℕ) (part tail : List ℕ) → place + 8 ≤ length part → number_at place (part ++ tail) ≡ number_at place part
+front_number place part tail long =
+    ap (λ (l : List ℕ). from_be_bytes w64 (take 8 l)) (drop-append-le place part tail (omega (arith, long)))
+    ∙ ap (from_be_bytes w64) (take-append-le 8 (drop place part) tail (omega (arith, long, length-drop place part)))
+
+-- what a part that begins the bytes says of their head
+module _ (part bytes : List ℕ) (starts : BeginsWith part bytes) where
+  front_created : 43 ≤ length part → is_created (part ++ starts.tail) ≡ is_created part
+  front_created long =
+      let gate = get_or_append_left part starts.tail 0 0 (omega (arith, long)) in
+      let all = length-append part starts.tail in
+      grind (arith, nat_tests, gate, all, long)
+
+  front_fault : 43 ≤ length part → head_fault (part ++ starts.tail) ≡ head_fault part
+  unfolding head_fault
+  front_fault long =
+      let tail = starts.tail in
+      let words : take 8 (drop 1 (part ++ tail)) ≡ take 8 (drop 1 part) = ap (take 8) (drop-append-le 1 part tail (omega (arith, long))) ∙ take-append-le 8 (drop 1 part) tail (omega (arith, long, length-drop 1 part)) in
+      let version : slice_index (part ++ tail) 9 ≡ slice_index part 9 = get_or_append_left part tail 0 9 (omega (arith, long)) in
+      let generation = front_number 18 part tail (omega (arith, long)) in
+      let first = front_number 26 part tail (omega (arith, long)) in
+      let base = front_number 34 part tail (omega (arith, long)) in
+      cc
+
+  no_tail : starts.tail ≡ [] → bytes ≡ part
+  no_tail none = starts.is ∙ ap (λ (l : List ℕ). part ++ l) none ∙ append-nil part
+
+  pub created_by : (b : Bool) → is_created part ≡ b → is_created bytes ≡ b
+  created_by b is = elim starts.enough [
+    | inl long ↦ ap is_created starts.is ∙ front_created (omega (arith, long)) ∙ is
+    | inr none ↦ ap is_created (no_tail none) ∙ is
+  ]
+
+  pub fault_by : (o : Option ℕ) → is_created part ≡ true → head_fault part ≡ o → head_fault bytes ≡ o
+  fault_by o created is = ap head_fault starts.is ∙ front_fault (created_is part created).0 ∙ is
+
+  pub head_by : (h : Head) → IsHead h part → IsHead h bytes
+  head_by h is = record {
+    long = let long = is.long in omega (arith, ap length starts.is, length-append part starts.tail);
+    created = created_by true is.created;
+    sound = fault_by None is.created is.sound;
+    salt_is = is.salt_is ∙ sym (ap (number_at 10) starts.is ∙ front_number 10 part starts.tail (let long = is.long in omega arith));
+    generation_is = is.generation_is ∙ sym (ap (number_at 18) starts.is ∙ front_number 18 part starts.tail (let long = is.long in omega arith));
+    first_is = is.first_is ∙ sym (ap (number_at 26) starts.is ∙ front_number 26 part starts.tail (let long = is.long in omega arith));
+    first_fits = is.first_fits;
+  }
+
+  -- the text of a head with no base
+  head_by_part : (h : Head) → IsHead h part → AreBytes part → bytes ≡ 1 ∷ (head h.salt h.generation h.first 0 ++ drop 42 bytes)
+  head_by_part h is are =
+      let long = is.long in
+      let behind : drop 42 bytes ≡ drop 42 part ++ starts.tail = ap (drop 42) starts.is ∙ drop-append-le 42 part starts.tail (omega arith) in
+      let text : part ≡ 1 ∷ (head h.salt h.generation h.first 0 ++ drop 42 part) =
+      head_text part is.long (created_is part is.created).1 (sound part is.sound) are
+      ∙ ap (λ n. 1 ∷ (head n (number_at 18 part) (number_at 26 part) 0 ++ drop 42 part)) (sym is.salt_is)
+      ∙ ap (λ n. 1 ∷ (head h.salt n (number_at 26 part) 0 ++ drop 42 part)) (sym is.generation_is)
+      ∙ ap (λ n. 1 ∷ (head h.salt h.generation n 0 ++ drop 42 part)) (sym is.first_is) in
+      starts.is
+      ∙ ap (λ (l : List ℕ). l ++ starts.tail) text
+      ∙ ap (λ (l : List ℕ). 1 ∷ l) (append_assoc (head h.salt h.generation h.first 0) (drop 42 part) starts.tail)
+      ∙ ap (λ (l : List ℕ). 1 ∷ (head h.salt h.generation h.first 0 ++ l)) (sym behind)
+
+  module _ (h : Head) (ps : List (List ℕ)) (is : IsHead h part) (are : AreBytes part) (fits : length bytes ≤ 2 ^ 62) (found : Spelled h.first ps (drop 42 bytes)) where
+    text_is : bytes ≡ file_text (file_of h ps) ++ found.rest
+    unfolding file_text
+    text_is =
+        let front = head h.salt h.generation h.first 0 in
+        head_by_part h is are
+        ∙ ap (λ (l : List ℕ). 1 ∷ (front ++ l)) found.is
+        ∙ ap (λ (l : List ℕ). 1 ∷ l) (sym (append_assoc front (records h.first ps) found.rest))
+
+    its_within : IsWithin (file_of h ps)
+    its_within =
+        let s = sound part is.sound in
+        let long = length-drop 42 bytes in
+        record {
+          salt = let small = from_bytes_small part 10 are in omega (arith, is.salt_is, small);
+          generation_least = let least = s.generation_least in omega (arith, is.generation_is);
+          generation_greatest = let greatest = s.generation_greatest in omega (arith, is.generation_is);
+          first_least = let least = s.first_least in omega (arith, is.first_is);
+          first_greatest = is.first_fits;
+          no_base = refl;
+          few = omega (arith, is.first_fits, fits, length-records ps h.first, ap length found.is, length-append (records h.first ps) found.rest, long);
+          short = found.short;
+        }
+
+    pub spells_by : Spells (file_of h ps) bytes
+    spells_by = record { rest = found.rest; is = text_is; ends = found.ends; within = its_within }
 
 pub spells_only : (bytes : List ℕ) (f : File) → AreBytes bytes → length bytes ≤ 2 ^ 62 → framing bytes ≡ Whole f → Spells f bytes
-unfolding framing
+unfolding framing payloads_in
 spells_only bytes f are fits e =
     let a = where_created (is_created bytes) (sound_or_damaged bytes (head_fault bytes)) f e in
     let b = where_sound bytes (head_fault bytes) f a.1 in
     let c = where_whole bytes (payloads_in bytes) f b.1 in
-    let t = created_is bytes a.0 in
-    subst (λ g. Spells g bytes) (sym c.2) (spells bytes c.0 t.0 fits t.1 (sound bytes b.0) are c.1)
+    let first = number_at 26 bytes in
+    let h : Head = record { salt = number_at 10 bytes; generation = number_at 18 bytes; first = first } in
+    let all : BeginsWith bytes bytes = record { tail = []; is = sym (append-nil bytes); enough = inr refl } in
+    let is : IsHead h bytes = record { long = (created_is bytes a.0).0; created = a.0; sound = b.0; salt_is = refl; generation_is = refl; first_is = refl; first_fits = (sound bytes b.0).first_greatest } in
+    let found = spelled (length bytes) 42 first (drop 42 bytes) c.0 (omega (arith, length-drop 42 bytes)) (AreBytes-drop 42 bytes are) c.1 in
+    subst (λ g. Spells g bytes) (sym c.2) (spells_by bytes bytes all h c.0 is are fits found)
 
 pub not_created : (bytes : List ℕ) → is_created bytes ≡ false → framing bytes ≡ Uncreated
 unfolding framing
@@ -164,7 +237,3 @@ test_short bytes short = grind (arith, nat_tests)
 
 pub test_closed : (bytes : List ℕ) → slice_index bytes 0 ≢ 1 → is_created bytes ≡ false
 test_closed bytes shut = grind (arith, nat_tests)
-
-pub same_file : (bytes : List ℕ) (salt generation first : ℕ) (ps qs : List (List ℕ)) → salt ≡ number_at 10 bytes → generation ≡ number_at 18 bytes → first ≡ number_at 26 bytes → qs ≡ ps
-    → Whole (file_with bytes ps) ≡ Whole (record { salt = salt; generation = generation; first = first; base = []; payloads = qs })
-same_file bytes salt generation first ps qs salt_is generation_is first_is ps_is = cc

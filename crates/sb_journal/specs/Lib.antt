@@ -5,5 +5,6 @@ pub mod Journals
 pub mod Laws
 pub mod Moments
 pub mod Opened
+pub mod Pieces
 pub mod Text
 pub mod Unopened

@@ -1,15 +1,18 @@
 -- What two disks stand for, and what an opening says of it.
-use Rattle.std.specs.Prelude.{◌≡◌, ◌⊎◌, ◌≤◌, ◌+◌, ◌&&◌, ◌==◌, ◌^◌, ℕ, List, [], length, nat_lt, slice_index, true}
+use Rattle.std.specs.Prelude.{◌≡◌, ◌⊎◌, ◌≤◌, ◌+◌, ◌&&◌, ◌==◌, ◌^◌, ℕ, Bool, List, [], Some, None, length, nat_lt, slice_index, true, false}
 use Rattle.sb_outside.specs.Held.{Held, at_rest}
 use Rattle.sb_journal.specs.declared.found.Side.{Side}
 use Rattle.sb_journal.specs.declared.found.Side.TheVariants.{A}
 use Rattle.sb_journal.specs.declared.found.Found.{Found}
+use Rattle.sb_journal.specs.declared.reading.Head.{Head}
+use Rattle.sb_journal.specs.declared.reading.HeadFault.{HeadFault}
+use Rattle.sb_journal.specs.declared.reading.HeadFault.TheVariants.{NoHead, BadHead}
 use Rattle.sb_journal.specs.declared.reading.Stand.{Stand}
 use Rattle.sb_journal.specs.declared.reading.Ending.{Ending}
 use Rattle.sb_journal.specs.declared.reading.Reading.{Reading}
 use Rattle.sb_journal.specs.declared.reading.Reading.TheVariants.{NoFile, AFile, BadFile}
-use Rattle.sb_journal.specs.Text.{File, new_file, file_text, with_payload, AreBytes, Spells}
-use Rattle.sb_journal.specs.Framing.{Framing, Uncreated, Whole, Damaged, framing, is_created}
+use Rattle.sb_journal.specs.Text.{File, new_file, file_text, with_payload, Spells, HasText}
+use Rattle.sb_journal.specs.Framing.{Framing, Uncreated, Whole, Damaged, framing, is_created, head_fault, number_at}
 
 pub data Opened : Type 0 where
   -- this disk's file counts
@@ -45,14 +48,18 @@ stand_file s = record { salt = s.salt; generation = s.generation; first = s.firs
 -- where its end gate is, and which number comes next
 pub record IsStand (s : Stand) : Type 0 where
   pub end_is : s.end ≡ length (file_text (stand_file s))
+  pub end_fits : s.end ≤ 2 ^ 62
   pub next_is : s.next ≡ s.first + length s.payloads.items
   pub next_fits : s.next ≤ 2 ^ 62 + s.end
 
+-- whether this place has a closed gate
+abbrev pub is_shut : ℕ → List ℕ → Bool
+is_shut place bytes = nat_lt place (length bytes) && (slice_index bytes place == 0)
+
 pub record IsWholeStand (s : Stand) (bytes : List ℕ) : Type 0 where
   pub whole : framing bytes ≡ Whole (stand_file s)
-  pub spells : length bytes ≤ 2 ^ 62 → Spells (stand_file s) bytes
-  pub stand : IsStand s
-  pub inside : s.end ≤ length bytes
+  pub spells : Spells (stand_file s) bytes
+  pub closed : s.closed ≡ is_shut s.end bytes
 
 -- what was read is what the bytes stand for
 abbrev pub IsReading : Reading → List ℕ → Type 0
@@ -60,13 +67,27 @@ IsReading NoFile bytes = framing bytes ≡ Uncreated
 IsReading (AFile s) bytes = IsWholeStand s bytes
 IsReading (BadFile place) bytes = framing bytes ≡ Damaged place
 
+-- the head of a file that can be read so far
+pub record IsHead (h : Head) (bytes : List ℕ) : Type 0 where
+  pub long : 43 ≤ length bytes
+  pub created : is_created bytes ≡ true
+  pub sound : head_fault bytes ≡ None
+  pub salt_is : h.salt ≡ number_at 10 bytes
+  pub generation_is : h.generation ≡ number_at 18 bytes
+  pub first_is : h.first ≡ number_at 26 bytes
+  pub first_fits : h.first ≤ 2 ^ 62
+
+-- why there is none
+abbrev pub IsNoHead : HeadFault → List ℕ → Type 0
+IsNoHead NoHead bytes = is_created bytes ≡ false
+IsNoHead (BadHead place) bytes = (is_created bytes ≡ true) × (head_fault bytes ≡ Some place)
+
 -- A disk was read and not written to, and this is where the file ends that counts.
 pub record IsRead (held : Held) (ending : Ending) : Type 0 where
   pub rests : held ≡ at_rest held.seen
-  pub bytes : AreBytes held.seen
-  pub small : length held.seen ≤ 2 ^ 62
+  pub text : (file : File) → framing held.seen ≡ Whole file → HasText file held.seen
   pub made : ending.made ≡ is_created held.seen
   pub inside : ending.made ≡ true → ending.end ≤ length held.seen
-  pub closed : ending.made ≡ true → ending.closed ≡ (nat_lt ending.end (length held.seen) && (slice_index held.seen ending.end == 0))
+  pub closed : ending.made ≡ true → ending.closed ≡ is_shut ending.end held.seen
   pub end : (salt : ℕ) (file : File) → opened_alone salt (framing held.seen) ≡ Stands A file → ending.end ≡ length (file_text file)
   pub next : (salt : ℕ) (file : File) → opened_alone salt (framing held.seen) ≡ Stands A file → ending.next ≡ file.first + length file.payloads

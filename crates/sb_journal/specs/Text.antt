@@ -1,5 +1,5 @@
 -- What a journal file says, byte by byte.
-use Rattle.std.specs.Prelude.{◌≡◌, ◌≢◌, ◌≤◌, ◌<◌, ◌+◌, ◌^◌, ℕ, List, [], ◌∷◌, ◌++◌, length, slice_index}
+use Rattle.std.specs.Prelude.{◌≡◌, ◌≢◌, ◌≤◌, ◌<◌, ◌+◌, ◌^◌, ℕ, List, [], ◌∷◌, ◌++◌, length, drop, slice_index, slice_index_or}
 use Rattle.std.specs.Int.{w32, w64, to_be_bytes}
 
 -- what a journal file stands for
@@ -85,6 +85,13 @@ abbrev pub Ends : List ℕ → Type 0
 Ends [] = Unit {0}
 Ends (gate ∷ tail) = gate ≢ 1
 
+-- open records of these payloads stand there, and then what ends them
+pub record Spelled (number : ℕ) (payloads : List (List ℕ)) (bytes : List ℕ) : Type 0 where
+  pub rest : List ℕ
+  pub is : bytes ≡ records number payloads ++ rest
+  pub ends : Ends rest
+  pub short : AreShort payloads
+
 abbrev pub AreBytes : List ℕ → Type 0
 AreBytes bytes = (k : ℕ) → slice_index bytes k < 256
 
@@ -94,3 +101,16 @@ pub record Spells (f : File) (bytes : List ℕ) : Type 0 where
   pub is : bytes ≡ file_text f ++ rest
   pub ends : Ends rest
   pub within : IsWithin f
+
+-- the same by facts of which each has one proof
+pub record HasText (f : File) (bytes : List ℕ) : Type 0 where
+  pub is : bytes ≡ file_text f ++ drop (length (file_text f)) bytes
+  pub ends : length (file_text f) < length bytes → slice_index bytes (length (file_text f)) ≢ 1
+  pub salt : f.salt < 2 ^ 64
+  pub generation_least : 1 ≤ f.generation
+  pub generation_greatest : f.generation ≤ max_count
+  pub first_least : 1 ≤ f.first
+  pub first_greatest : f.first ≤ max_count
+  pub no_base : f.base ≡ []
+  pub few : f.first + length f.payloads ≤ 2 ^ 64
+  pub short : (k : ℕ) → length (slice_index_or f.payloads k []) ≤ max_payload

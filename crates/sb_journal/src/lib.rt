@@ -21,6 +21,7 @@ mod found;
 mod journal;
 pub mod laws;
 mod opening;
+mod piece;
 mod reading;
 #[cfg(test)]
 mod tests;

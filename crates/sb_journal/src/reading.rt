@@ -1,13 +1,19 @@
-// What the bytes of a disk stand for: each byte is looked at once.
-ghost use Rattle.std.specs.Prelude.{◌≡◌, ◌≤◌, ◌+◌, ◌^◌, List, ℕ, length, take, drop, true, false, Ok, Err, Some, None, IfOk, IfErr, IfSome, IfNone};
+// What the bytes of a disk stand for: they are read a piece at a time, and each record once.
+ghost use Rattle.std.specs.Prelude.{◌≡◌, ◌≢◌, ◌≤◌, ◌<◌, ◌+◌, ◌++◌, ◌∷◌, [], ◌^◌, ◌==◌, ◌&&◌, nat_lt, List, ℕ, IsTrue, length, take, drop, slice_index, true, false, Err, Some, IfOk, IfErr, IfSome, IfNone, OnOk, OnErr};
 ghost use Rattle.std.specs.Int.{w32, w64, from_be_bytes};
 ghost use Rattle.std.specs.Str.{bytes_eq};
-ghost use Rattle.sb_journal.specs.Text.{max_payload, magic, records};
-ghost use Rattle.sb_journal.specs.Framing.{is_created, is_count, head_fault, payload_length, is_record, read};
-ghost use Rattle.sb_journal.specs.Opened.{IsReading};
-ghost use Rattle.sb_journal.specs.declared.reading.RecordsFault.TheVariants.{Broken};
+ghost use Rattle.sb_outside.specs.Causes.{RoseByOne};
+ghost use Rattle.sb_journal.specs.Text.{max_payload, magic, records, AreBytes, Spelled};
+ghost use Rattle.sb_journal.specs.Framing.{is_count, head_fault, payload_length, is_record, read};
+ghost use Rattle.sb_journal.specs.Opened.{IsReading, IsStand, IsHead, IsNoHead, is_shut};
+ghost use Rattle.sb_journal.specs.Pieces.{HasPlace, IsPiece, BeginsWith, seen_from};
+ghost use Rattle.sb_journal.specs.declared.reading.Stand.{Stand};
+ghost use Rattle.sb_journal.specs.declared.reading.RecordsFault.TheVariants.{Broken, Unread};
+ghost use Rattle.sb_journal.specs.declared.reading.Reading.TheVariants.{AFile};
 
 use crate::Bytes;
+use crate::piece::{BytesFault, Piece};
+use sb_outside::Disk;
 use std::alloc::{AllocError, Global};
 
 // The bytes from a file's gate to its base.
@@ -85,12 +91,72 @@ fn damage_of_head(bytes: &[u8]) -> Option<u64>
     None
 }
 
+// What is said before the base of a file.
+#[derive(Clone, Copy)]
+pub(crate) struct Head {
+    pub(crate) salt: u64,
+    pub(crate) generation: u64,
+    pub(crate) first: u64,
+}
+
+#[derive(Clone, Copy)]
+pub(crate) enum HeadFault {
+    // There is no file.
+    NoHead,
+    // The place of the damage.
+    BadHead(u64),
+}
+
+// The head of the file that begins so.
+fn head_of(bytes: &[u8]) -> Result<Head, HeadFault>
+    ensures ok { IfOk result (λ h. IsHead h bytes.now) }
+    ensures bytes { OnOk result (AreBytes bytes.now) }
+    ensures none { IfErr result (λ e. IsNoHead e bytes.now) }
+{
+    if bytes.len() < 43 || bytes[0] != 1 {
+        return Err(HeadFault::NoHead);
+    }
+    if let Some(place) = damage_of_head(bytes) {
+        return Err(HeadFault::BadHead(place));
+    }
+    Ok(Head {
+        salt: number_at(bytes, 10),
+        generation: number_at(bytes, 18),
+        first: number_at(bytes, 26),
+    })
+}
+
+// Whether an open gate stands there.
+fn is_open(rest: &[u8]) -> bool
+    ensures open { result ≡ true → (1 ≤ length rest.now) × (slice_index rest.now 0 ≡ 1) }
+    ensures not { result ≡ false → 1 ≤ length rest.now → slice_index rest.now 0 ≢ 1 }
+{
+    !rest.is_empty() && rest[0] == 1
+}
+
+// Whether a closed gate stands there.
+fn is_closed(rest: &[u8]) -> bool
+    ensures { result ≡ is_shut 0 rest.now }
+{
+    !rest.is_empty() && rest[0] == 0
+}
+
+// What stands behind a gate.
+fn behind(rest: &[u8]) -> &[u8]
+    requires { 1 ≤ length rest.now }
+    ensures value { result.now ≡ drop 1 rest.now }
+    ensures bytes { AreBytes rest.now }
+{
+    &rest[1..]
+}
+
 // The payload of the record of this number behind a gate, where there is one.
 #[tactic(auto, unfolding(crate::specs::Framing::is_record))]
 fn record_behind(rest: &[u8], number: u64) -> Option<&[u8]>
     ensures some { IfSome result (λ p. (is_record number rest.now ≡ true) × (p.now ≡ take (payload_length rest.now) (drop 12 rest.now)) × (length p.now ≡ payload_length rest.now)) }
     ensures none { IfNone result (is_record number rest.now ≡ false) }
     ensures inside { IfSome result (λ p. 12 + length p.now ≤ length rest.now) }
+    ensures short { IfSome result (λ p. length p.now ≤ max_payload) }
 {
     if rest.len() < 12 {
         return None;
@@ -102,49 +168,83 @@ fn record_behind(rest: &[u8], number: u64) -> Option<&[u8]>
     Some(&rest[12..12 + len])
 }
 
-// The records of a file, the place of its end gate and the number that comes next.
+// One payload more.
+fn keep(alloc: Global, payloads: &mut Vec<Bytes>, payload: &[u8]) -> Result<(), AllocError>
+    ensures { OnOk result (payloads.new.items ≡ payloads.old.items ++ payload.now ∷ []) }
+{
+    let kept = Bytes::of(alloc, payload)?;
+    match payloads.push(kept) {
+        Ok(()) => Ok(()),
+        Err(_) => Err(AllocError),
+    }
+}
+
+// The records of a file, the place of its end gate, whether that is closed, and the number that
+// comes next.
 #[derive(Drop)]
 pub(crate) struct Records {
     pub(crate) payloads: Vec<Bytes>,
     pub(crate) end: usize,
+    pub(crate) closed: bool,
     pub(crate) next: u64,
 }
 
-#[derive(Drop)]
+#[derive(Clone, Copy)]
 pub(crate) enum RecordsFault {
     // The place of the gate of a record that can't be.
     Broken(u64),
-    OutOfMemory,
+    Unread(BytesFault),
 }
 
-fn records_of(alloc: Global, bytes: &[u8], first: u64) -> Result<Records, RecordsFault>
-    requires long { 42 ≤ length bytes.now }
+// The records behind the head, of which this is the first piece.
+fn records_of<D: Disk>(
+    alloc: Global,
+    disk: &mut D,
+    piece: Piece,
+    first: u64,
+) -> Result<Records, RecordsFault>
     requires first { first ≤ 2 ^ 62 }
-    ensures ok { IfOk result (λ r. read (length bytes.now) 42 first (drop 42 bytes.now) ≡ Ok r.payloads.items) }
+    requires place { HasPlace piece 42 }
+    requires piece { IsTrue (D.honest disk.old) → IsPiece piece (D.held disk.old).seen }
+    ensures honesty { D.honest disk.new ≡ D.honest disk.old }
+    ensures records { IsTrue (D.honest disk.old) → IfOk result (λ r. Spelled first r.payloads.items (drop 42 (D.held disk.old).seen)) }
+    ensures closed { IsTrue (D.honest disk.old) → IfOk result (λ r. r.closed ≡ is_shut r.end (D.held disk.old).seen) }
     ensures end { IfOk result (λ r. r.end ≡ 42 + length (records first r.payloads.items)) }
-    ensures inside { IfOk result (λ r. r.end ≤ length bytes.now) }
+    ensures end_fits { IfOk result (λ r. r.end ≤ 2 ^ 62) }
     ensures next { IfOk result (λ r. r.next ≡ first + length r.payloads.items) }
-    ensures broken { IfErr result (λ e. (place : ℕ) → e ≡ Broken place → read (length bytes.now) 42 first (drop 42 bytes.now) ≡ Err place) }
+    ensures broken { IsTrue (D.honest disk.old) → IfErr result (λ e. (place : ℕ) → e ≡ Broken place
+        → read (length (D.held disk.old).seen) 42 first (drop 42 (D.held disk.old).seen) ≡ Err place) }
+    ensures same { IsTrue (D.honest disk.old) → (D.held disk.new ≡ D.held disk.old) × (D.past disk.new ≡ D.past disk.old) }
+    ensures later { D.count disk.old ≤ D.count disk.new }
+    ensures passed { OnOk result (D.count disk.new ≡ D.count disk.old) }
+    ensures cause { IfErr result (λ e. e ≡ Unread BytesFault.Disk → RoseByOne (D.count disk.old) (D.count disk.new)) }
+    ensures others { IfErr result (λ e. e ≢ Unread BytesFault.Disk → D.count disk.new ≡ D.count disk.old) }
 {
+    let mut piece = piece;
     let mut payloads = Vec::new(alloc);
     let mut place = HEAD_BYTES;
     let mut number = first;
-    'records: while place < bytes.len() && bytes[place] == 1 {
-        let Some(payload) = record_behind(&bytes[place + 1..], number) else {
+    let Ok(()) = piece.look_on(disk, place) else {
+        return Err(RecordsFault::Unread(BytesFault::Disk));
+    };
+    'records: while is_open(piece.rest(place)) {
+        let Some(payload) = record_behind(behind(piece.rest(place)), number) else {
             return Err(RecordsFault::Broken(place as u64));
         };
-        let Ok(kept) = Bytes::of(alloc, payload) else {
-            return Err(RecordsFault::OutOfMemory);
-        };
-        let Ok(()) = payloads.push(kept) else {
-            return Err(RecordsFault::OutOfMemory);
+        let Ok(()) = keep(alloc, &mut payloads, payload) else {
+            return Err(RecordsFault::Unread(BytesFault::Memory));
         };
         place += 13 + payload.len();
         number += 1;
+        let Ok(()) = piece.look_on(disk, place) else {
+            return Err(RecordsFault::Unread(BytesFault::Disk));
+        };
     }
+    let closed = is_closed(piece.rest(place));
     Ok(Records {
         payloads,
         end: place,
+        closed,
         next: number,
     })
 }
@@ -158,6 +258,8 @@ pub(crate) struct Stand {
     pub(crate) payloads: Vec<Bytes>,
     // The place of the end gate.
     pub(crate) end: u64,
+    // Whether the end gate is closed.
+    pub(crate) closed: bool,
     // The number of the next record.
     pub(crate) next: u64,
 }
@@ -183,39 +285,51 @@ pub(crate) enum Reading {
 }
 
 // The file with this head and these records.
-fn stand_of(bytes: &[u8], records: Records) -> Stand
-    requires { 43 ≤ length bytes.now }
-    ensures salt { result.salt ≡ from_be_bytes w64 (take 8 (drop 10 bytes.now)) }
-    ensures generation { result.generation ≡ from_be_bytes w64 (take 8 (drop 18 bytes.now)) }
-    ensures first { result.first ≡ from_be_bytes w64 (take 8 (drop 26 bytes.now)) }
+fn stand_of(head: Head, records: Records) -> Stand
+    ensures salt { result.salt ≡ head.salt }
+    ensures generation { result.generation ≡ head.generation }
+    ensures first { result.first ≡ head.first }
     ensures payloads { result.payloads.items ≡ records.payloads.items }
     ensures end { result.end ≡ records.end }
+    ensures closed { result.closed ≡ records.closed }
     ensures next { result.next ≡ records.next }
 {
     Stand {
-        salt: number_at(bytes, 10),
-        generation: number_at(bytes, 18),
-        first: number_at(bytes, 26),
+        salt: head.salt,
+        generation: head.generation,
+        first: head.first,
         payloads: records.payloads,
         end: records.end as u64,
+        closed: records.closed,
         next: records.next,
     }
 }
 
 // What the bytes of a disk stand for.
-pub(crate) fn reading_of(alloc: Global, bytes: &[u8]) -> Result<Reading, AllocError>
-    ensures { IfOk result (λ r. IsReading r bytes.now) }
+pub(crate) fn reading_of<D: Disk>(alloc: Global, disk: &mut D) -> Result<Reading, BytesFault>
+    ensures honesty { D.honest disk.new ≡ D.honest disk.old }
+    ensures reading { IsTrue (D.honest disk.old) → IfOk result (λ r. IsReading r (D.held disk.old).seen) }
+
+    // Whatever the disk is.
+    ensures stand { IfOk result (λ r. (s : Stand) → r ≡ AFile s → IsStand s) }
+    ensures same { IsTrue (D.honest disk.old) → (D.held disk.new ≡ D.held disk.old) × (D.past disk.new ≡ D.past disk.old) }
+    ensures later { D.count disk.old ≤ D.count disk.new }
+    ensures passed { OnOk result (D.count disk.new ≡ D.count disk.old) }
+    ensures cause { IfErr result (λ e. e ≡ BytesFault.Disk → RoseByOne (D.count disk.old) (D.count disk.new)) }
+    ensures memory { IfErr result (λ e. e ≢ BytesFault.Disk → D.count disk.new ≡ D.count disk.old) }
 {
-    if bytes.len() < 43 || bytes[0] != 1 {
-        return Ok(Reading::NoFile);
-    }
-    if let Some(place) = damage_of_head(bytes) {
-        return Ok(Reading::BadFile(place));
-    }
-    let first = number_at(bytes, 26);
-    match records_of(alloc, bytes, first) {
-        Ok(records) => Ok(Reading::AFile(stand_of(bytes, records))),
+    let piece = match Piece::first(alloc, disk) {
+        Ok(piece) => piece,
+        Err(fault) => return Err(fault),
+    };
+    let head = match head_of(piece.rest(0)) {
+        Ok(head) => head,
+        Err(HeadFault::NoHead) => return Ok(Reading::NoFile),
+        Err(HeadFault::BadHead(place)) => return Ok(Reading::BadFile(place)),
+    };
+    match records_of(alloc, disk, piece, head.first) {
+        Ok(records) => Ok(Reading::AFile(stand_of(head, records))),
         Err(RecordsFault::Broken(place)) => Ok(Reading::BadFile(place)),
-        Err(RecordsFault::OutOfMemory) => Err(AllocError),
+        Err(RecordsFault::Unread(fault)) => Err(fault),
     }
 }

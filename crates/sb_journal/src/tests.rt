@@ -73,6 +73,43 @@ fn tells_the_place_of_damage(rt: HostRuntime) -> Result<(), Fail> {
     Ok(())
 }
 
+// The fourth record's gate, behind the head and three records of 900,000 bytes.
+const FOURTH: usize = 42 + 3 * 900_013;
+
+#[test]
+fn reads_a_file_of_several_pieces(rt: HostRuntime) -> Result<(), Fail> {
+    let alloc = rt.alloc();
+    let long = vec![in alloc; 7; 900_000]?;
+    let a = disk_of(alloc, &[])?;
+    let b = disk_of(alloc, &[])?;
+    let Ok((mut journal, _found)) = Journal::open(alloc, a, b, SALT) else {
+        return Err(Fail::from("not opened"));
+    };
+    assert_eq!(rt; journal.append(&long), Ok(1));
+    assert_eq!(rt; journal.append(&long), Ok(2));
+    assert_eq!(rt; journal.append(&long), Ok(3));
+    assert_eq!(rt; journal.append(b"four"), Ok(4));
+    let (a, b) = journal.close();
+    let mut bytes = a.bytes().to_vec(alloc)?;
+    let Ok((journal, found)) = Journal::open(alloc, a, b, SALT) else {
+        return Err(Fail::from("not opened again"));
+    };
+    assert_eq!(rt; found.payloads.len(), 4);
+    assert!(rt; found.payloads[2].as_slice() == long.as_slice());
+    assert_eq!(rt; found.payloads[3].as_slice(), b"four".as_slice());
+    let (_a, b) = journal.close();
+    // The last byte of its number.
+    if let Some(byte) = bytes.get_mut(FOURTH + 12) {
+        *byte = 9;
+    }
+    let a = MemDisk::new(alloc, bytes, Vec::new(alloc))?;
+    let Err(fault) = Journal::open(alloc, a, b, SALT) else {
+        return Err(Fail::from("read on"));
+    };
+    assert_eq!(rt; fault.why, OpenWhy::Damaged(Side::A, FOURTH as u64));
+    Ok(())
+}
+
 #[test]
 fn closes_a_torn_end(rt: HostRuntime) -> Result<(), Fail> {
     let alloc = rt.alloc();

@@ -1,41 +1,66 @@
-use Rattle.std.proofs.Common.{◌≡◌, length, ap, sym, ◌∙◌, arith}
-use Rattle.std.specs.Prelude.{Ok, Err}
-use Rattle.sb_journal.specs.Text.{records}
-use Rattle.sb_journal.specs.Opened.{stand_file}
-use Rattle.sb_journal.proofs.Frames.{length-records}
-use Rattle.sb_journal.proofs.Heads.{length-file_text}
-use Rattle.sb_journal.proofs.Wholes as wholes
-use Rattle.sb_journal.proofs.reading.reading_of.Goals.{then-bytes-lt43-via-then-bytes-lt43, then-bytes-lt43-via-else-bytes-lt43+then-bytes-ne1}
+use Rattle.std.proofs.Common.{◌≡◌, ℕ, List, length, drop, ap, sym, ◌∙◌, subst}
+use Rattle.std.specs.Prelude.{IsTrue, Err}
+use Rattle.sb_journal.specs.Text.{Spelled}
+use Rattle.sb_journal.specs.Framing.{read}
+use Rattle.sb_journal.specs.Opened.{is_shut, IsNoHead, IsStand}
+use Rattle.sb_journal.specs.Pieces.{BeginsWith}
+use Rattle.sb_journal.proofs.Readings as readings
 use Rattle.sb_journal.proofs.reading.reading_of.Goals as goal
 
-pub returns-then-bytes-lt43 : goal.returns-then-bytes-lt43
-returns-then-bytes-lt43 c = elim c.then-bytes-lt43.branch [
-  | then-bytes-lt43-via-then-bytes-lt43 w ↦ wholes.not_created c.args.bytes.now (wholes.test_short c.args.bytes.now w.if-bytes-lt43.true)
-  | then-bytes-lt43-via-else-bytes-lt43+then-bytes-ne1 w ↦ wholes.not_created c.args.bytes.now (wholes.test_closed c.args.bytes.now w.if-bytes-ne1.true)
-]
+pub returns-in-Err-NoHead-clause-reading : goal.returns-in-Err-NoHead-clause-reading
+returns-in-Err-NoHead-clause-reading g c honest =
+    let bytes = (g.D.Disk.held c.args.disk.now).seen in
+    let part = c.rest.result.now in
+    let starts : BeginsWith part bytes = subst (λ (l : List ℕ). BeginsWith l bytes) (sym c.rest.ensures) (c.in-Ok.ensures.piece honest).1 in
+    readings.no_file part bytes starts (subst (λ e. IsNoHead e part) c.in-Err-NoHead.field-0-is c.in-Err-NoHead.ensures.none)
 
-pub returns-in-Some : goal.returns-in-Some
-returns-in-Some c = wholes.head_damaged c.args.bytes.now c.in-Some.place (wholes.test_created c.args.bytes.now c.if-bytes-lt43.false c.if-bytes-ne1.false) (sym c.in-Some.ensures.place)
+pub returns-in-Err-BadHead-clause-reading : goal.returns-in-Err-BadHead-clause-reading
+returns-in-Err-BadHead-clause-reading g c honest =
+    let bytes = (g.D.Disk.held c.args.disk.now).seen in
+    let part = c.rest.result.now in
+    let starts : BeginsWith part bytes = subst (λ (l : List ℕ). BeginsWith l bytes) (sym c.rest.ensures) (c.in-Ok.ensures.piece honest).1 in
+    let bad = readings.bad_head part bytes starts c.in-Err-BadHead.place (subst (λ e. IsNoHead e part) c.in-Err-BadHead.field-0-is c.in-Err-BadHead.ensures.none) in
+    let place_is = c.in-Err-BadHead.place-is in
+    cc
 
-pub returns-in-Err-Broken : goal.returns-in-Err-Broken
-returns-in-Err-Broken c =
-    wholes.with_records c.args.bytes.now c.number_at-first.result (Err c.in-Err-Broken.place) (wholes.test_created c.args.bytes.now c.if-bytes-lt43.false c.if-bytes-ne1.false) (sym c.in_default.ensures.place) c.number_at-first.ensures (c.in-Err-Broken.ensures.broken c.in-Err-Broken.place c.in-Err-Broken.field-0-is)
+pub returns-in-Err-Broken-clause-reading : goal.returns-in-Err-Broken-clause-reading
+returns-in-Err-Broken-clause-reading g c honest =
+    let bytes = (g.D.Disk.held c.args.disk.now).seen in
+    let part = c.rest.result.now in
+    let starts : BeginsWith part bytes = subst (λ (l : List ℕ). BeginsWith l bytes) (sym c.rest.ensures) (c.in-Ok.ensures.piece honest).1 in
+    let first = c.in-Ok-head_of.head.first in
+    let place = c.in-Err-Broken.place in
+    let same : (g.D.Disk.held c.first.new.disk).seen ≡ bytes = ap (λ h. h.seen) (c.first.ensures.same honest).0 in
+    let Breaks : List ℕ → Type 0 = λ s. read (length s) 42 first (drop 42 s) ≡ Err place in
+    let broken = subst Breaks same (c.in-Err-Broken.ensures.broken (subst IsTrue (sym c.first.ensures.honesty) honest) place c.in-Err-Broken.field-0-is) in
+    let bad = readings.bad_record part bytes starts c.in-Ok-head_of.head place c.in-Ok-head_of.ensures.ok broken in
+    let place_is = c.in-Err-Broken.place-is in
+    cc
 
-pub returns-in-Ok : goal.returns-in-Ok
-returns-in-Ok c =
-    let ps = c.in-Ok.records.payloads.items in
-    let s = c.stand_of.result in
-    let whole = wholes.with_records c.args.bytes.now c.number_at-first.result (Ok ps) (wholes.test_created c.args.bytes.now c.if-bytes-lt43.false c.if-bytes-ne1.false) (sym c.in_default.ensures.place) c.number_at-first.ensures c.in-Ok.ensures.ok in
-    let first_is : s.first ≡ c.number_at-first.result = c.stand_of.ensures.first ∙ sym c.number_at-first.ensures in
-    let text = ap length (ap (records s.first) c.stand_of.ensures.payloads ∙ ap (λ n. records n ps) first_is) in
-    let is_whole = whole ∙ wholes.same_file c.args.bytes.now s.salt s.generation s.first ps s.payloads.items c.stand_of.ensures.salt c.stand_of.ensures.generation c.stand_of.ensures.first c.stand_of.ensures.payloads in
-    record {
-      whole = is_whole;
-      spells = λ small. wholes.spells_only c.args.bytes.now (stand_file s) (λ k. (c.type_inv.bytes k).fits) small is_whole;
-      stand = record {
-        end_is = omega (arith, c.stand_of.ensures.end, c.in-Ok.ensures.end, text, length-file_text (stand_file s));
-        next_is = omega (arith, c.stand_of.ensures.next, c.in-Ok.ensures.next, first_is, ap length c.stand_of.ensures.payloads);
-        next_fits = omega (arith, c.stand_of.ensures.next, c.in-Ok.ensures.next, c.in_default.ensures.first, c.number_at-first.ensures, c.stand_of.ensures.end, c.in-Ok.ensures.end, length-records ps c.number_at-first.result);
-      };
-      inside = omega (arith, c.stand_of.ensures.end, c.in-Ok.ensures.inside);
-    }
+pub returns-in-Ok-records_of-clause-reading : goal.returns-in-Ok-records_of-clause-reading
+returns-in-Ok-records_of-clause-reading g c honest =
+    let bytes = (g.D.Disk.held c.args.disk.now).seen in
+    let part = c.rest.result.now in
+    let starts : BeginsWith part bytes = subst (λ (l : List ℕ). BeginsWith l bytes) (sym c.rest.ensures) (c.in-Ok.ensures.piece honest).1 in
+    let head = c.in-Ok-head_of.head in
+    let ps = c.in-Ok-records_of.records.payloads.items in
+    let end = c.in-Ok-records_of.records.end in
+    let next = c.in-Ok-records_of.records.next in
+    let e = c.stand_of.ensures in
+    let parts : readings.HasParts c.stand_of.result head ps end next = record { salt = e.salt; generation = e.generation; first = e.first; payloads = e.payloads; end_is = e.end; next_is = e.next } in
+    let same : (g.D.Disk.held c.first.new.disk).seen ≡ bytes = ap (λ h. h.seen) (c.first.ensures.same honest).0 in
+    let honest_1 = subst IsTrue (sym c.first.ensures.honesty) honest in
+    let found = subst (λ (s : List ℕ). Spelled head.first ps (drop 42 s)) same (c.in-Ok-records_of.ensures.records honest_1) in
+    let closed = subst (λ (s : List ℕ). c.in-Ok-records_of.records.closed ≡ is_shut end s) same (c.in-Ok-records_of.ensures.closed honest_1) in
+    readings.whole_stand part bytes starts c.stand_of.result head ps end next parts c.in-Ok-head_of.ensures.ok c.in-Ok-head_of.ensures.bytes (c.in-Ok.ensures.small honest) found (e.closed ∙ closed)
+
+pub returns-in-Ok-records_of-clause-stand : goal.returns-in-Ok-records_of-clause-stand
+returns-in-Ok-records_of-clause-stand g c s is =
+    let head = c.in-Ok-head_of.head in
+    let ps = c.in-Ok-records_of.records.payloads.items in
+    let end = c.in-Ok-records_of.records.end in
+    let next = c.in-Ok-records_of.records.next in
+    let e = c.stand_of.ensures in
+    let parts : readings.HasParts c.stand_of.result head ps end next = record { salt = e.salt; generation = e.generation; first = e.first; payloads = e.payloads; end_is = e.end; next_is = e.next } in
+    let same : c.stand_of.result ≡ s = cc in
+    subst IsStand same (readings.counted c.stand_of.result head ps end next parts c.in-Ok-head_of.ensures.ok.first_fits c.in-Ok-records_of.ensures.end c.in-Ok-records_of.ensures.end_fits c.in-Ok-records_of.ensures.next)

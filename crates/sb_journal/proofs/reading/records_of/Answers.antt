@@ -1,34 +1,67 @@
-use Rattle.std.proofs.Common.{◌≡◌, ℕ, ◌+◌, ◌-◌, List, [], ◌∷◌, ◌++◌, length, take, drop, ap, sym, ◌∙◌, subst, arith, length-append, false, true}
-use Rattle.std.specs.Prelude.{Err}
-use Rattle.sb_journal.specs.Text.{records}
-use Rattle.sb_journal.specs.Framing.{read, is_record, payload_length}
-use Rattle.sb_journal.proofs.Frames.{with_all}
+use Rattle.std.proofs.Common.{◌≡◌, ◌≤◌, ℕ, ◌+◌, ◌^◌, List, [], ◌∷◌, ◌++◌, length, take, drop, ap, sym, ◌∙◌, subst, arith, length-append, false, true}
+use Rattle.std.specs.Prelude.{IsTrue, Err}
+use Rattle.sb_journal.specs.Text.{records, framed, AreShort, AreBytes}
+use Rattle.sb_journal.specs.Framing.{is_record, payload_length}
+use Rattle.sb_journal.specs.Pieces.{BeginsWith, IsPiece, seen_from}
+use Rattle.sb_journal.proofs.Frames.{AreShort-push}
+use Rattle.sb_journal.proofs.Parts.{AreBytes-drop}
 use Rattle.sb_journal.proofs.Scan as scan
-use Rattle.sb_journal.proofs.reading.records_of.Goals.{then-records-test+else-bytes-place-eq1, else-records-test}
 use Rattle.sb_journal.proofs.reading.records_of.Goals as goal
 
-pub returns-in_default-clause-broken : goal.returns-in_default-clause-broken
-returns-in_default-clause-broken c place is =
-    let none = subst (λ r. is_record c.records.number r ≡ false) (scan.rest_is (c.records.place + 1) c.args.bytes.now) c.in_default.ensures.none in
-    let broken = scan.broken_one c.args.bytes.now c.args.first c.records.place c.records.number c.records.payloads.items _ c.records.invariant.so_far c.records.invariant.place_is c.records-test.true c.if-bytes-place-eq1.true none in
-    let same : c.records.place ≡ place = cc in
-    broken ∙ ap Err same
+pub returns-in_default-record_behind-clause-broken : goal.returns-in_default-record_behind-clause-broken
+returns-in_default-record_behind-clause-broken g c honest place is =
+    let bytes = (g.D.Disk.held c.args.disk.now).seen in
+    let there = drop c.records.place bytes in
+    let part = c.rest.result.now in
+    let starts : BeginsWith part there = subst (λ (l : List ℕ). BeginsWith l there) (sym c.rest.ensures) (c.records.invariant.piece honest).1 in
+    let opened = c.is_open.ensures.open c.records-test.true in
+    let same : c.behind.result.now ≡ drop 1 part = c.behind.ensures.value ∙ ap (drop 1) (c.rest-in-records.ensures ∙ sym c.rest.ensures) in
+    let none = subst (λ (r : List ℕ). is_record c.records.number r ≡ false) same c.in_default-record_behind.ensures.none in
+    let broken = scan.broken_at part there starts c.records.number opened.0 opened.1 none in
+    let small : length bytes ≤ 2 ^ 62 = omega (arith, (c.records.invariant.piece honest).0.total_is, c.records.piece.small) in
+    let same_place : c.records.place ≡ place = cc in
+    scan.breaks c.args.first c.records.place c.records.number c.records.payloads.items bytes (c.records.invariant.text honest) c.records.invariant.place_is c.records.invariant.number_is broken.0 c.requires.first small c.records.invariant.short broken.1 broken.2
+    ∙ ap Err same_place
 
 pub records-preserved : goal.records-preserved
-records-preserved c =
-    let P : List ℕ → Type 0 = λ r. (is_record c.records.number r ≡ true) × (c.in-Some.payload.now ≡ take (payload_length r) (drop 12 r)) × (length c.in-Some.payload.now ≡ payload_length r) in
-    let found = subst P (scan.rest_is (c.records.place + 1) c.args.bytes.now) c.in-Some.ensures.some in
-    let items : c.push.new.self.items ≡ c.records.payloads.items ++ c.in-Some.payload.now ∷ [] = c.in-Ok-push.ensures.items ∙ ap (λ (p : List ℕ). c.records.payloads.items ++ p ∷ []) c.in-Ok.ensures in
-    let more = scan.one_more c.args.bytes.now c.args.first c.records.place c.records.number c.records.payloads.items _ c.records.invariant.so_far c.records.invariant.place_is c.records-test.true c.if-bytes-place-eq1.true found.0 c.in-Some.payload.now found.1 found.2 in
+records-preserved g c =
+    let bytes = (g.D.Disk.held c.args.disk.now).seen in
+    let there = drop c.records.place bytes in
+    let part = c.rest.result.now in
+    let opened = c.is_open.ensures.open c.records-test.true in
+    let same : c.behind.result.now ≡ drop 1 part = c.behind.ensures.value ∙ ap (drop 1) (c.rest-in-records.ensures ∙ sym c.rest.ensures) in
+    let p = c.in-Some.payload.now in
+    let next = c.records.place + (13 + length p) in
+    let P : List ℕ → Type 0 = λ r. (is_record c.records.number r ≡ true) × (p ≡ take (payload_length r) (drop 12 r)) × (length p ≡ payload_length r) in
+    let found = subst P same c.in-Some.ensures.some in
+    let are : AreBytes (drop 1 part) = AreBytes-drop 1 part (subst AreBytes (c.rest-in-records.ensures ∙ sym c.rest.ensures) c.behind.ensures.bytes) in
+    let items : c.keep.new.payloads.items ≡ c.records.payloads.items ++ p ∷ [] = c.in-Ok-keep.ensures in
+    let Text : List (List ℕ) → Type 0 = λ ps. drop 42 bytes ≡ records c.args.first ps ++ drop next bytes in
+    let Onward : List ℕ → Type 0 = λ s. IsPiece c.records.piece s → IsPiece c.look_on-in-records.new.self s × BeginsWith (seen_from next c.look_on-in-records.new.self) (drop next s) in
     record {
-      so_far = subst (λ (ps : List (List ℕ)). read (length c.args.bytes.now) 42 c.args.first (drop 42 c.args.bytes.now) ≡ with_all ps (read (length c.args.bytes.now - length ps) (c.records.place + (13 + length c.in-Some.payload.now)) (c.records.number + 1) (drop (c.records.place + (13 + length c.in-Some.payload.now)) c.args.bytes.now))) (sym items) more;
-      place_is = ap (λ n. n + (13 + length c.in-Some.payload.now)) c.records.invariant.place_is ∙ omega (arith, scan.length-records-push c.records.payloads.items c.args.first c.in-Some.payload.now, ap (λ (ps : List (List ℕ)). length (records c.args.first ps)) items);
-      number_is = omega (arith, c.records.invariant.number_is, ap length items, length-append c.records.payloads.items (c.in-Some.payload.now ∷ []));
-      inside = let inside = c.in-Some.ensures.inside in omega arith;
+      honesty = c.look_on-in-records.ensures.honesty ∙ c.records.invariant.honesty;
+      text = λ honest.
+          let starts : BeginsWith part there = subst (λ (l : List ℕ). BeginsWith l there) (sym c.rest.ensures) (c.records.invariant.piece honest).1 in
+          let here = scan.record_at part there starts c.records.number p opened.0 opened.1 found.0 are found.1 in
+          subst Text (sym items) (scan.one_more c.args.first c.records.place c.records.number c.records.payloads.items bytes (c.records.invariant.text honest) c.records.invariant.place_is c.records.invariant.number_is p here);
+      piece = λ honest.
+          let seen : (g.D.Disk.held c.records.disk).seen ≡ bytes = ap (λ h. h.seen) (c.records.invariant.same honest).0 in
+          subst Onward seen (c.in-Ok-look_on.ensures.piece (subst IsTrue (sym c.records.invariant.honesty) honest)) (c.records.invariant.piece honest).0;
+      place = c.in-Ok-look_on.ensures.place;
+      short = subst AreShort (sym items) (AreShort-push c.records.payloads.items p c.records.invariant.short c.in-Some.ensures.short);
+      place_is = ap (λ n. n + (13 + length p)) c.records.invariant.place_is ∙ omega (arith, scan.length-records-push c.records.payloads.items c.args.first p, ap (λ (ps : List (List ℕ)). length (records c.args.first ps)) items);
+      number_is = omega (arith, c.records.invariant.number_is, ap length items, length-append c.records.payloads.items (p ∷ []));
+      same = λ honest.
+          let still = c.look_on-in-records.ensures.same (subst IsTrue (sym c.records.invariant.honesty) honest) in
+          let was = c.records.invariant.same honest in
+          (still.0 ∙ was.0, still.1 ∙ was.1);
+      count = c.in-Ok-look_on.ensures.cause.passed ∙ c.records.invariant.count;
     }
 
-pub returns-clause-ok : goal.returns-clause-ok
-returns-clause-ok c = elim c.records-test.branch [
-  | then-records-test+else-bytes-place-eq1 w ↦ scan.at_closed c.args.bytes.now c.args.first c.records.place c.records.number c.records.payloads.items _ c.records.invariant.so_far c.records.invariant.place_is w.records-test.true w.if-bytes-place-eq1.false
-  | else-records-test w ↦ scan.past_end c.args.bytes.now c.args.first c.records.place c.records.number c.records.payloads.items _ c.records.invariant.so_far c.records.invariant.place_is w.records-test.false
-]
+pub returns-clause-records : goal.returns-clause-records
+returns-clause-records g c honest =
+    let bytes = (g.D.Disk.held c.args.disk.now).seen in
+    let there = drop c.records.place bytes in
+    let part = c.rest.result.now in
+    let starts : BeginsWith part there = subst (λ (l : List ℕ). BeginsWith l there) (sym c.rest.ensures) (c.records.invariant.piece honest).1 in
+    scan.all_read c.args.first c.records.place c.records.number c.records.payloads.items bytes (c.records.invariant.text honest) c.records.invariant.place_is c.records.invariant.number_is c.records.invariant.short (scan.ends_at part there starts (c.is_open.ensures.not c.records-test.false))

@@ -13,7 +13,7 @@ returns-in-Ok-look-clause-gates g c =
     let file = c.found_in.ensures.file in
     let s = stand_file c.in-Ok-look.looked.stand in
     let last = gate_after_file s refl in
-    (ap (λ f. f.base) file, omega (arith, ap (λ f. gate_after (first_gate f) f.payloads) file, last, c.in-Ok-look.ensures.stand.end_is, c.in-Ok-look.ensures.end_fits))
+    (ap (λ f. f.base) file, omega (arith, ap (λ f. gate_after (first_gate f) f.payloads) file, last, c.in-Ok-look.ensures.stand.end_is, c.in-Ok-look.ensures.stand.end_fits))
 
 pub returns-in-Err-clause-cause : goal.returns-in-Err-clause-cause
 returns-in-Err-clause-cause g c failed =
