@@ -1,5 +1,5 @@
 -- What is seen of a disk's bytes by a piece of them.
-use Rattle.std.proofs.Common.{◌≡◌, ◌⊎◌, inl, inr, ℕ, ◌+◌, ◌-◌, ◌<◌, ◌≤◌, List, length, take, drop, refl, sym, ◌∙◌, ap, arith, length-take, length-drop}
+use Rattle.std.proofs.Common.{◌≡◌, ◌⊎◌, inl, inr, ℕ, ◌+◌, ◌≤◌, List, length, take, drop, sym, ◌∙◌, ap, arith, length-take, length-drop}
 use Rattle.sb_journal.specs.Text.{max_payload}
 use Rattle.sb_journal.specs.Pieces.{BeginsWith, IsPiece, HasPlace, seen_from}
 use Rattle.sb_journal.specs.declared.piece.Piece.{Piece}

@@ -1,8 +1,8 @@
 -- What the bytes of a disk stand for, by what was read of them.
 use Rattle.std.proofs.Common.{◌≡◌, ℕ, ◌+◌, ◌^◌, ◌≤◌, List, ◌++◌, length, drop, true, false, sym, ◌∙◌, ap, subst, arith}
 use Rattle.std.specs.Prelude.{Some, Err}
-use Rattle.sb_journal.specs.Text.{File, records, file_text, AreBytes, Spelled, Spells}
-use Rattle.sb_journal.specs.Framing.{Uncreated, Whole, Damaged, framing, is_created, read}
+use Rattle.sb_journal.specs.Text.{records, file_text, AreBytes, Spelled, Spells}
+use Rattle.sb_journal.specs.Framing.{Uncreated, Whole, Damaged, framing, read}
 use Rattle.sb_journal.specs.Opened.{stand_file, is_shut, IsHead, IsNoHead, IsStand, IsWholeStand}
 use Rattle.sb_journal.specs.Pieces.{BeginsWith}
 use Rattle.sb_journal.specs.declared.reading.Head.{Head}

@@ -1,10 +1,10 @@
 -- What stands at a place, by a part that begins there.
-use Rattle.std.proofs.Common.{◌≡◌, ◌≢◌, ◌⊎◌, inl, inr, ℕ, ◌+◌, ◌-◌, ◌^◌, ◌<◌, ◌≤◌, List, [], ◌∷◌, ◌++◌, length, get_or, take, drop, true, false, refl, sym, ◌∙◌, ap, subst, arith, append_assoc, length-append, length-take, length-drop, take-append-drop, w32, w64}
-use Rattle.std.specs.Prelude.{nat_le, ◌&&◌, ◌==◌, Err}
+use Rattle.std.proofs.Common.{◌≡◌, ◌≢◌, ◌⊎◌, inl, inr, ℕ, ◌+◌, ◌-◌, ◌^◌, ◌≤◌, List, [], ◌∷◌, ◌++◌, length, get_or, take, drop, true, false, refl, sym, ◌∙◌, ap, subst, arith, append_assoc, length-append, length-drop, take-append-drop, w32, w64}
+use Rattle.std.specs.Prelude.{Err}
 use Rattle.std.specs.Int.{from_be_bytes}
 use Rattle.std.proofs.lemmas.List.{drop-drop, drop-append-le, drop_more, drop_all, drop_at, take-append-le, append-nil}
 use Rattle.std.proofs.lemmas.Bool.Decides.{nat_tests}
-use Rattle.sb_journal.specs.Text.{max_payload, records, framed, gate_after, AreShort, Ends, AreBytes, Spelled}
+use Rattle.sb_journal.specs.Text.{max_payload, records, framed, AreShort, Ends, AreBytes, Spelled}
 use Rattle.sb_journal.specs.Framing.{payload_length, is_record, read}
 use Rattle.sb_journal.specs.Pieces.{BeginsWith}
 use Rattle.sb_journal.proofs.Frames.{length-framed, length-records, length-records_from, records-push, read_broken}

@@ -1,6 +1,6 @@
 -- What a file's bytes are, by facts of which each has one proof.
-use Rattle.std.proofs.Common.{◌≡◌, ◌≢◌, ◌⊎◌, inl, inr, ℕ, zero, suc, ◌+◌, ◌<◌, ◌≤◌, List, [], ◌∷◌, ◌++◌, length, drop, get_or, refl, sym, ◌∙◌, ap, subst, arith, length-append, length-drop}
-use Rattle.std.proofs.lemmas.List.{drop_at, drop_all, drop_more, get_or-drop}
+use Rattle.std.proofs.Common.{◌≡◌, ◌≢◌, ◌⊎◌, inl, inr, ℕ, zero, suc, ◌+◌, ◌<◌, ◌≤◌, List, [], ◌∷◌, ◌++◌, length, drop, get_or, refl, sym, ◌∙◌, ap, subst, arith, length-drop}
+use Rattle.std.proofs.lemmas.List.{drop_at, drop_more, get_or-drop}
 use Rattle.sb_journal.specs.Text.{File, file_text, max_payload, AreShort, Ends, Spells, HasText}
 
 each_short : (ps : List (List ℕ)) → AreShort ps → (k : ℕ) → length (get_or ps k []) ≤ max_payload

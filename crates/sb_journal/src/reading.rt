@@ -1,12 +1,12 @@
 // What the bytes of a disk stand for: they are read a piece at a time, and each record once.
-ghost use Rattle.std.specs.Prelude.{◌≡◌, ◌≢◌, ◌≤◌, ◌<◌, ◌+◌, ◌++◌, ◌∷◌, [], ◌^◌, ◌==◌, ◌&&◌, nat_lt, List, ℕ, IsTrue, length, take, drop, slice_index, true, false, Err, Some, IfOk, IfErr, IfSome, IfNone, OnOk, OnErr};
+ghost use Rattle.std.specs.Prelude.{◌≡◌, ◌≢◌, ◌≤◌, ◌+◌, ◌++◌, ◌∷◌, [], ◌^◌, ℕ, IsTrue, length, take, drop, slice_index, true, false, Err, IfOk, IfErr, IfSome, IfNone, OnOk};
 ghost use Rattle.std.specs.Int.{w32, w64, from_be_bytes};
 ghost use Rattle.std.specs.Str.{bytes_eq};
 ghost use Rattle.sb_outside.specs.Causes.{RoseByOne};
 ghost use Rattle.sb_journal.specs.Text.{max_payload, magic, records, AreBytes, Spelled};
 ghost use Rattle.sb_journal.specs.Framing.{is_count, head_fault, payload_length, is_record, read};
 ghost use Rattle.sb_journal.specs.Opened.{IsReading, IsStand, IsHead, IsNoHead, is_shut};
-ghost use Rattle.sb_journal.specs.Pieces.{HasPlace, IsPiece, BeginsWith, seen_from};
+ghost use Rattle.sb_journal.specs.Pieces.{HasPlace, IsPiece};
 ghost use Rattle.sb_journal.specs.declared.reading.Stand.{Stand};
 ghost use Rattle.sb_journal.specs.declared.reading.RecordsFault.TheVariants.{Broken, Unread};
 ghost use Rattle.sb_journal.specs.declared.reading.Reading.TheVariants.{AFile};

@@ -1,4 +1,4 @@
-use Rattle.std.proofs.Common.{◌≡◌, ◌∙◌, sym, subst}
+use Rattle.std.proofs.Common.{◌∙◌, sym, subst}
 use Rattle.std.specs.Prelude.{IsTrue}
 use Rattle.sb_journal.specs.Opened.{IsReading}
 use Rattle.sb_journal.proofs.Finishing.{unwritten_synced, read_none_synced, read_file_synced}

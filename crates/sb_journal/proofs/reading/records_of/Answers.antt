@@ -1,6 +1,6 @@
 use Rattle.std.proofs.Common.{◌≡◌, ◌≤◌, ℕ, ◌+◌, ◌^◌, List, [], ◌∷◌, ◌++◌, length, take, drop, ap, sym, ◌∙◌, subst, arith, length-append, false, true}
 use Rattle.std.specs.Prelude.{IsTrue, Err}
-use Rattle.sb_journal.specs.Text.{records, framed, AreShort, AreBytes}
+use Rattle.sb_journal.specs.Text.{records, AreShort, AreBytes}
 use Rattle.sb_journal.specs.Framing.{is_record, payload_length}
 use Rattle.sb_journal.specs.Pieces.{BeginsWith, IsPiece, seen_from}
 use Rattle.sb_journal.proofs.Frames.{AreShort-push}

@@ -1,4 +1,4 @@
-use Rattle.std.proofs.Common.{◌≡◌, ◌≤◌, ◌+◌, ◌-◌, ◌++◌, length, drop}
+use Rattle.std.proofs.Common.{◌≡◌, ◌+◌, ◌-◌, ◌++◌, length, drop}
 use Rattle.std.specs.Prelude.{IsTrue}
 use Rattle.sb_journal.specs.Text.{records, AreShort}
 use Rattle.sb_journal.specs.Pieces.{BeginsWith, IsPiece, HasPlace, seen_from}
