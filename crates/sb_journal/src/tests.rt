@@ -1,4 +1,6 @@
 // The journal run on a disk in memory that fails where it is told to.
+ghost use Rattle.std.specs.Prelude.{◌≡◌, length, IfOk};
+
 use crate::{Journal, OpenWhy, Side, create};
 use sb_outside::{Disk, MemDisk};
 use std::alloc::{AllocError, Global};
@@ -73,13 +75,20 @@ fn tells_the_place_of_damage(rt: HostRuntime) -> Result<(), Fail> {
     Ok(())
 }
 
+// So many bytes.
+fn sevens(alloc: Global, count: usize) -> Result<Vec<u8>, AllocError>
+    ensures { IfOk result (λ v. length v.items ≡ count) }
+{
+    vec![in alloc; 7; count]
+}
+
 // The fourth record's gate, behind the head and three records of 900,000 bytes.
 const FOURTH: usize = 42 + 3 * 900_013;
 
 #[test]
 fn reads_a_file_of_several_pieces(rt: HostRuntime) -> Result<(), Fail> {
     let alloc = rt.alloc();
-    let long = vec![in alloc; 7; 900_000]?;
+    let long = sevens(alloc, 900_000)?;
     let a = disk_of(alloc, &[])?;
     let b = disk_of(alloc, &[])?;
     let Ok((mut journal, _found)) = Journal::open(alloc, a, b, SALT) else {
