@@ -85,7 +85,7 @@ no_changing seat reading t s stopped stopped_after call _ at is = absurd is
 pub later_on : (a now t : ℕ) → t ≡ max a now → max a t ≡ t
 later_on a now t is = omega (arith, is)
 
-step_changing : (tick : Option ℕ) (seat reading t : ℕ) (s0 s1 : State) (stopped : Option ℕ) (call : Call) (answer : Result Answered Refusal) → t ≡ moment_of s0 reading → IsTicked tick t s0 s1 → is_due t s1.space ≡ false
+pub step_changing : (tick : Option ℕ) (seat reading t : ℕ) (s0 s1 : State) (stopped : Option ℕ) (call : Call) (answer : Result Answered Refusal) → t ≡ moment_of s0 reading → IsTicked tick t s0 s1 → is_due t s1.space ≡ false
     → changing (log_of s0 stopped) (entries_with tick seat reading call answer) ≡ tick_events tick ++ call_events t call s1 answer
 step_changing None seat reading t s0 s1 stopped call answer at went calm =
     call_changing seat reading t s0 (is_some stopped) None call answer at went.0 ∙ ap (λ (s : State). call_events t call s answer) (sym went.1)

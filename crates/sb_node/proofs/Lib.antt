@@ -10,3 +10,6 @@ pub mod Stepping
 pub mod Whole
 pub mod Numbers
 pub mod Merely
+pub mod Counts
+pub mod Undecided
+pub mod Standing

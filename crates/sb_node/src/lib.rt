@@ -5,6 +5,11 @@
 //! time goes on first, as an event of its own, and then the call acts. What a journal says is
 //! carried out again (`replay`) as it is opened.
 //!
+//! It is a `Served`: as it was opened it stands for an empty history, and each step adds its entries to
+//! the one for which it stands. Whatever a crash leaves of its disks leads to the state after that
+//! history, or, once a disk has failed, to the one after the event that wasn't journaled
+//! (`specs/Serving`).
+//!
 //! ```text
 //! let mut node = Node::open(alloc, disk_a, disk_b, salt)?;
 //! let answer = node.step(1_700_000_000_000, &call); // safe on the disk, once it is answered
@@ -12,9 +17,11 @@
 //! ```
 #![tactic(auto)]
 
+mod counting;
 mod laws;
 mod node;
 mod replay;
+mod serving;
 
 pub use laws::{recovers_consistent, worked_journal};
 pub use node::Node;

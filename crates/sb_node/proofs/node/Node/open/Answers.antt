@@ -1,5 +1,5 @@
 use Rattle.std.proofs.Common.{◌≡◌, ◌+◌, ◌-◌, ℕ, List, arith, refl, sym, ◌∙◌, ap, subst, length}
-use Rattle.sb_journal.specs.Disks.{Disks, disks_of, KeepFound}
+use Rattle.sb_journal.specs.Disks.{Disks, disks_of, AreHonest, KeepFound}
 use Rattle.sb_journal.specs.Opened.{found_file}
 use Rattle.sb_journal.specs.Text.{first_gate}
 use Rattle.sb_journal.specs.Unopened.{unopened_disks}
@@ -8,11 +8,13 @@ use Rattle.sb_journal.proofs.Pairs.{still_honest, fault_on, opening_stays_pair, 
 use Rattle.sb_machine.specs.Namespace.{empty_state}
 use Rattle.sb_machine.specs.declared.state.State.{State}
 use Rattle.sb_engine.specs.Engines.{engine_state}
+use Rattle.sb_node.specs.Serving.{origin_of}
 use Rattle.sb_node.specs.Recovery.{recovered_from, reached, replay, reaches}
 use Rattle.sb_node.proofs.Crashes.{kept_leads}
 use Rattle.sb_node.proofs.Gates.{gate_after_on}
 use Rattle.sb_node.proofs.Keeping.{last_number}
 use Rattle.sb_node.proofs.Recovered.{events_consistent}
+use Rattle.sb_node.proofs.Standing.{begins, same_origin, were_honest_first}
 use Rattle.sb_node.proofs.node.Node.open.Goals as goal
 
 -- the payloads that were found, from an empty namespace on
@@ -108,3 +110,17 @@ invariant_of-result g c = record {
       let leads = from_empty found.salt (first_gate file) _ _ (engine_state c.replay_all.new.engine) file.payloads file.payloads c.first_gate-start.ensures c.new-engine.ensures refl c.in-Ok-replay_all.ensures.ok in
       ∣ events_consistent found.salt (first_gate file) file.payloads (engine_state c.replay_all.new.engine) leads ∣₁;
 }
+
+pub returns-in-Ok-finish-clause-stands : goal.returns-in-Ok-finish-clause-stands
+returns-in-Ok-finish-clause-stands g c =
+    let was = disks_of g.D.Disk c.args.disk_a c.args.disk_b in
+    let mid = unopened_disks c.in-Ok.read.0 in
+    let later = journal_disks c.in-Ok-finish.journal in
+    let were : AreHonest later → AreHonest was = were_honest_first was mid later c.in-Ok.ensures.honesty c.in-Ok-finish.ensures.honesty in
+    begins _ (returns-in-Ok-finish-clause-consistent g c) refl c.no_numbers.ensures.0 c.no_numbers.ensures.1 c.no_numbers.ensures.2 (ap (λ j. journal_disks j) c.of.ensures)
+    (λ honest. returns-in-Ok-finish-clause-kept g c (were honest)) (λ honest. returns-in-Ok-finish-clause-durable g c (were honest))
+
+pub returns-in-Ok-finish-clause-origin : goal.returns-in-Ok-finish-clause-origin
+returns-in-Ok-finish-clause-origin g c =
+    ap (λ j. origin_of (journal_disks j)) c.of.ensures
+    ∙ same_origin (disks_of g.D.Disk c.args.disk_a c.args.disk_b) (unopened_disks c.in-Ok.read.0) (journal_disks c.in-Ok-finish.journal) c.in-Ok.ensures.quiet c.in-Ok-finish.ensures.quiet c.in-Ok.ensures.honesty c.in-Ok-finish.ensures.honesty

@@ -1,4 +1,4 @@
-use Rattle.std.proofs.Common.{◌≡◌, Some, true, sym, ap, ◌∙◌, subst}
+use Rattle.std.proofs.Common.{◌≡◌, Some, true, refl, sym, ap, ◌∙◌, subst}
 use Rattle.std.proofs.Math.Logic.{∥∥₁_map}
 use Rattle.sb_engine.specs.Engines.{engine_state, carried_out}
 use Rattle.sb_machine.specs.Consistent.{IsConsistent}
@@ -6,9 +6,12 @@ use Rattle.sb_machine.specs.Due.{is_due}
 use Rattle.sb_machine.specs.History.{advanced}
 use Rattle.sb_machine.specs.declared.call.Event.TheVariants.{Tick}
 use Rattle.sb_machine.specs.declared.state.State.{State}
+use Rattle.sb_desk.specs.declared.report.Report.{Report}
 use Rattle.sb_node.specs.Nodes.{node_disks}
+use Rattle.sb_node.specs.Serving.{raised}
 use Rattle.sb_node.specs.Steps.{time_to}
 use Rattle.sb_laws.proofs.StaysWhole.{ticks_consistent}
+use Rattle.sb_node.proofs.Counts.{no_tick_counted}
 use Rattle.sb_node.proofs.Crashes.{untouched_tick, event_moments}
 use Rattle.sb_node.proofs.Histories.{one_more}
 use Rattle.sb_node.proofs.Keeping.{one_logged}
@@ -80,3 +83,17 @@ returns-clause-any_moment g c kept =
     event_moments (node_disks c.args.self.now) (node_disks c.record.new.self) kept.file (Tick t) s (time_to t s) kept.leads
     (tick_taken s t c.requires.later c.requires.counts due left ∙ ap Some (sym (time_went t s due left)))
     (c.record.ensures.any_moment kept.file kept.holds)
+
+-- ---- the numbers
+
+pub returns-then-not-is_due-clause-numbers : goal.returns-then-not-is_due-clause-numbers
+returns-then-not-is_due-clause-numbers g c = no_tick_counted c.args.self.now.numbers c.args.self.now.numbers c.args.self.now.ticked c.requires.before refl
+
+pub returns-in_err-plan-clause-numbers : goal.returns-in_err-plan-clause-numbers
+returns-in_err-plan-clause-numbers g c = no_tick_counted c.args.self.now.numbers c.args.self.now.numbers c.args.self.now.ticked c.requires.before refl
+
+pub returns-in-Err-clause-numbers : goal.returns-in-Err-clause-numbers
+returns-in-Err-clause-numbers g c = no_tick_counted c.args.self.now.numbers c.record.new.self.numbers c.record.new.self.ticked (c.record.ensures.ticked ∙ c.requires.before) c.record.ensures.numbers
+
+pub returns-clause-numbers : goal.returns-clause-numbers
+returns-clause-numbers g c = c.count_change.ensures ∙ ap (λ (r : Report). record r { changing = raised r.changing 1 }) c.record.ensures.numbers

@@ -1,0 +1,308 @@
+-- A node stands for a history, and after a step for that with the step's entries.
+use Rattle.std.proofs.Common.{◌≡◌, ◌≢◌, inl, inr, ℕ, ◌≤◌, List, [], ◌∷◌, ◌++◌, Bool, true, false, true≢false, Option, Some, None, Result, Ok, Err, refl, sym, ap, ◌∙◌, subst, arith}
+use Rattle.std.specs.Prelude.{if◌then◌else◌, is_some, IfErr}
+use Rattle.sb_desk.specs.Entries.{made_by}
+use Rattle.sb_desk.specs.declared.report.DiskOrigin.{DiskOrigin}
+use Rattle.sb_desk.specs.declared.report.Origin.{Origin}
+use Rattle.sb_journal.specs.Disks.{disks_of, Disks, OneDisk, AreHonest, AreQuiet, NoneFell, OneFault, SameHonesty}
+use Rattle.sb_journal.specs.Journals.{journal_disks}
+use Rattle.sb_journal.specs.declared.journal.Journal.{Journal}
+use Rattle.sb_journal.proofs.Pairs.{still_honest}
+use Rattle.sb_laws.proofs.Histories.{goes_on}
+use Rattle.sb_machine.specs.Consistent.{IsConsistent}
+use Rattle.sb_machine.specs.Events.{after_event, event_at, is_disk_fault, undecided}
+use Rattle.sb_machine.specs.History.{Log, IsLegalFrom, after_entry, after_entries, fresh_log, state_after, stops}
+use Rattle.sb_machine.specs.declared.call.Call.{Call}
+use Rattle.sb_machine.specs.declared.call.Event.{Event}
+use Rattle.sb_machine.specs.declared.history.Entry.{Entry}
+use Rattle.sb_machine.specs.declared.history.Entry.TheVariants.{Ticked, Answered as Replied}
+use Rattle.sb_machine.specs.declared.reply.Answered.{Answered}
+use Rattle.sb_machine.specs.declared.reply.Refusal.{Refusal}
+use Rattle.sb_machine.specs.declared.reply.Refusal.TheVariants.{DiskFault, Stopped}
+use Rattle.sb_machine.specs.declared.state.State.{State}
+use Rattle.sb_outside.specs.declared.disk.Disk.{Ghosts}
+use Rattle.sb_node.specs.declared.node.Node.{Node}
+use Rattle.sb_node.specs.Nodes.{node_disk_a, node_disk_b, node_disks, node_journal, node_log, node_state, node_stopped, node_ticked, IsDurable, IsKept, IsOneOf}
+use Rattle.sb_node.specs.Serving.{node_origin, node_report, opened_disks, origin_of, states_left, states_with, with_entries, HasRisen, IsSince, StandsFor}
+use Rattle.sb_node.specs.Steps.{entries_with, log_of, IsStep}
+use Rattle.sb_node.proofs.Counts.{after_on, numbers_on}
+
+-- the entries of a step, in the desk's words
+pub made_is : (tick : Option ℕ) (seat reading : ℕ) (call : Call) (answer : Result Answered Refusal) → entries_with tick seat reading call answer ≡ made_by seat tick reading call answer
+made_is None seat reading call answer = refl
+made_is (Some t) seat reading call answer = refl
+
+-- ---- the undecided event
+
+kept_if : (b : Bool) (x : Event) (old new : Option Event) (e : Event) → (old ≡ Some e → new ≡ Some e) → (if b then Some x else old) ≡ Some e → (if b then Some x else new) ≡ Some e
+kept_if true x old new e on is = is
+kept_if false x old new e on is = on is
+
+-- it stays
+undecided_on : (l : Log) (h es : List Entry) (e : Event) → undecided l h ≡ Some e → undecided l (h ++ es) ≡ Some e
+undecided_on l [] es e is = absurd cc
+undecided_on l (Ticked seat t ∷ h) es e is = undecided_on (after_entry l (Ticked seat t)) h es e is
+undecided_on l (Replied seat reading call answer ∷ h) es e is =
+    let next = after_entry l (Replied seat reading call answer) in
+    kept_if (is_disk_fault answer) (event_at l.state reading call) (undecided next h) (undecided next (h ++ es)) e (undecided_on next h es e) is
+
+none_if : (b : Bool) (x : Event) (old new late : Option Event) → (old ≡ None → new ≡ late) → (if b then Some x else old) ≡ None → (if b then Some x else new) ≡ late
+none_if true x old new late on is = absurd cc
+none_if false x old new late on is = on is
+
+-- where there is none, it is that of what comes
+undecided_then : (l : Log) (h es : List Entry) → undecided l h ≡ None → undecided l (h ++ es) ≡ undecided (after_entries l h) es
+undecided_then l [] es is = refl
+undecided_then l (Ticked seat t ∷ h) es is = undecided_then (after_entry l (Ticked seat t)) h es is
+undecided_then l (Replied seat reading call answer ∷ h) es is =
+    let next = after_entry l (Replied seat reading call answer) in
+    none_if (is_disk_fault answer) (event_at l.state reading call) (undecided next h) (undecided next (h ++ es)) (undecided (after_entries next h) es) (undecided_then next h es) is
+
+either : (b c : Bool) → c ≡ true → (if b then true else c) ≡ true
+either true c is = refl
+either false c is = is
+
+still_stopped : (b c : Bool) → b ≡ true → (if b then true else c) ≡ true
+still_stopped true c is = refl
+still_stopped false c is = absurd cc
+
+stays_stopped : (l : Log) (h : List Entry) → l.stopped ≡ true → (after_entries l h).stopped ≡ true
+stays_stopped l [] is = is
+stays_stopped l (Ticked seat t ∷ h) is = stays_stopped (after_entry l (Ticked seat t)) h is
+stays_stopped l (Replied seat reading call answer ∷ h) is = stays_stopped (after_entry l (Replied seat reading call answer)) h (still_stopped l.stopped (stops answer) is)
+
+fault_stops : (answer : Result Answered Refusal) → is_disk_fault answer ≡ true → stops answer ≡ true
+fault_stops (Err DiskFault) is = refl
+fault_stops _ is = absurd cc
+
+stops_if : (b : Bool) (x e : Event) (old : Option Event) (P : Type 0) → (b ≡ true → P) → (old ≡ Some e → P) → (if b then Some x else old) ≡ Some e → P
+stops_if true x e old P here other is = here refl
+stops_if false x e old P here other is = other is
+
+-- it is there only where the namespace has stopped
+undecided_stops : (l : Log) (h : List Entry) (e : Event) → undecided l h ≡ Some e → (after_entries l h).stopped ≡ true
+undecided_stops l [] e is = absurd cc
+undecided_stops l (Ticked seat t ∷ h) e is = undecided_stops (after_entry l (Ticked seat t)) h e is
+undecided_stops l (Replied seat reading call answer ∷ h) e is =
+    let next = after_entry l (Replied seat reading call answer) in
+    stops_if (is_disk_fault answer) (event_at l.state reading call) e (undecided next h) ((after_entries next h).stopped ≡ true)
+    (λ fault. stays_stopped next h (either l.stopped (stops answer) (fault_stops answer fault)))
+    (undecided_stops next h e) is
+
+none_undecided : (l : Log) (h : List Entry) → (after_entries l h).stopped ≡ false → undecided l h ≡ None
+none_undecided l h runs = by_event (undecided l h) refl
+  where
+    by_event : (o : Option Event) → undecided l h ≡ o → undecided l h ≡ None
+    by_event None is = is
+    by_event (Some e) is = absurd (true≢false (sym (undecided_stops l h e is) ∙ runs))
+
+-- a step of a namespace that had stopped leaves it
+stopped_leaves : (l : Log) (h : List Entry) (seat reading n : ℕ) (call : Call) → undecided l (h ++ Replied seat reading call (Err (Stopped n)) ∷ []) ≡ undecided l h
+stopped_leaves l h seat reading n call = by_event (undecided l h) refl
+  where
+    by_event : (o : Option Event) → undecided l h ≡ o → undecided l (h ++ Replied seat reading call (Err (Stopped n)) ∷ []) ≡ undecided l h
+    by_event None is = undecided_then l h (Replied seat reading call (Err (Stopped n)) ∷ []) is ∙ sym is
+    by_event (Some e) is = undecided_on l h (Replied seat reading call (Err (Stopped n)) ∷ []) e is ∙ sym is
+
+-- a step whose disk failed
+fault_undecided : (tick : Option ℕ) (l : Log) (seat reading : ℕ) (call : Call)
+    → undecided l (entries_with tick seat reading call (Err DiskFault)) ≡ Some (event_at (after_entries l (entries_with tick seat reading call (Err DiskFault))).state reading call)
+fault_undecided None l seat reading call = refl
+fault_undecided (Some t) l seat reading call = refl
+
+stops_by : (tick : Option ℕ) (s : State) (seat reading : ℕ) (call : Call) (answer : Result Answered Refusal) → (after_entries (log_of s None) (entries_with tick seat reading call answer)).stopped ≡ stops answer
+stops_by None s seat reading call answer = refl
+stops_by (Some t) s seat reading call answer = refl
+
+-- no time goes on where it has stopped
+no_tick : (tick : Option ℕ) (s : State) (n seat reading : ℕ) (call : Call) (answer : Result Answered Refusal) → IsLegalFrom (log_of s (Some n)) (entries_with tick seat reading call answer) → tick ≡ None
+no_tick None s n seat reading call answer legal = refl
+no_tick (Some t) s n seat reading call answer legal = absurd (true≢false legal.0.0)
+
+-- ---- counts and honesty since it was opened
+
+since_on : (origin later : DiskOrigin) (was now : OneDisk) → later ≡ origin → now.honest ≡ was.honest → was.faults ≤ now.faults → IsSince origin was → IsSince later now
+since_on origin later was now same honest more is = subst (λ (o : DiskOrigin). IsSince o now) (sym same) (honest ∙ is.0, omega (arith, more, is.1))
+
+risen_on : (origin : Origin) (was now : Disks) → NoneFell was now → HasRisen origin was → HasRisen origin now
+risen_on origin was now more (inl rose) = inl (omega (arith, more.0, rose))
+risen_on origin was now more (inr rose) = inr (omega (arith, more.1, rose))
+
+rises : (origin : Origin) (was now : Disks) (n : ℕ) → IsSince origin.disk_a was.a → IsSince origin.disk_b was.b → OneFault was now n → HasRisen origin now
+rises origin was now n a b (inl fault) = inl (omega (arith, a.1, fault.1))
+rises origin was now n a b (inr fault) = inr (omega (arith, b.1, fault.1))
+
+-- ---- a step
+
+-- what a step says of the node before it and behind it
+pub record Goes {D : Type 0} {B : Ghosts D} (old new : Node D B) (seat reading : ℕ) (call : Call) (answer : Result Answered Refusal) : Type 0 where
+  pub step : IsStep (node_log old) (entries_with (node_ticked new) seat reading call answer) (node_log new)
+  pub numbers : node_report new ≡ with_entries (node_report old) (node_log old) (entries_with (node_ticked new) seat reading call answer)
+  pub origin : opened_disks new ≡ opened_disks old
+  pub honesty : SameHonesty (node_disks old) (node_disks new)
+  pub later : NoneFell (node_disks old) (node_disks new)
+  pub failed : answer ≡ Err DiskFault → (n : ℕ) × (node_stopped new ≡ Some n) × OneFault (node_disks old) (node_disks new) n
+  pub stopped : (n : ℕ) → answer ≡ Err (Stopped n) → node_stopped old ≡ Some n
+  pub stays : (n : ℕ) → node_stopped old ≡ Some n → (answer ≡ Err (Stopped n)) × (node_stopped new ≡ Some n)
+  pub kept : IsKept old → node_stopped new ≡ None → IsKept new
+  pub untouched : IfErr answer (λ e. e ≢ DiskFault → node_ticked new ≡ None → node_journal new ≡ node_journal old)
+  pub durable : IsKept old → node_stopped new ≡ None → IsDurable (node_disks new) (node_state new)
+  pub undecided_now : IsKept old → answer ≡ Err DiskFault → IsOneOf (node_disks new) (node_state new ∷ after_event (node_state new) (event_at (node_state new) reading call) ∷ [])
+
+-- it ran before a step, where it runs behind it
+ran : {D : Type 0} {B : Ghosts D} (old new : Node D B) (seat reading : ℕ) (call : Call) (answer : Result Answered Refusal) → Goes old new seat reading call answer → node_stopped new ≡ None → node_stopped old ≡ None
+ran old new seat reading call answer go runs = by_old (node_stopped old) refl
+  where
+    by_old : (o : Option ℕ) → node_stopped old ≡ o → node_stopped old ≡ None
+    by_old None is = is
+    by_old (Some n) is = let never : Some n ≡ None = sym (go.stays n is).1 ∙ runs in absurd cc
+
+-- where it ran before and runs no more, a disk failed
+has_failed : {D : Type 0} {B : Ghosts D} (old new : Node D B) (seat reading : ℕ) (call : Call) (answer : Result Answered Refusal) → Goes old new seat reading call answer → is_some (node_stopped new) ≡ true → node_stopped old ≡ None → answer ≡ Err DiskFault
+has_failed old new seat reading call answer go has before = by_answer answer refl stops_now
+  where
+    stops_now : stops answer ≡ true
+    stops_now =
+        sym (stops_by (node_ticked new) (node_state old) seat reading call answer)
+        ∙ ap (λ (o : Option ℕ). (after_entries (log_of (node_state old) o) (entries_with (node_ticked new) seat reading call answer)).stopped) (sym before)
+        ∙ ap (λ (l : Log). l.stopped) (sym go.step.leads)
+        ∙ has
+
+    by_answer : (a : Result Answered Refusal) → answer ≡ a → stops a ≡ true → answer ≡ Err DiskFault
+    by_answer (Err DiskFault) is stop = is
+    by_answer (Err (Stopped n)) is stop = let never : Some n ≡ None = sym (go.stopped n is) ∙ before in absurd cc
+    by_answer _ is stop = absurd cc
+
+untouched_by : {D : Type 0} {B : Ghosts D} (old new : Journal D B) (tick : Option ℕ) (n : ℕ) (answer : Result Answered Refusal) → answer ≡ Err (Stopped n) → tick ≡ None → IfErr answer (λ e. e ≢ DiskFault → tick ≡ None → new ≡ old) → new ≡ old
+untouched_by old new tick n (Ok reply) is none left = absurd cc
+untouched_by old new tick n (Err e) is none left = left (λ fault. absurd cc) none
+
+-- a step of a node that had stopped
+module _ {D : Type 0} {B : Ghosts D} (old new : Node D B) (seat reading : ℕ) (call : Call) (answer : Result Answered Refusal) (go : Goes old new seat reading call answer) (n : ℕ) (was : node_stopped old ≡ Some n) where
+  unticked : node_ticked new ≡ None
+  unticked = no_tick (node_ticked new) (node_state old) n seat reading call answer (subst (λ (o : Option ℕ). IsLegalFrom (log_of (node_state old) o) (entries_with (node_ticked new) seat reading call answer)) was go.step.legal)
+
+  same_disks : node_disks new ≡ node_disks old
+  same_disks = ap (λ (j : Journal D B). journal_disks j) (untouched_by (node_journal old) (node_journal new) (node_ticked new) n answer (go.stays n was).0 unticked go.untouched)
+
+  one_entry : entries_with (node_ticked new) seat reading call answer ≡ Replied seat reading call (Err (Stopped n)) ∷ []
+  one_entry = ap (λ (t : Option ℕ). entries_with t seat reading call answer) unticked ∙ ap (λ (a : Result Answered Refusal). entries_with None seat reading call a) (go.stays n was).0
+
+  same_left : (start : State) (h : List Entry) → states_left start (h ++ entries_with (node_ticked new) seat reading call answer) ≡ states_left start h
+  same_left start h =
+      ap (λ (es : List Entry). states_left start (h ++ es)) one_entry
+      ∙ ap (λ (l : Log). states_with l.state (undecided (fresh_log start) (h ++ Replied seat reading call (Err (Stopped n)) ∷ []))) (after_on (fresh_log start) h (Replied seat reading call (Err (Stopped n)) ∷ []))
+      ∙ ap (λ (o : Option Event). states_with (state_after start h) o) (stopped_leaves (fresh_log start) h seat reading n call)
+
+-- a step whose disk failed leaves its event undecided
+undecided_is : {D : Type 0} {B : Ghosts D} (old new : Node D B) (seat reading : ℕ) (call : Call) (answer : Result Answered Refusal) (start : State) (h : List Entry) → Goes old new seat reading call answer → node_log old ≡ after_entries (fresh_log start) h
+    → node_stopped old ≡ None → answer ≡ Err DiskFault → undecided (fresh_log start) (h ++ entries_with (node_ticked new) seat reading call answer) ≡ Some (event_at (node_state new) reading call)
+undecided_is old new seat reading call answer start h go leads before failed =
+    undecided_then (fresh_log start) h (entries_with (node_ticked new) seat reading call answer) (none_undecided (fresh_log start) h (ap (λ (l : Log). l.stopped) (sym leads) ∙ ap is_some before))
+    ∙ ap (λ (l : Log). undecided l (entries_with (node_ticked new) seat reading call answer)) (sym leads)
+    ∙ ap (λ (a : Result Answered Refusal). undecided (node_log old) (entries_with (node_ticked new) seat reading call a)) failed
+    ∙ fault_undecided (node_ticked new) (node_log old) seat reading call
+    ∙ ap (λ (a : Result Answered Refusal). Some (event_at (after_entries (node_log old) (entries_with (node_ticked new) seat reading call a)).state reading call)) (sym failed)
+    ∙ ap (λ (l : Log). Some (event_at l.state reading call)) (sym go.step.leads)
+
+first_left : (disks : Disks) (s : State) (o : Option Event) → IsDurable disks s → IsOneOf disks (states_with s o)
+first_left disks s None durable = λ x y on_x on_y. inl (durable x y on_x on_y)
+first_left disks s (Some e) durable = λ x y on_x on_y. inl (durable x y on_x on_y)
+
+leads_on : {D : Type 0} {B : Ghosts D} (old new : Node D B) (start : State) (h es : List Entry) → node_log new ≡ after_entries (node_log old) es → node_log old ≡ after_entries (fresh_log start) h → node_log new ≡ after_entries (fresh_log start) (h ++ es)
+leads_on old new start h es step leads = step ∙ ap (λ (l : Log). after_entries l es) leads ∙ sym (after_on (fresh_log start) h es)
+
+-- what a crash leaves then
+module _ {D : Type 0} {B : Ghosts D} (old new : Node D B) (seat reading : ℕ) (call : Call) (answer : Result Answered Refusal) (start : State) (h : List Entry) (go : Goes old new seat reading call answer) (is : StandsFor old start h) (honest : AreHonest (node_disks new)) where
+  abbrev es : List Entry
+  es = entries_with (node_ticked new) seat reading call answer
+
+  were_honest : AreHonest (node_disks old)
+  were_honest = still_honest (node_disks new) (node_disks old) (sym go.honesty.0, sym go.honesty.1) honest
+
+  state_now : node_state new ≡ state_after start (h ++ es)
+  state_now = ap (λ (l : Log). l.state) (leads_on old new start h es go.step.leads is.leads)
+
+  leaves_running : node_stopped new ≡ None → IsOneOf (node_disks new) (states_left start (h ++ es))
+  leaves_running runs =
+      subst (λ (s : State). IsOneOf (node_disks new) (states_with s (undecided (fresh_log start) (h ++ es)))) state_now
+      (first_left (node_disks new) (node_state new) (undecided (fresh_log start) (h ++ es)) (go.durable (is.kept were_honest (ran old new seat reading call answer go runs)) runs))
+
+  leaves_failed : is_some (node_stopped new) ≡ true → node_stopped old ≡ None → IsOneOf (node_disks new) (states_left start (h ++ es))
+  leaves_failed has before =
+      let failed = has_failed old new seat reading call answer go has before in
+      subst (λ (o : Option Event). IsOneOf (node_disks new) (states_with (state_after start (h ++ es)) o)) (sym (undecided_is old new seat reading call answer start h go is.leads before failed))
+      (subst (λ (s : State). IsOneOf (node_disks new) (states_with s (Some (event_at (node_state new) reading call)))) state_now
+      (go.undecided_now (is.kept were_honest before) failed))
+
+  leaves_stopped : (n : ℕ) → node_stopped old ≡ Some n → IsOneOf (node_disks new) (states_left start (h ++ es))
+  leaves_stopped n was =
+      subst (λ (states : List State). IsOneOf (node_disks new) states) (sym (same_left old new seat reading call answer go n was start h))
+      (subst (λ (d : Disks). IsOneOf d (states_left start h)) (sym (same_disks old new seat reading call answer go n was)) (is.left were_honest))
+
+  leaves : (now before : Option ℕ) → node_stopped new ≡ now → node_stopped old ≡ before → IsOneOf (node_disks new) (states_left start (h ++ es))
+  leaves None before runs was = leaves_running runs
+  leaves (Some m) None has was = leaves_failed (ap is_some has) was
+  leaves (Some m) (Some n) has was = leaves_stopped n was
+
+-- a count rose, if it has stopped
+causes : {D : Type 0} {B : Ghosts D} (old new : Node D B) (seat reading : ℕ) (call : Call) (answer : Result Answered Refusal) (start : State) (h : List Entry) → Goes old new seat reading call answer → StandsFor old start h
+    → (before : Option ℕ) → node_stopped old ≡ before → is_some (node_stopped new) ≡ true → HasRisen (node_origin new) (node_disks new)
+causes old new seat reading call answer start h go is None was has =
+    let fault = go.failed (has_failed old new seat reading call answer go has was) in
+    subst (λ (o : Origin). HasRisen o (node_disks new)) (ap origin_of (sym go.origin)) (rises (node_origin old) (node_disks old) (node_disks new) fault.0 is.since_a is.since_b fault.2)
+causes old new seat reading call answer start h go is (Some n) was has =
+    subst (λ (o : Origin). HasRisen o (node_disks new)) (ap origin_of (sym go.origin)) (risen_on (node_origin old) (node_disks old) (node_disks new) go.later (is.cause (ap is_some was)))
+
+stands_on : {D : Type 0} {B : Ghosts D} (old new : Node D B) (seat reading : ℕ) (call : Call) (answer : Result Answered Refusal) (start : State) (h : List Entry) → Goes old new seat reading call answer → StandsFor old start h
+    → StandsFor new start (h ++ entries_with (node_ticked new) seat reading call answer)
+stands_on old new seat reading call answer start h go is = record {
+  consistent = is.consistent;
+  legal = goes_on (fresh_log start) h (entries_with (node_ticked new) seat reading call answer) is.legal (subst (λ (l : Log). IsLegalFrom l (entries_with (node_ticked new) seat reading call answer)) is.leads go.step.legal);
+  leads = leads_on old new start h (entries_with (node_ticked new) seat reading call answer) go.step.leads is.leads;
+  numbers = numbers_on start h (entries_with (node_ticked new) seat reading call answer) (node_log old) (node_report old) (node_report new) is.leads is.numbers go.numbers;
+  since_a = since_on (node_origin old).disk_a (node_origin new).disk_a (node_disks old).a (node_disks new).a (ap (λ (d : Disks). (origin_of d).disk_a) go.origin) go.honesty.0 go.later.0 is.since_a;
+  since_b = since_on (node_origin old).disk_b (node_origin new).disk_b (node_disks old).b (node_disks new).b (ap (λ (d : Disks). (origin_of d).disk_b) go.origin) go.honesty.1 go.later.1 is.since_b;
+  cause = causes old new seat reading call answer start h go is (node_stopped old) refl;
+  kept = λ honest runs. go.kept (is.kept (still_honest (node_disks new) (node_disks old) (sym go.honesty.0, sym go.honesty.1) honest) (ran old new seat reading call answer go runs)) runs;
+  left = λ honest. leaves old new seat reading call answer start h go is honest (node_stopped new) (node_stopped old) refl refl;
+}
+
+-- with the tick as the step told it
+pub stands_with : {D : Type 0} {B : Ghosts D} (old new : Node D B) (seat reading : ℕ) (call : Call) (answer : Result Answered Refusal) (start : State) (h : List Entry) (tick : Option ℕ) → tick ≡ node_ticked new → Goes old new seat reading call answer → StandsFor old start h
+    → StandsFor new start (h ++ made_by seat tick reading call answer)
+stands_with old new seat reading call answer start h tick told go is =
+    subst (λ (es : List Entry). StandsFor new start (h ++ es)) (made_is (node_ticked new) seat reading call answer ∙ ap (λ (t : Option ℕ). made_by seat t reading call answer) (sym told))
+    (stands_on old new seat reading call answer start h go is)
+
+-- ---- as it was opened
+
+pub were_honest_first : (was mid later : Disks) → SameHonesty was mid → SameHonesty mid later → AreHonest later → AreHonest was
+were_honest_first was mid later first second honest = still_honest later was (sym (second.0 ∙ first.0), sym (second.1 ∙ first.1)) honest
+
+pub same_origin : (was mid later : Disks) → AreQuiet was mid → AreQuiet mid later → SameHonesty was mid → SameHonesty mid later → origin_of later ≡ origin_of was
+same_origin was mid later quiet quieter first second = λ i. record {
+  disk_a = record { faults = (quieter.0 ∙ quiet.0) i; honest = (second.0 ∙ first.0) i };
+  disk_b = record { faults = (quieter.1 ∙ quiet.1) i; honest = (second.1 ∙ first.1) i };
+}
+
+pub begins : {D : Type 0} {B : Ghosts D} (n : Node D B) → IsConsistent (node_state n) → node_stopped n ≡ None → (node_report n).entries ≡ 0 → (node_report n).changing ≡ 0 → (node_report n).refused ≡ 0
+    → opened_disks n ≡ node_disks n → (AreHonest (node_disks n) → IsKept n) → (AreHonest (node_disks n) → IsDurable (node_disks n) (node_state n)) → StandsFor n (node_state n) []
+begins n consistent runs entries changed refused opened kept durable = record {
+  consistent = consistent;
+  legal = refl;
+  leads = ap (log_of (node_state n)) runs;
+  numbers = record { entries = entries; changing = changed; refused = refused };
+  since_a = let same = ap (λ (d : Disks). d.a.faults) opened in (ap (λ (d : Disks). d.a.honest) (sym opened), omega (arith, same));
+  since_b = let same = ap (λ (d : Disks). d.b.faults) opened in (ap (λ (d : Disks). d.b.honest) (sym opened), omega (arith, same));
+  cause = λ has. absurd (true≢false (sym has ∙ ap is_some runs));
+  kept = λ honest still. kept honest;
+  left = λ honest. first_left (node_disks n) (node_state n) None (durable honest);
+}
+
+-- ---- the disks handed back
+
+pub left_closed : {D : Type 0} {B : Ghosts D} (n : Node D B) (a b : D) (start : State) (h : List Entry) → a ≡ node_disk_a n → b ≡ node_disk_b n → StandsFor n start h → AreHonest (disks_of B a b) → IsOneOf (disks_of B a b) (states_left start h)
+left_closed {D} {B} n a b start h same_a same_b is honest =
+    let same : disks_of B a b ≡ node_disks n = λ i. disks_of B (same_a i) (same_b i) in
+    subst (λ (d : Disks). IsOneOf d (states_left start h)) (sym same) (is.left (subst AreHonest same honest))

@@ -1,0 +1,30 @@
+// A node as what a desk serves.
+ghost use Rattle.sb_node.specs.Nodes.{node_state};
+ghost use Rattle.sb_node.specs.Serving.{node_origin, StandsFor};
+
+use crate::Node;
+use sb_desk::{Report, Served, Stepped};
+use sb_machine::Call;
+use sb_outside::Disk;
+
+impl<D: Disk> Served for Node<D> {
+    ghost state = { λ n. node_state n };
+
+    ghost stands = { λ n start h. StandsFor n start h };
+
+    ghost origin = { λ n. node_origin n };
+
+    fn step(&mut self, reading: u64, call: &Call) -> Stepped {
+        let answer = Node::step(self, reading, call);
+        Stepped {
+            answer,
+            tick: self.ticked(),
+        }
+    }
+
+    fn tally(&self) -> Report {
+        self.numbers()
+    }
+
+    ghost legal = { λ n start h is. (is.consistent, is.legal) };
+}
