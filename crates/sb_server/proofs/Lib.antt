@@ -1,0 +1,9 @@
+pub mod Going
+pub mod Texts
+pub mod Responding
+pub mod Reading
+pub mod Turning
+pub mod Working
+pub mod Words
+pub mod Serving
+pub mod Outcomes

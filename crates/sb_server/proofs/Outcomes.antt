@@ -1,0 +1,191 @@
+-- What serving tells of the entries of passes and of the faults of doors.
+use Rattle.std.proofs.Common.{◌≡◌, ℕ, ◌==◌, List, [], ◌∷◌, ◌++◌, map, filter, sym, refl, ap, ◌∙◌, subst, inl, inr, arith, Bool, true, false, ◌||◌, Option, Some, None, Result, Ok, Err}
+use Rattle.std.specs.Prelude.{if◌then◌else◌}
+use Rattle.std.specs.List.{list_any}
+use Rattle.std.proofs.lemmas.Grind.{common_steps}
+use Rattle.std.proofs.lemmas.List.Folds.{list_any-append}
+use Rattle.sb_machine.specs.History.{stops}
+use Rattle.sb_machine.specs.declared.call.Call.{Call}
+use Rattle.sb_machine.specs.declared.call.TimedCall.{TimedCall}
+use Rattle.sb_machine.specs.declared.history.Entry.{Entry}
+use Rattle.sb_machine.specs.declared.reply.Answered.{Answered}
+use Rattle.sb_machine.specs.declared.reply.Refusal.{Refusal}
+use Rattle.sb_machine.specs.declared.reply.Refusal.TheVariants.{BadCall, OutOfMemory as NoMemory}
+use Rattle.sb_desk.specs.Desks.{Open, Sitting}
+use Rattle.sb_desk.specs.Entries.{made_by, entries_by, seat_of}
+use Rattle.sb_desk.specs.Lists.{Each}
+use Rattle.sb_outside.specs.Causes.{Rose}
+use Rattle.sb_http.specs.Messages.{RequestMessage}
+use Rattle.sb_server.specs.declared.answer.Turn.{Turn}
+use Rattle.sb_server.specs.declared.answer.Turn.TheVariants.{Stops}
+use Rattle.sb_server.specs.declared.ask.Ask.{Ask}
+use Rattle.sb_server.specs.declared.ask.Ask.TheVariants.{Once, Patient, Line, BadLine, Fault as NoCall}
+use Rattle.sb_server.specs.declared.ending.Ending.{Ending}
+use Rattle.sb_server.specs.declared.ending.Ending.TheVariants.{Closed, BadHead, HeadTooLarge, BodyTooLarge, Truncated, LongConnection, ReadFault, WriteFault, Stopped as NodeStopped, OutOfMemory as Lost}
+use Rattle.sb_server.specs.declared.ending.ServeEnding.{ServeEnding}
+use Rattle.sb_server.specs.declared.ending.ServeEnding.TheVariants.{Done, DoorFault, OutOfMemory}
+use Rattle.sb_server.specs.declared.work.Stop.{Stop}
+use Rattle.sb_server.specs.declared.work.Stop.TheVariants.{Enough, Ended, Fault, Stopped, OutOfMemory as Wanting}
+use Rattle.sb_server.specs.Asks.{AsksFor, Reads, line_in, asks_close}
+use Rattle.sb_server.specs.Responds.{IsOne, RespondsTo, Responds, turn_of}
+use Rattle.sb_server.specs.Serves.{Worker, Working, Served, is_fault, is_lost, serve_ending}
+use Rattle.sb_server.specs.Talks.{Start, Here, Talks, Ends}
+use Rattle.sb_server.specs.Waiting.{GoesBy, Waits, round_made, rounds_made}
+use Rattle.sb_server.specs.Works.{Visit, Worked, ServesBy, TellsFault, StopsBy, is_stop}
+use Rattle.sb_server.proofs.Going.{goes_by_none, goes_by_both}
+
+-- ---- the entries of a pass
+
+pub ends_go : (s : Start) (h : Here) (e : Ending) → Ends s h e → (made : List Entry) × GoesBy s.pass made h.pass
+ends_go s h Closed (inl t) = (t.made, t.goes)
+ends_go s h Closed (inr t) = (t.0.0.made, t.0.0.goes)
+ends_go s h NodeStopped t = (t.made, t.goes)
+ends_go s h Truncated t = (t.0.0.made, t.0.0.goes)
+ends_go s h LongConnection t = (t.0.0.made, t.0.0.goes)
+ends_go s h ReadFault t = (t.0.0.made, t.0.0.goes)
+ends_go s h BadHead t = (t.talks.made, t.talks.goes)
+ends_go s h HeadTooLarge t = (t.talks.made, t.talks.goes)
+ends_go s h BodyTooLarge t = (t.talks.made, t.talks.goes)
+ends_go s h WriteFault t = (t.0.made, t.0.goes)
+ends_go s h Lost (inl t) = (t.made, t.goes)
+ends_go s h Lost (inr t) = (t.made ++ t.mine, t.goes)
+
+-- a worker's pass goes on by the entries of its connections' calls
+pub worked_goes : {X : Type 0} (there given : X → Option (List ℕ)) (reads writes : X → ℕ) (p q : Sitting) (vs : List (Visit X)) → Worked (ServesBy there given reads writes) p vs q → (made : List Entry) × GoesBy p made q
+worked_goes there given reads writes p q [] w = ([], subst (λ (r : Sitting). GoesBy p [] r) (sym w) (goes_by_none p))
+worked_goes there given reads writes p q (v ∷ vs) w =
+    let one = ends_go _ _ v.ending w.1.1 in
+    let rest = worked_goes there given reads writes w.0 q vs w.2 in
+    (one.0 ++ rest.0, goes_by_both p w.0 q one.0 rest.0 one.1 rest.1)
+
+-- ---- a namespace that acts no more
+
+or_left : (a b : Bool) → a ≡ true → (a || b) ≡ true
+or_left true b e = refl
+or_left false b e = absurd cc
+
+or_right : (a b : Bool) → b ≡ true → (a || b) ≡ true
+or_right true b e = refl
+or_right false b e = e
+
+stop_left : (xs ys : List Entry) → list_any is_stop xs ≡ true → list_any is_stop (xs ++ ys) ≡ true
+stop_left xs ys e = list_any-append is_stop xs ys ∙ or_left (list_any is_stop xs) (list_any is_stop ys) e
+
+stop_right : (xs ys : List Entry) → list_any is_stop ys ≡ true → list_any is_stop (xs ++ ys) ≡ true
+stop_right xs ys e = list_any-append is_stop xs ys ∙ or_right (list_any is_stop xs) (list_any is_stop ys) e
+
+any_kept : (p q : Entry → Bool) (xs : List Entry) → list_any q (filter p xs) ≡ true → list_any q xs ≡ true
+any_kept p q [] e = e
+any_kept p q (x ∷ xs) e = by (any_kept p q xs) (p x) refl
+  where
+    by : (list_any q (filter p xs) ≡ true → list_any q xs ≡ true) → (b : Bool) → p x ≡ b → list_any q (x ∷ xs) ≡ true
+    by rest true is = grind (arith, common_steps, e, is, rest)
+    by rest false is = grind (arith, common_steps, e, is, rest)
+
+made_stops : (seat : ℕ) (tick : Option ℕ) (reading : ℕ) (call : Call) (answer : Result Answered Refusal) → stops answer ≡ true → list_any is_stop (made_by seat tick reading call answer) ≡ true
+made_stops seat (Some t) reading call answer e = or_left (stops answer) false e
+made_stops seat None reading call answer e = or_left (stops answer) false e
+
+one_stops : (seat : ℕ) (call : Call) (made : List Entry) (answer : Result Answered Refusal) → IsOne seat call made answer → stops answer ≡ true → list_any is_stop made ≡ true
+one_stops seat call made answer one e = ap (list_any is_stop) one.2 ∙ made_stops seat one.0 one.1 call answer e
+
+waits_stops : (seat : ℕ) (call : Call) (limit : ℕ) (made : List Entry) (answer : Result Answered Refusal) → Waits seat call limit made answer → stops answer ≡ true → list_any is_stop made ≡ true
+waits_stops seat call limit made answer w e =
+    ap (list_any is_stop) w.made_is
+    ∙ stop_right (rounds_made seat call w.before) (round_made seat call w.last) (made_stops seat w.last.tick w.last.reading call w.last.answer (ap stops (sym w.answer_is) ∙ e))
+
+turn_stops : (closes ends : Bool) → Stops ≡ turn_of closes ends → ends ≡ true
+turn_stops closes true e = refl
+turn_stops true false e = absurd cc
+turn_stops false false e = absurd cc
+
+no_line_goes : (said : Result TimedCall (List ℕ)) (refusal : Refusal) → Reads said (Err refusal) → stops (Err refusal) ≡ false
+no_line_goes said (BadCall key) r = refl
+no_line_goes said NoMemory r = refl
+no_line_goes said _ r = absurd r
+
+answer_stops : (seat : ℕ) (m : RequestMessage) (ask : Ask) (closes : Bool) (made : List Entry) (out : List ℕ) → AsksFor m ask → RespondsTo seat ask closes made out Stops → list_any is_stop made ≡ true
+answer_stops seat m (Once w host) closes made out a r = one_stops seat w.call made r.0 r.1 (turn_stops closes (stops r.0) r.3)
+answer_stops seat m (Patient w host limit) closes made out a r = waits_stops seat w.call limit made r.0 r.1 (turn_stops closes (stops r.0) r.3)
+answer_stops seat m (Line timed) closes made out a r = one_stops seat timed.call made r.0 r.1 (turn_stops closes (stops r.0) r.3)
+answer_stops seat m (BadLine (Ok reply)) closes made out a r = absurd a.1
+answer_stops seat m (BadLine (Err refusal)) closes made out a r =
+    let goes = no_line_goes (line_in m.body) refusal a.1 in
+    let ends = turn_stops closes (stops (Err refusal)) r.2 in
+    absurd cc
+answer_stops seat m (NoCall fault) closes made out a r = let ends = turn_stops closes false r.2 in absurd cc
+
+responds_stop : (seat : ℕ) (ms : List RequestMessage) (made : List Entry) (out : List ℕ) → Responds seat ms made out Stops → list_any is_stop made ≡ true
+responds_stop seat [] made out r = absurd cc
+responds_stop seat (m ∷ ms) made out (mine, rest, first, others, turn, made_is, out_is, one, inl on) = ap (list_any is_stop) made_is ∙ stop_right mine rest (responds_stop seat ms rest others on.1)
+responds_stop seat (m ∷ ms) made out (mine, rest, first, others, turn, made_is, out_is, one, inr last) =
+    ap (list_any is_stop) made_is
+    ∙ stop_left mine rest (answer_stops seat m one.ask (asks_close m) mine first one.asks (subst (λ (t : Turn). RespondsTo seat one.ask (asks_close m) mine first t) (sym last.after_is) one.responds))
+
+stop_seen : (s : Start) (h : Here) → Talks s h Stops → list_any is_stop h.pass.seen ≡ true
+stop_seen s h t =
+    let mine : list_any is_stop (entries_by s.pass.seat t.goes.0) ≡ true = ap (list_any is_stop) t.goes.2 ∙ responds_stop s.pass.seat t.ms t.made t.out t.responds in
+    let more : list_any is_stop t.goes.0 ≡ true = any_kept (λ (e : Entry). seat_of e == s.pass.seat) is_stop t.goes.0 mine in
+    ap (λ (p : Sitting). list_any is_stop p.seen) t.goes.1 ∙ stop_right s.pass.seen t.goes.0 more
+
+last_stops : {X : Type 0} (there given : X → Option (List ℕ)) (reads writes : X → ℕ) (p q : Sitting) (front : List (Visit X)) (v : Visit X) → v.ending ≡ NodeStopped → Worked (ServesBy there given reads writes) p (front ++ v ∷ []) q → list_any is_stop q.seen ≡ true
+last_stops there given reads writes p q [] v is w =
+    let s : Start = record { pass = p; there = there v.before; given = given v.before; reads = reads v.before; writes = writes v.before } in
+    let h : Here = record { pass = w.0; stand = w.1.0; written = given v.after; reads = reads v.after; writes = writes v.after } in
+    ap (λ (r : Sitting). list_any is_stop r.seen) w.2 ∙ stop_seen s h (subst (λ (e : Ending). Ends s h e) is w.1.1)
+last_stops there given reads writes p q (u ∷ front) v is w = last_stops there given reads writes w.0 q front v is w.2
+
+-- a worker that ended with the namespace has seen that it acts no more
+pub stopped_seen : {X : Type 0} (there given : X → Option (List ℕ)) (reads writes : X → ℕ) (p q : Sitting) (vs : List (Visit X)) (s : Stop) (most : ℕ) (ended : Bool) (before now : ℕ)
+    → Worked (ServesBy there given reads writes) p vs q → StopsBy s most vs ended before now → s ≡ Stopped → list_any is_stop q.seen ≡ true
+stopped_seen {X = X} there given reads writes p q vs s most ended before now w stops is =
+    let by : StopsBy Stopped most vs ended before now = subst (λ (t : Stop). StopsBy t most vs ended before now) is stops in
+    last_stops there given reads writes p q by.cause.0 by.cause.1 by.cause.3 (subst (λ (l : List (Visit X)). Worked (ServesBy there given reads writes) p l q) by.cause.2 w)
+
+-- ---- a door that failed
+
+-- one of the workers, of which this holds
+pub record One {D : Type 0} (P : Worker D → Type 0) (workers : List (Worker D)) : Type 0 where
+  pub front : List (Worker D)
+  pub worker : Worker D
+  pub back : List (Worker D)
+  pub workers_are : workers ≡ front ++ worker ∷ back
+  pub has : P worker
+
+one_fault : {D : Type 0} (Works : Worker D → Type 0) (ws : List (Worker D)) → Each Works ws → list_any is_fault (map (λ w. w.stop) ws) ≡ true → One (λ w. Works w × (w.stop ≡ Fault)) ws
+one_fault Works [] each e = absurd cc
+one_fault {D = D} Works (w ∷ ws) each e = by (λ f. later (one_fault Works ws each.1 f)) w.stop refl
+  where
+    later : One (λ v. Works v × (v.stop ≡ Fault)) ws → One (λ v. Works v × (v.stop ≡ Fault)) (w ∷ ws)
+    later o = record { front = w ∷ o.front; worker = o.worker; back = o.back; workers_are = ap (λ (l : List (Worker D)). w ∷ l) o.workers_are; has = o.has }
+
+    rest : (s : Stop) → w.stop ≡ s → is_fault s ≡ false → list_any is_fault (map (λ v. v.stop) ws) ≡ true
+    rest s is other = sym (ap (λ (b : Bool). b || list_any is_fault (map (λ v. v.stop) ws)) (ap is_fault is ∙ other)) ∙ e
+
+    by : (list_any is_fault (map (λ v. v.stop) ws) ≡ true → One (λ v. Works v × (v.stop ≡ Fault)) (w ∷ ws)) → (s : Stop) → w.stop ≡ s → One (λ v. Works v × (v.stop ≡ Fault)) (w ∷ ws)
+    by go Fault is = record { front = []; worker = w; back = ws; workers_are = refl; has = (each.0, is) }
+    by go Enough is = go (rest Enough is refl)
+    by go Ended is = go (rest Ended is refl)
+    by go Stopped is = go (rest Stopped is refl)
+    by go Wanting is = go (rest Wanting is refl)
+
+told : (a b : Bool) → DoorFault ≡ (if a then DoorFault else (if b then OutOfMemory else Done)) → a ≡ true
+told true b e = refl
+told false true e = absurd cc
+told false false e = absurd cc
+
+fault_told : (stops : List Stop) → DoorFault ≡ serve_ending stops → list_any is_fault stops ≡ true
+fault_told stops e = told (list_any is_fault stops) (list_any is_lost stops) e
+
+-- a door's count rose, where that is how serving ended
+pub door_rose : {D X : Type 0} (Serves : Sitting → Visit X → Sitting → Type 0) (waiting taken : D → Option (List X)) (ended : D → Bool) (count out : D → ℕ) (desk : Open) (most : ℕ) (passes passes_after : List Sitting) (doors doors_after : List D) (ending : ServeEnding)
+    (s : Served (Working Serves waiting taken ended count out desk most) passes passes_after doors doors_after ending) → ending ≡ DoorFault → One (λ w. Rose (count w.door) (count w.door_after)) s.workers
+door_rose Serves waiting taken ended count out desk most passes passes_after doors doors_after ending s is =
+    let o = one_fault (Working Serves waiting taken ended count out desk most) s.workers s.each (fault_told (map (λ w. w.stop) s.workers) (sym is ∙ s.ending_is)) in
+    record {
+      front = o.front;
+      worker = o.worker;
+      back = o.back;
+      workers_are = o.workers_are;
+      has = subst (λ (t : Stop). TellsFault t (count o.worker.door) (count o.worker.door_after)) o.has.1 o.has.0.stops.faults;
+    }

@@ -1,0 +1,14 @@
+use Rattle.std.proofs.Common.{subst, rules}
+use Rattle.std.specs.Prelude.{slice_index_or}
+use Rattle.sb_server.specs.declared.job.Job.{Job}
+use Rattle.sb_server.specs.Serves.{Did, Working, Worker}
+use Rattle.sb_server.specs.Works.{ServesBy}
+use Rattle.sb_server.proofs.doors.serve_doors.Goals as goal
+
+pub returns : goal.returns
+returns g c = λ i d lt.
+    let Does : Worker g.row.D.Denot → Type 0 = Working (ServesBy g.D.Conn.Conn.left g.D.Conn.Conn.given g.D.Conn.Conn.reads g.D.Conn.Conn.writes) g.D.Door.left g.D.Door.taken g.D.Door.ended g.D.Door.count g.D.Door.out c.args.desk.now c.args.most in
+    let changes = c.for_each_mut.ensures i d lt in
+    let call = changes.1.call in
+    let did : Did Does changes.1.argument.now changes.1.after_call.now = search rules in
+    subst (λ (x : Job g.row.D.Denot). Did Does x (slice_index_or c.for_each_mut.new.s i d)) changes.1.argument_is (subst (λ (y : Job g.row.D.Denot). Did Does changes.1.argument.now y) changes.1.left did)

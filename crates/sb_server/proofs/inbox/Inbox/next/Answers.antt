@@ -1,0 +1,19 @@
+use Rattle.std.proofs.Common.{rules, refl, []}
+use Rattle.sb_server.proofs.Reading.{takes_start, takes_on, takes_of}
+use Rattle.sb_server.proofs.inbox.Inbox.next.Goals as goal
+
+pub loop-init : goal.loop-init
+loop-init g c = record {
+  takes = takes_start _;
+  given = refl;
+  later = search rules;
+  writes = refl;
+}
+
+pub loop-preserved-then-self : goal.loop-preserved-then-self
+loop-preserved-then-self g c = record {
+  takes = takes_on _ _ _ [] [] (takes_on _ _ _ [] [] c.loop.invariant.takes (takes_of _ _ _ _ [] c.in-NoneYet.ensures.0)) (c.feed_piece.ensures (g.N.Conn.left c.loop.conn));
+  given = c.loop.invariant.given;
+  later = c.loop.invariant.later;
+  writes = c.loop.invariant.writes;
+}

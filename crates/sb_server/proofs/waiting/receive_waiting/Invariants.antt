@@ -1,0 +1,10 @@
+use Rattle.sb_desk.specs.Desks.{IsOf, HasLegal}
+use Rattle.sb_server.specs.Waiting.{Waiting}
+use Rattle.sb_server.proofs.waiting.receive_waiting.Given as goal
+
+abbrev pub invariant-loop : goal.invariant-loop
+invariant-loop g l = record {
+  desk : IsOf l.desk l.current;
+  legal : HasLegal l.current;
+  waiting : Waiting l.fn.pass l.call l.limit l.first l.now l.answer l.current;
+}

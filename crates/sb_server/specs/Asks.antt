@@ -1,0 +1,100 @@
+-- What a request asks for, and whether its connection ends with the response.
+use Rattle.std.specs.Prelude.{◌≡◌, ℕ, ◌*◌, ◌-◌, ◌^◌, min, List, [], length, take, drop, codes, Bool, true, false, not, ◌&&◌, ◌||◌, ◌==◌, if◌then◌else◌, Result, Ok, Err}
+use Rattle.std.specs.List.{list_all, list_any, position_or_len}
+use Rattle.std.specs.Str.{is_utf8}
+use Rattle.form_urlencoded.specs.Form.{split}
+use Rattle.sb_machine.specs.Ordered.{IsActInOrder}
+use Rattle.sb_machine.specs.declared.call.Act.{Act}
+use Rattle.sb_machine.specs.declared.call.Act.TheVariants.{Receive}
+use Rattle.sb_machine.specs.declared.call.TimedCall.{TimedCall}
+use Rattle.sb_machine.specs.declared.reply.Answered.{Answered}
+use Rattle.sb_machine.specs.declared.reply.Refusal.{Refusal}
+use Rattle.sb_machine.specs.declared.reply.Refusal.TheVariants.{BadCall, OutOfMemory as NoMemory}
+use Rattle.sb_http.specs.Fields.{Field, same_word}
+use Rattle.sb_http.specs.Messages.{RequestMessage}
+use Rattle.sb_lines.specs.Lines.{line_of}
+use Rattle.sb_rest.specs.Batches.{is_blank}
+use Rattle.sb_rest.specs.Calls.{call_of}
+use Rattle.sb_rest.specs.Responses.{host_in}
+use Rattle.sb_rest.specs.declared.call.RestFault.{RestFault}
+use Rattle.sb_rest.specs.declared.call.RestFault.TheVariants.{NoRoute, BadMethod, Bad, Script, OutOfMemory}
+use Rattle.sb_rest.specs.declared.call.Wanted.{Wanted}
+use Rattle.sb_server.specs.declared.ask.Ask.{Ask}
+use Rattle.sb_server.specs.declared.ask.Ask.TheVariants.{Once, Patient, Line, BadLine, Fault}
+
+-- ---- the head
+
+abbrev pub close : List ℕ
+close = codes "close"
+
+-- without the blanks before it
+abbrev pub unindented : List ℕ → List ℕ
+unindented word = drop (position_or_len (λ b. not (is_blank b)) word) word
+
+-- close, and blanks behind it alone
+abbrev pub begins_close : List ℕ → Bool
+begins_close word = same_word close (take (length close) word) && list_all is_blank (drop (length close) word)
+
+abbrev pub is_close_word : List ℕ → Bool
+is_close_word word = begins_close (unindented word)
+
+-- one of the words between commas is close (RFC 9110, 5.6.1)
+unfoldable pub lists_close : List ℕ → Bool
+lists_close list = list_any is_close_word (split 44 list)
+
+abbrev pub is_close : Field → Bool
+is_close f = same_word (codes "connection") f.0 && lists_close f.1
+
+-- the connection ends for the request's sake: it is of HTTP/1.0, or a Connection line lists close
+abbrev pub asks_close : RequestMessage → Bool
+asks_close m = (m.head.minor == 0) || list_any is_close m.head.fields
+
+-- ---- what it asks for
+
+-- a receive waits where there is nothing yet
+abbrev pub is_receive : Act → Bool
+is_receive (Receive from mode session) = true
+is_receive _ = false
+
+-- so many s in ms, which stand still at 2^64 - 1
+abbrev pub ms_in : ℕ → ℕ
+ms_in s = min (s * 1000) (2 ^ 64 - 1)
+
+-- the call of a script line
+abbrev pub line_in : List ℕ → Result TimedCall (List ℕ)
+line_in body = if is_utf8 body then line_of body else Err []
+
+-- the call that is said, or why there is none; want of memory may come with each
+abbrev pub Reads : Result TimedCall (List ℕ) → Result TimedCall Refusal → Type 0
+Reads said (Ok timed) = (said ≡ Ok timed) × IsActInOrder timed.call.act
+Reads said (Err (BadCall key)) = said ≡ Err key
+Reads said (Err NoMemory) = Unit {0}
+Reads said (Err _) = ⊥
+
+-- a script line is no call, and is answered by why
+abbrev pub IsNoLine : Result TimedCall (List ℕ) → Result Answered Refusal → Type 0
+IsNoLine said (Ok reply) = ⊥
+IsNoLine said (Err refusal) = Reads said (Err refusal)
+
+-- why a request is no call; want of memory may come with each
+abbrev pub IsFault : RestFault → RequestMessage → Type 0
+IsFault NoRoute m = call_of m ≡ Err NoRoute
+IsFault BadMethod m = call_of m ≡ Err BadMethod
+IsFault (Bad key) m = call_of m ≡ Err (Bad key)
+IsFault Script m = ⊥
+IsFault OutOfMemory m = Unit {0}
+
+-- a call, the host that its request names, and whether it is a receive
+pub record IsCall (m : RequestMessage) (w : Wanted) (host : List ℕ) (receives : Bool) : Type 0 where
+  pub call : call_of m ≡ Ok w
+  pub in_order : IsActInOrder w.call.act
+  pub host_is : host ≡ host_in m.head.fields
+  pub receives_is : is_receive w.call.act ≡ receives
+
+-- the request asks for this
+abbrev pub AsksFor : RequestMessage → Ask → Type 0
+AsksFor m (Once w host) = IsCall m w host false
+AsksFor m (Patient w host limit) = IsCall m w host true × (limit ≡ ms_in w.timeout)
+AsksFor m (Line timed) = (call_of m ≡ Err Script) × Reads (line_in m.body) (Ok timed)
+AsksFor m (BadLine answer) = (call_of m ≡ Err Script) × IsNoLine (line_in m.body) answer
+AsksFor m (Fault fault) = IsFault fault m

@@ -1,0 +1,99 @@
+-- Workers at several doors.
+use Rattle.std.specs.Prelude.{◌≡◌, ◌⊎◌, ℕ, List, [], ◌∷◌, ◌++◌, map, Bool, true, false, Option, Some, None, if◌then◌else◌}
+use Rattle.std.specs.List.{list_any}
+use Rattle.sb_desk.specs.Desks.{Open, Sitting, IsOf}
+use Rattle.sb_desk.specs.Lists.{Each}
+use Rattle.sb_server.specs.declared.ending.ServeEnding.{ServeEnding}
+use Rattle.sb_server.specs.declared.ending.ServeEnding.TheVariants.{Done, DoorFault, OutOfMemory}
+use Rattle.sb_server.specs.declared.job.Job.{Job}
+use Rattle.sb_server.specs.declared.work.Stop.{Stop}
+use Rattle.sb_server.specs.declared.work.Stop.TheVariants.{Fault, Stopped, OutOfMemory as NoMemory}
+use Rattle.sb_server.specs.Works.{Visit, Works, StopsBy, is_stop}
+
+-- a worker: its pass and its door, before and after it worked, and why it ended
+pub record Worker (D : Type 0) : Type 0 where
+  pub pass : Sitting
+  pub door : D
+  pub pass_after : Sitting
+  pub door_after : D
+  pub stop : Stop
+
+-- What a worker did. It stopped with the namespace only where its pass has seen that.
+pub record Working {D X : Type 0} (Serves : Sitting → Visit X → Sitting → Type 0) (waiting taken : D → Option (List X)) (ended : D → Bool) (count out : D → ℕ) (desk : Open) (most : ℕ) (w : Worker D) : Type 0 where
+  pub of : IsOf desk w.pass_after
+  pub visits : List (Visit X)
+  pub works : Works Serves w.pass (waiting w.door) (taken w.door) w.pass_after (waiting w.door_after) (taken w.door_after) visits
+  pub stops : StopsBy w.stop most visits (ended w.door_after) (count w.door) (count w.door_after)
+  pub out_is : out w.door_after ≡ out w.door
+  pub stopped : w.stop ≡ Stopped → list_any is_stop w.pass_after.seen ≡ true
+
+-- ---- one job
+
+-- the worker has a pass of the desk
+pub record HasPass {D : Type 0} (desk : Open) (job : Job D) : Type 0 where
+  pub pass : Sitting
+  pub has : job.pass ≡ Some pass
+  pub of : IsOf desk pass
+
+-- its worker did this
+pub record Did {D : Type 0} (Works : Worker D → Type 0) (old new : Job D) : Type 0 where
+  pub worker : Worker D
+  pub had : old.pass ≡ Some worker.pass
+  pub at : old.door ≡ worker.door
+  pub has : new.pass ≡ Some worker.pass_after
+  pub left : new.door ≡ worker.door_after
+  pub stop : new.stop ≡ worker.stop
+  pub does : Works worker
+
+-- ---- all jobs, which stand the last door first
+
+abbrev pub IsManned : {D : Type 0} → Job D → Type 0
+IsManned job = (pass : Sitting) × (job.pass ≡ Some pass)
+
+-- the pass, where there is one, before these
+abbrev pub and_pass : Option Sitting → List Sitting → List Sitting
+and_pass None passes = passes
+and_pass (Some pass) passes = pass ∷ passes
+
+-- the passes of their workers, in the order of the doors
+abbrev pub passes_in : {D : Type 0} → List (Job D) → List Sitting
+passes_in [] = []
+passes_in (job ∷ jobs) = passes_in jobs ++ and_pass job.pass []
+
+-- the doors, in their order
+abbrev pub doors_in : {D : Type 0} → List (Job D) → List D
+doors_in [] = []
+doors_in (job ∷ jobs) = doors_in jobs ++ job.door ∷ []
+
+abbrev pub stops_in : {D : Type 0} → List (Job D) → List Stop
+stops_in jobs = map (λ job. job.stop) jobs
+
+-- ---- how serving ended
+
+abbrev pub is_fault : Stop → Bool
+is_fault Fault = true
+is_fault _ = false
+
+abbrev pub is_lost : Stop → Bool
+is_lost NoMemory = true
+is_lost _ = false
+
+-- a fault of a door, else want of memory, where a worker ended for that
+abbrev pub serve_ending : List Stop → ServeEnding
+serve_ending stops = if list_any is_fault stops then DoorFault else (if list_any is_lost stops then OutOfMemory else Done)
+
+-- Each door had a worker with a pass of its own; the passes before these stayed as they were.
+pub record Served {D : Type 0} (Works : Worker D → Type 0) (passes passes_after : List Sitting) (doors doors_after : List D) (ending : ServeEnding) : Type 0 where
+  pub spare : List Sitting
+  pub workers : List (Worker D)
+  pub passes_are : passes ≡ spare ++ map (λ w. w.pass) workers
+  pub passes_then : passes_after ≡ spare ++ map (λ w. w.pass_after) workers
+  pub doors_are : doors ≡ map (λ w. w.door) workers
+  pub doors_then : doors_after ≡ map (λ w. w.door_after) workers
+  pub each : Each Works workers
+  pub ending_is : ending ≡ serve_ending (map (λ w. w.stop) workers)
+
+-- all were served, or there was no memory to begin
+abbrev pub Serving : {D : Type 0} → (Worker D → Type 0) → List Sitting → List Sitting → List D → List D → ServeEnding → Type 0
+Serving Works passes passes_after doors doors_after ending =
+    Served Works passes passes_after doors doors_after ending ⊎ ((ending ≡ OutOfMemory) × (passes_after ≡ passes) × (doors_after ≡ doors))

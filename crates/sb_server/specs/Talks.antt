@@ -1,0 +1,150 @@
+-- A connection as far as it has come, and how it ends.
+use Rattle.std.specs.Prelude.{◌≡◌, ◌⊎◌, ℕ, ◌^◌, ◌≤◌, ◌<◌, List, [], ◌∷◌, ◌++◌, length, true, Option, Some, None}
+use Rattle.sb_machine.specs.declared.history.Entry.{Entry}
+use Rattle.sb_desk.specs.Desks.{Sitting}
+use Rattle.sb_outside.specs.Causes.{Rose}
+use Rattle.sb_outside.specs.Streams.{Gains, GainsPart}
+use Rattle.sb_http.specs.declared.fault.HttpFault.{HttpFault}
+use Rattle.sb_http.specs.declared.fault.HttpFault.TheVariants.{BadHead as HeadBad, HeadTooLarge as HeadLarge, BodyTooLarge as BodyLarge}
+use Rattle.sb_http.specs.declared.response.Status.{Status}
+use Rattle.sb_http.specs.declared.response.Status.TheVariants.{BadRequest, PayloadTooLarge, HeaderFieldsTooLarge}
+use Rattle.sb_http.specs.Causes.{Refuses}
+use Rattle.sb_http.specs.Messages.{RequestMessage}
+use Rattle.sb_http.specs.Responses.{ResponseMessage, response_bytes}
+use Rattle.sb_http.specs.Stages.{whole, held}
+use Rattle.sb_http.specs.Streams.{Requests}
+use Rattle.sb_server.specs.declared.answer.Turn.{Turn}
+use Rattle.sb_server.specs.declared.answer.Turn.TheVariants.{Goes, Closes, Stops}
+use Rattle.sb_server.specs.declared.ending.Ending.{Ending}
+use Rattle.sb_server.specs.declared.ending.Ending.TheVariants.{Closed, BadHead, HeadTooLarge, BodyTooLarge, Truncated, LongConnection, ReadFault, WriteFault, Stopped, OutOfMemory}
+use Rattle.sb_server.specs.Reads.{Stand, HasRead, IsDone, WaitsForMore}
+use Rattle.sb_server.specs.Responds.{Acted, Responds}
+use Rattle.sb_server.specs.Waiting.{GoesBy}
+
+-- How a connection began: the pass, what it has left and what it was given, where it tells, and its counts of
+-- faults.
+pub record Start : Type 0 where
+  pub pass : Sitting
+  pub there : Option (List ℕ)
+  pub given : Option (List ℕ)
+  pub reads : ℕ
+  pub writes : ℕ
+
+-- where it stands
+pub record Here : Type 0 where
+  pub pass : Sitting
+  pub stand : Stand
+  pub written : Option (List ℕ)
+  pub reads : ℕ
+  pub writes : ℕ
+
+-- A connection as far as it has come: the requests taken of the bytes that were fed, the entries of their calls, all
+-- their responses, which were written, and how it goes on.
+pub record Talks (s : Start) (h : Here) (turn : Turn) : Type 0 where
+  pub fed : List ℕ
+  pub ms : List RequestMessage
+  pub made : List Entry
+  pub out : List ℕ
+  pub requests : Requests fed ms h.stand.left
+  pub read : HasRead s.there fed h.stand.there
+  pub count : h.stand.fed ≡ length fed
+  pub goes : GoesBy s.pass made h.pass
+  pub responds : Responds s.pass.seat ms made out turn
+  pub wrote : Gains s.given h.written out
+  pub reads : s.reads ≤ h.reads
+  pub writes : s.writes ≤ h.writes
+
+-- ---- what is refused
+
+abbrev pub refusal_status : HttpFault → Status
+refusal_status HeadBad = BadRequest
+refusal_status HeadLarge = HeaderFieldsTooLarge
+refusal_status BodyLarge = PayloadTooLarge
+
+-- the response, which ends the connection
+abbrev pub refusal_said : HttpFault → ResponseMessage
+refusal_said fault = record { status = refusal_status fault; fields = []; body = []; ends = true }
+
+abbrev pub refusal_bytes : HttpFault → List ℕ
+refusal_bytes fault = response_bytes (refusal_said fault)
+
+abbrev pub refusal_ending : HttpFault → Ending
+refusal_ending HeadBad = BadHead
+refusal_ending HeadLarge = HeadTooLarge
+refusal_ending BodyLarge = BodyTooLarge
+
+-- all responses were written, and behind them that of a refusal, which has its cause
+pub record IsRefused (s : Start) (h : Here) (fault : HttpFault) : Type 0 where
+  pub before : Option (List ℕ)
+  pub talks : Talks s (record h { written = before }) Goes
+  pub wrote : Gains before h.written (refusal_bytes fault)
+  pub cause : Refuses fault h.stand.left
+
+-- ---- what is cut off
+
+-- what was to be written: the responses, or these and that of a refusal, which has its cause
+abbrev pub IsAll : Here → Turn → List ℕ → List ℕ → Type 0
+IsAll h turn out all = (all ≡ out) ⊎ ((fault : HttpFault) × (turn ≡ Goes) × Refuses fault h.stand.left × (all ≡ out ++ refusal_bytes fault))
+
+-- a front of it was written
+pub record Parts (s : Start) (h : Here) : Type 0 where
+  pub fed : List ℕ
+  pub ms : List RequestMessage
+  pub made : List Entry
+  pub out : List ℕ
+  pub turn : Turn
+  pub all : List ℕ
+  pub requests : Requests fed ms h.stand.left
+  pub read : HasRead s.there fed h.stand.there
+  pub goes : GoesBy s.pass made h.pass
+  pub responds : Responds s.pass.seat ms made out turn
+  pub all_is : IsAll h turn out all
+  pub wrote : GainsPart s.given h.written all
+
+-- all responses were written but that to the last request, of which nothing was
+pub record LacksLast (s : Start) (h : Here) : Type 0 where
+  pub fed : List ℕ
+  pub ms : List RequestMessage
+  pub m : RequestMessage
+  pub made : List Entry
+  pub mine : List Entry
+  pub out : List ℕ
+  pub requests : Requests fed (ms ++ m ∷ []) h.stand.left
+  pub read : HasRead s.there fed h.stand.there
+  pub goes : GoesBy s.pass (made ++ mine) h.pass
+  pub responds : Responds s.pass.seat ms made out Goes
+  pub acted : Acted s.pass.seat m mine
+  pub wrote : Gains s.given h.written out
+
+-- ---- how it ends
+
+-- where reading ended, each request that had come whole was taken
+abbrev pub ReadsOut : Start → Here → Type 0
+ReadsOut s h = Talks s h Goes × WaitsForMore h.stand.left
+
+-- each ending by its cause; want of memory may come for each response
+abbrev pub Ends : Start → Here → Ending → Type 0
+Ends s h Closed = Talks s h Closes ⊎ (ReadsOut s h × IsDone s.there h.stand.there × (h.stand.left ≡ whole []))
+Ends s h Stopped = Talks s h Stops
+Ends s h Truncated = ReadsOut s h × IsDone s.there h.stand.there × (0 < held h.stand.left)
+Ends s h LongConnection = ReadsOut s h × (2 ^ 32 ≤ h.stand.fed)
+Ends s h ReadFault = ReadsOut s h × Rose s.reads h.reads
+Ends s h BadHead = IsRefused s h HeadBad
+Ends s h HeadTooLarge = IsRefused s h HeadLarge
+Ends s h BodyTooLarge = IsRefused s h BodyLarge
+Ends s h WriteFault = Parts s h × Rose s.writes h.writes
+Ends s h OutOfMemory = Talks s h Goes ⊎ LacksLast s h
+
+-- it goes on, or ends
+abbrev pub TurnsTo : Start → Here → Option Ending → Type 0
+TurnsTo s h None = Talks s h Goes
+TurnsTo s h (Some ending) = Ends s h ending
+
+abbrev pub Turns : Here → Option Ending → Here → Type 0
+Turns old ending new = (s : Start) → Talks s old Goes → TurnsTo s new ending
+
+-- how it goes on after a response
+abbrev pub ending_of : Turn → Option Ending
+ending_of Goes = None
+ending_of Closes = Some Closed
+ending_of Stops = Some Stopped

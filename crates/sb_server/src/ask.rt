@@ -1,0 +1,147 @@
+// What a request asks for.
+ghost use Rattle.std.specs.Prelude.{◌≡◌, [], Ok, Err};
+ghost use Rattle.sb_machine.specs.Ordered.{IsActInOrder};
+ghost use Rattle.sb_http.specs.Said.{said_by};
+ghost use Rattle.sb_lines.specs.Lines.{line_of};
+ghost use Rattle.sb_rest.specs.Calls.{call_of};
+ghost use Rattle.sb_rest.specs.declared.call.RestFault.TheVariants.{Script};
+ghost use Rattle.sb_server.specs.Asks as asks;
+
+use sb_http::Request;
+use sb_lines::{LineFault, read_line};
+use sb_machine::{Act, Answer, Refusal, TimedCall};
+use sb_model::Text;
+use sb_outside::Bytes;
+use sb_rest::{RestFault, Wanted, call_of, host_of};
+use sb_routes::Routes;
+use std::alloc::Global;
+
+/// What a request asks for. A host is the one that the request names, or `localhost`.
+#[derive(Debug, Drop)]
+pub enum Ask {
+    /// A call that is answered at once.
+    Once {
+        wanted: Wanted,
+        host: Bytes,
+    },
+    /// A receive that waits so many ms at most.
+    Patient {
+        wanted: Wanted,
+        host: Bytes,
+        limit_ms: u64,
+    },
+    /// A script line.
+    Line {
+        timed: TimedCall,
+    },
+    /// A script line that is no call.
+    BadLine {
+        answer: Answer,
+    },
+    /// No call.
+    Fault {
+        fault: RestFault,
+    },
+}
+
+/// What a request asks for. Where there is no memory to tell, that is a fault.
+pub(crate) fn ask_of(alloc: Global, routes: &Routes, request: &Request) -> Ask
+    ensures { asks.AsksFor (said_by request.now) result }
+{
+    match call_of(alloc, routes, request) {
+        Ok(wanted) => called(alloc, request, wanted),
+        Err(RestFault::Script) => line_ask(alloc, request),
+        Err(RestFault::NoRoute) => Ask::Fault {
+            fault: RestFault::NoRoute,
+        },
+        Err(RestFault::BadMethod) => Ask::Fault {
+            fault: RestFault::BadMethod,
+        },
+        Err(RestFault::Bad { key }) => Ask::Fault {
+            fault: RestFault::Bad { key },
+        },
+        Err(RestFault::OutOfMemory) => Ask::Fault {
+            fault: RestFault::OutOfMemory,
+        },
+    }
+}
+
+fn is_receive(act: &Act) -> bool
+    ensures { result ≡ asks.is_receive act.now }
+{
+    matches!(
+        act,
+        Act::Receive {
+            from: _,
+            mode: _,
+            session: _
+        }
+    )
+}
+
+// A call that may wait.
+fn called(alloc: Global, request: &Request, wanted: Wanted) -> Ask
+    requires said { call_of (said_by request.now) ≡ Ok wanted }
+    requires in_order { IsActInOrder wanted.call.act }
+    ensures { asks.AsksFor (said_by request.now) result }
+{
+    let Ok(host) = Bytes::of(alloc, host_of(request)) else {
+        return Ask::Fault {
+            fault: RestFault::OutOfMemory,
+        };
+    };
+    if is_receive(&wanted.call.act) {
+        let limit_ms = wanted.timeout.saturating_mul(1000);
+        return Ask::Patient {
+            wanted,
+            host,
+            limit_ms,
+        };
+    }
+    Ask::Once { wanted, host }
+}
+
+// A body as a script line.
+fn line_ask(alloc: Global, request: &Request) -> Ask
+    requires { call_of (said_by request.now) ≡ Err Script }
+    ensures { asks.AsksFor (said_by request.now) result }
+{
+    match line_in(alloc, request.body) {
+        Ok(timed) => Ask::Line { timed },
+        Err(refusal) => Ask::BadLine {
+            answer: Err(refusal),
+        },
+    }
+}
+
+// The call of a script line, or why there is none.
+#[tactic(auto, using(crate::proofs::Texts::text_tests))]
+fn line_in(alloc: Global, body: &[u8]) -> Result<TimedCall, Refusal>
+    ensures { asks.Reads (asks.line_in body.now) result }
+{
+    match std::str::from_utf8(body) {
+        Ok(text) => text_in(alloc, text),
+        Err(_) => no_text(alloc),
+    }
+}
+
+// The same of a text.
+fn text_in(alloc: Global, text: &str) -> Result<TimedCall, Refusal>
+    ensures { asks.Reads (line_of text.now) result }
+{
+    match read_line(alloc, text) {
+        Ok(timed) => Ok(timed),
+        Err(LineFault::BadKey { key }) => Err(Refusal::BadCall { key }),
+        Err(LineFault::OutOfMemory) => Err(Refusal::OutOfMemory),
+    }
+}
+
+// The same of what is no text: it has no key.
+fn no_text(alloc: Global) -> Result<TimedCall, Refusal>
+    ensures { asks.Reads (Err []) result }
+{
+    let Ok(key) = Text::of(alloc, "") else {
+        return Err(Refusal::OutOfMemory);
+    };
+    Err(Refusal::BadCall { key })
+}

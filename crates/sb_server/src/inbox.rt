@@ -1,0 +1,125 @@
+// What comes in: pieces of bytes, and requests out of them.
+ghost use Rattle.std.specs.Prelude.{◌≡◌, ◌≤◌, ◌-◌, [], Option, List, ℕ, length, slice_range, IfOk, IfSome};
+
+use crate::came::{Came, Took, take_one};
+use crate::ending::Ending;
+use sb_http::Incoming;
+use sb_outside::Conn;
+use sb_routes::Routes;
+use std::alloc::{AllocError, Global};
+use std::sync::Wait;
+
+// How many bytes one read takes at most.
+const MAX_PIECE: usize = 4096;
+
+// How many bytes of a connection are taken: once so many came, no more are.
+const MAX_TAKEN: u64 = 1 << 32;
+
+/// What came of a connection and isn't answered yet: a reader of requests, and a piece of which
+/// `at..end` wasn't fed to it. Its memory is taken as it is made.
+#[derive(Drop)]
+pub(crate) struct Inbox {
+    pub(crate) incoming: Incoming,
+    piece: Vec<u8>,
+    at: usize,
+    end: usize,
+    // How many bytes were read.
+    taken: u64,
+    ghost ordered: { at ≤ end },
+    ghost within: { end ≤ length piece.items },
+    ghost room: { 1 ≤ length piece.items },
+    ghost counted: { end - at ≤ taken },
+}
+
+// What stands between two places.
+fn part_of(buf: &Vec<u8>, from: usize, to: usize) -> &[u8]
+    requires ordered { from ≤ to }
+    requires within { to ≤ length buf.now.items }
+    ensures { result.now ≡ slice_range buf.now.items from to }
+{
+    &buf[from..to]
+}
+
+impl Inbox {
+    ghost use Rattle.sb_http.specs.Streams.{Requests};
+    ghost use Rattle.sb_server.specs.Reads.{Takes, Fills, EndsWith, Comes, stand_of};
+
+    /// Nothing has come yet.
+    pub(crate) fn new(alloc: Global) -> Result<Inbox, AllocError>
+        ensures requests { IfOk result (λ i. Requests [] [] i.incoming.left) }
+        ensures stand { IfOk result (λ i. (left : Option (List ℕ)) → stand_of i left ≡ record { left = i.incoming.left; fed = 0; there = left }) }
+    {
+        Ok(Inbox {
+            incoming: Incoming::new(alloc)?,
+            piece: vec![in alloc; 0; MAX_PIECE]?,
+            at: 0,
+            end: 0,
+            taken: 0,
+        })
+    }
+
+    /// The next request, or how the connection ends.
+    pub(crate) fn next<N: Conn, R: Wait>(
+        &mut self,
+        rt: &R,
+        alloc: Global,
+        routes: &Routes,
+        conn: &mut N,
+    ) -> Came
+        ensures comes { Comes (stand_of self.old (N.left conn.old)) result (stand_of self.new (N.left conn.new)) (N.reads conn.old) (N.reads conn.new) }
+        ensures given { N.given conn.new ≡ N.given conn.old }
+        ensures later { N.reads conn.old ≤ N.reads conn.new }
+        ensures writes { N.writes conn.new ≡ N.writes conn.old }
+    {
+        for _ in rt.forever() {
+            match take_one(alloc, routes, &mut self.incoming) {
+                Took::One(ask, closes) => return Came::Asked(ask, closes),
+                Took::Fault(fault) => return Came::Refused(fault),
+                Took::NoneYet => {}
+            }
+            if self.at < self.end {
+                self.feed_piece();
+                continue;
+            }
+            if let Some(ending) = self.fill(conn) {
+                return Came::Over(ending);
+            }
+        }
+        unreachable!()
+    }
+
+    // Feeds the reader some of the piece.
+    fn feed_piece(&mut self)
+        ensures { (left : Option (List ℕ)) → Takes (stand_of self.old left) [] (stand_of self.new left) }
+    {
+        let count = self.incoming.feed(part_of(&self.piece, self.at, self.end));
+        self.at += count;
+    }
+
+    // Reads another piece, or says how the connection ends.
+    fn fill<N: Conn>(&mut self, conn: &mut N) -> Option<Ending>
+        requires { self.old.at ≡ self.old.end }
+        ensures fills { Fills (stand_of self.old (N.left conn.old)) (stand_of self.new (N.left conn.new)) }
+        ensures ends { IfSome result (λ ending. EndsWith ending (stand_of self.old (N.left conn.old)).there (stand_of self.new (N.left conn.new)) (N.reads conn.old) (N.reads conn.new)) }
+        ensures given { N.given conn.new ≡ N.given conn.old }
+        ensures later { N.reads conn.old ≤ N.reads conn.new }
+        ensures writes { N.writes conn.new ≡ N.writes conn.old }
+    {
+        if self.taken >= MAX_TAKEN {
+            return Some(Ending::LongConnection);
+        }
+        let Ok(count) = conn.read(self.piece.as_mut_slice()) else {
+            return Some(Ending::ReadFault);
+        };
+        self.at = 0;
+        self.end = count;
+        self.taken += count as u64;
+        if count > 0 {
+            return None;
+        }
+        if self.incoming.left() > 0 {
+            return Some(Ending::Truncated);
+        }
+        Some(Ending::Closed)
+    }
+}

@@ -1,0 +1,121 @@
+// A door with its worker.
+ghost use Rattle.std.specs.Prelude.{◌≡◌, ◌+◌, ◌≤◌, ◌<◌, [], ◌∷◌, ◌++◌, length, vec_capacity, Some};
+ghost use Rattle.std.specs.List.{list_any};
+ghost use Rattle.sb_desk.specs.Desks.{Sitting};
+ghost use Rattle.sb_desk.specs.Lists.{Each};
+ghost use Rattle.sb_server.specs.Serves as serves;
+
+use crate::ending::ServeEnding;
+use crate::work::Stop;
+use sb_desk::Pass;
+
+/// A door with its worker's pass, and why that worker ended.
+#[derive(Drop)]
+pub(crate) struct Job<D> {
+    pub(crate) pass: Option<Pass>,
+    pub(crate) door: D,
+    pub(crate) stop: Stop,
+}
+
+/// A job for each door, the last first, each with one of the last passes.
+pub(crate) fn pair_up<D>(
+    room: Vec<Job<D>>,
+    passes: &mut Vec<Pass>,
+    doors: &mut Vec<D>,
+) -> Vec<Job<D>>
+    requires room { (room.items ≡ []) × (length doors.old.items ≤ vec_capacity room) }
+    requires enough { length doors.old.items ≤ length passes.old.items }
+    ensures doors { (doors.old.items ≡ serves.doors_in result.items) × (doors.new.items ≡ []) }
+    ensures passes { passes.old.items ≡ passes.new.items ++ serves.passes_in result.items }
+    ensures manned { Each serves.IsManned result.items }
+    ensures capacity { (vec_capacity doors.new ≡ vec_capacity doors.old) × (vec_capacity passes.new ≡ vec_capacity passes.old) }
+{
+    let mut jobs = room;
+    while let Some(door) = doors.pop() {
+        jobs.push_reserved(man(passes, door));
+    }
+    jobs
+}
+
+// A job at this door, with the last pass.
+fn man<D>(passes: &mut Vec<Pass>, door: D) -> Job<D>
+    requires { 0 < length passes.old.items }
+    ensures door { result.door ≡ door }
+    ensures pass { (pass : Sitting) × (result.pass ≡ Some pass) × (passes.old.items ≡ passes.new.items ++ pass ∷ []) }
+    ensures capacity { vec_capacity passes.new ≡ vec_capacity passes.old }
+{
+    let Some(pass) = passes.pop() else {
+        unreachable!()
+    };
+    Job {
+        pass: Some(pass),
+        door,
+        stop: Stop::Enough,
+    }
+}
+
+/// Gives passes and doors back, in their order.
+pub(crate) fn put_back<D>(jobs: Vec<Job<D>>, passes: &mut Vec<Pass>, doors: &mut Vec<D>)
+    requires doors { length doors.old.items + length jobs.items ≤ vec_capacity doors.old }
+    requires passes { length passes.old.items + length jobs.items ≤ vec_capacity passes.old }
+    ensures doors { doors.new.items ≡ doors.old.items ++ serves.doors_in jobs.items }
+    ensures passes { passes.new.items ≡ passes.old.items ++ serves.passes_in jobs.items }
+{
+    let mut jobs = jobs;
+    while let Some(job) = jobs.pop() {
+        let Job {
+            pass,
+            door,
+            stop: _,
+        } = job;
+        doors.push_reserved(door);
+        add_pass(passes, pass);
+    }
+    jobs.destroy_empty();
+}
+
+// The pass, where there is one, behind the others.
+fn add_pass(passes: &mut Vec<Pass>, pass: Option<Pass>)
+    requires { length passes.old.items < vec_capacity passes.old }
+    ensures items { passes.new.items ≡ passes.old.items ++ serves.and_pass pass [] }
+    ensures capacity { vec_capacity passes.new ≡ vec_capacity passes.old }
+{
+    if let Some(pass) = pass {
+        passes.push_reserved(pass);
+    }
+}
+
+/// How serving ended, by what its workers ended for.
+pub(crate) fn ending_of<D>(jobs: &[Job<D>]) -> ServeEnding
+    ensures { result ≡ serves.serve_ending (serves.stops_in jobs.now) }
+{
+    if any_fault(jobs) {
+        return ServeEnding::DoorFault;
+    }
+    if any_lost(jobs) {
+        return ServeEnding::OutOfMemory;
+    }
+    ServeEnding::Done
+}
+
+fn any_fault<D>(jobs: &[Job<D>]) -> bool
+    ensures { result ≡ list_any serves.is_fault (serves.stops_in jobs.now) }
+{
+    for job in jobs {
+        if job.stop == Stop::Fault {
+            return true;
+        }
+    }
+    false
+}
+
+fn any_lost<D>(jobs: &[Job<D>]) -> bool
+    ensures { result ≡ list_any serves.is_lost (serves.stops_in jobs.now) }
+{
+    for job in jobs {
+        if job.stop == Stop::OutOfMemory {
+            return true;
+        }
+    }
+    false
+}

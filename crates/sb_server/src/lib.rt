@@ -1,0 +1,32 @@
+//! Connections of HTTP over one history: what a broker does between its sockets and its desk.
+//!
+//! [`serve_connection`] takes the requests of one connection, makes their calls at one pass of a desk,
+//! and writes their responses, until it ends; `specs/Talks` says what was written and why it ended.
+//! [`serve`] gives each door a worker, which serves its connections one after the other.
+//! [`receive_waiting`] is a receive that waits for a message. It stands on `sb_desk` for calls,
+//! `sb_http` for the bytes of requests and responses, `sb_rest` and `sb_lines` for what they ask for,
+//! and `sb_outside` for connections and the clock. Nothing is said of how long it waits.
+//!
+//! ```text
+//! let routes = Routes::new(alloc)?;
+//! let (pass, ending) = serve_connection(&rt, alloc, &routes, &desk, pass, &clock, &mut conn);
+//! ```
+#![tactic(auto)]
+
+mod answer;
+mod ask;
+mod came;
+mod connection;
+mod doors;
+mod ending;
+mod head;
+mod inbox;
+mod job;
+mod waiting;
+mod work;
+
+pub use connection::serve_connection;
+pub use doors::serve;
+pub use ending::{Ending, ServeEnding};
+pub use waiting::receive_waiting;
+pub use work::{Stop, serve_door};

@@ -1,0 +1,92 @@
+// Calls at a pass, and a receive that waits.
+ghost use Rattle.std.specs.Prelude.{◌≡◌, ◌+◌, ◌≤◌, ◌<◌, List, true};
+ghost use Rattle.std.specs.Bool.{OnTrue, OnFalse};
+ghost use Rattle.sb_machine.specs.Ordered.{IsActInOrder};
+ghost use Rattle.sb_machine.specs.declared.history.Entry.{Entry};
+ghost use Rattle.sb_desk.specs.Desks.{IsOf, HasLegal};
+ghost use Rattle.sb_server.specs.Waiting.{GoesBy, GoesByCall, Waits, is_empty};
+
+use sb_desk::{Desk, Pass, Served};
+use sb_machine::{Answer, Answered, Call, Reply};
+use sb_outside::Clock;
+use std::sync::Wait;
+
+/// Makes a call, and makes it again, behind a pause of the clock, while it finds nothing to receive
+/// and the limit, in ms, hasn't passed since the clock's first reading. No lock is held but in the
+/// desk's turn of each call. Where that reading and the limit are above 2^64 - 1 together, no time
+/// ends it.
+pub fn receive_waiting<V: Served, R: Wait, C: Clock>(
+    rt: &R,
+    desk: &Desk<V>,
+    pass: Pass,
+    clock: &C,
+    limit: u64,
+    call: &Call,
+) -> (Pass, Answer)
+    requires desk { IsOf desk.now pass }
+    requires order { IsActInOrder call.now.act }
+    ensures waits { (made : List Entry) × GoesBy pass made result.0 × Waits pass.seat call.now limit made result.1 }
+    ensures legal { HasLegal result.0 }
+    ensures desk { IsOf desk.now result.0 }
+{
+    let first = clock.now();
+    let mut now = first;
+    let (mut current, mut answer) = call_once(rt, desk, pass, first, call);
+    for _ in rt.forever() {
+        if is_done(&answer, first, limit, now) {
+            break;
+        }
+        clock.pause();
+        now = clock.now();
+        let (next, found) = call_once(rt, desk, current, now, call);
+        current = next;
+        answer = found;
+    }
+    (current, answer)
+}
+
+/// Makes a call at this pass, at a reading of the clock in ms since 1970.
+pub(crate) fn call_once<V: Served, R: Wait>(
+    rt: &R,
+    desk: &Desk<V>,
+    pass: Pass,
+    reading: u64,
+    call: &Call,
+) -> (Pass, Answer)
+    requires desk { IsOf desk.now pass }
+    requires order { IsActInOrder call.now.act }
+    ensures goes { GoesByCall pass reading call.now result.1 result.0 }
+    ensures legal { HasLegal result.0 }
+    ensures desk { IsOf desk.now result.0 }
+{
+    desk.call(rt, pass, reading, call)
+}
+
+// Whether there was nothing to receive.
+fn is_empty(answer: &Answer) -> bool
+    ensures { result ≡ is_empty answer.now }
+{
+    matches!(answer, Ok(Answered::New(Reply::Empty)))
+}
+
+// Whether the limit has passed since the first reading.
+fn is_over(first: u64, limit: u64, now: u64) -> bool
+    ensures over { OnTrue result (first + limit ≤ now) }
+    ensures under { OnFalse result (now < first + limit) }
+{
+    match first.checked_add(limit) {
+        Some(end) => end <= now,
+        None => false,
+    }
+}
+
+// Whether a receive waits no longer.
+fn is_done(answer: &Answer, first: u64, limit: u64, now: u64) -> bool
+    ensures done { OnTrue result (is_empty answer.now ≡ true → first + limit ≤ now) }
+    ensures waits { OnFalse result ((is_empty answer.now ≡ true) × (now < first + limit)) }
+{
+    if is_empty(answer) {
+        return is_over(first, limit, now);
+    }
+    true
+}
