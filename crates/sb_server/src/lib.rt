@@ -24,9 +24,11 @@ mod inbox;
 mod job;
 mod waiting;
 mod work;
+mod worked;
 
 pub use connection::serve_connection;
 pub use doors::serve;
 pub use ending::{Ending, ServeEnding};
 pub use waiting::receive_waiting;
 pub use work::{Stop, serve_door};
+pub use worked::worked_connections;

@@ -1,0 +1,28 @@
+// Connections, worked out by hand.
+ghost use Rattle.std.specs.Prelude.{◌≡◌, ◌∷◌, [], codes, true, false};
+ghost use Rattle.sb_http.specs.declared.fault.HttpFault.TheVariants.{HeadTooLarge};
+ghost use Rattle.sb_rest.specs.declared.call.RestFault.TheVariants.{BadMethod};
+ghost use Rattle.sb_server.specs.declared.answer.Turn.TheVariants.{Goes, Closes, Stops};
+ghost use Rattle.sb_server.specs.declared.ending.ServeEnding.TheVariants.{Done, DoorFault, OutOfMemory};
+ghost use Rattle.sb_server.specs.declared.work.Stop.TheVariants.{Enough, Ended, Fault, Stopped, OutOfMemory as NoMemory};
+ghost use Rattle.sb_server.specs.Asks.{is_close, lists_close, ms_in};
+ghost use Rattle.sb_server.specs.Responds.{fault_bytes, turn_of};
+ghost use Rattle.sb_server.specs.Serves.{serve_ending};
+ghost use Rattle.sb_server.specs.Talks.{refusal_bytes};
+
+/// The definitions say of these lines, answers and endings what was worked out by hand.
+pub fn worked_connections()
+    ensures listed { lists_close (codes "keep-alive , CLOSE\t") ≡ true }
+    ensures longer { lists_close (codes "closed,not close,") ≡ false }
+    ensures line { is_close (codes "CONNECTION", codes "close") ≡ true }
+    ensures another_line { is_close (codes "Keep-Alive", codes "close") ≡ false }
+    ensures minute { ms_in 60 ≡ 60000 }
+    ensures goes { turn_of false false ≡ Goes }
+    ensures closes { turn_of true false ≡ Closes }
+    ensures stops_first { turn_of true true ≡ Stops }
+    ensures too_large { refusal_bytes HeadTooLarge ≡ codes "HTTP/1.1 431 Request Header Fields Too Large\r\nContent-Length: 0\r\nConnection: close\r\n\r\n" }
+    ensures no_method { fault_bytes BadMethod false ≡ codes "HTTP/1.1 405 Method Not Allowed\r\nContent-Length: 0\r\n\r\n" }
+    ensures door_first { serve_ending (NoMemory ∷ Fault ∷ Stopped ∷ []) ≡ DoorFault }
+    ensures lost { serve_ending (Enough ∷ NoMemory ∷ []) ≡ OutOfMemory }
+    ensures done { serve_ending (Enough ∷ Ended ∷ Stopped ∷ []) ≡ Done }
+{}
