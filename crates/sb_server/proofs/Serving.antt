@@ -112,6 +112,9 @@ all_manned desk jobs spare passes is manned of = all_have desk jobs manned (each
 
 -- ---- what the workers did
 
+pub did_at : {D : Type 0} (Works : Worker D → Type 0) (a b old new : Job D) → a ≡ old → b ≡ new → Did Works a b → Did Works old new
+did_at {D = D} Works a b old new was is did = subst (λ (x : Job D). Did Works x new) was (subst (λ (y : Job D). Did Works a y) is did)
+
 pub record Crew {D : Type 0} (Works : Worker D → Type 0) (olds news : List (Job D)) : Type 0 where
   pub workers : List (Worker D)
   pub had : passes_in olds ≡ map (λ w. w.pass) workers

@@ -95,9 +95,12 @@ may_end {X = X} vs ended before now none is same =
 pub may_fail : {X : Type 0} (ended : Bool) (before now : ℕ) → Rose before now → MayStopBy {X = X} (Some Fault) [] ended before now
 may_fail ended before now rose = (λ e. absurd cc, record { few = omega arith; cause = tt; faults = rose })
 
-pub may_stop : {X : Type 0} (visit : Visit X) (ended : Bool) (before now : ℕ) (r : Option Stop) → r ≡ stop_of visit.ending → now ≡ before → MayStopBy r (visit ∷ []) ended before now
-may_stop {X = X} visit ended before now r is same = subst (λ (o : Option Stop). MayStopBy o (visit ∷ []) ended before now) (sym is) (by visit.ending refl)
+pub may_stop : {X : Type 0} (visit : Visit X) (ended : Bool) (before mid now : ℕ) (r : Option Stop) → r ≡ stop_of visit.ending → now ≡ mid → mid ≡ before → MayStopBy r (visit ∷ []) ended before now
+may_stop {X = X} visit ended before mid now r is later first = subst (λ (o : Option Stop). MayStopBy o (visit ∷ []) ended before now) (sym is) (by visit.ending refl)
   where
+    same : now ≡ before
+    same = later ∙ first
+
     goes : stop_of visit.ending ≡ None → MayStopBy None (visit ∷ []) ended before now
     goes on = (refl, (on, tt), same)
 

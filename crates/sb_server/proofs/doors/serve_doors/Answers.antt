@@ -1,8 +1,8 @@
-use Rattle.std.proofs.Common.{subst, rules}
+use Rattle.std.proofs.Common.{rules}
 use Rattle.std.specs.Prelude.{slice_index_or}
-use Rattle.sb_server.specs.declared.job.Job.{Job}
 use Rattle.sb_server.specs.Serves.{Did, Working, Worker}
 use Rattle.sb_server.specs.Works.{ServesBy}
+use Rattle.sb_server.proofs.Serving.{did_at}
 use Rattle.sb_server.proofs.doors.serve_doors.Goals as goal
 
 pub returns : goal.returns
@@ -11,4 +11,4 @@ returns g c = λ i d lt.
     let changes = c.for_each_mut.ensures i d lt in
     let call = changes.1.call in
     let did : Did Does changes.1.argument.now changes.1.after_call.now = search rules in
-    subst (λ (x : Job g.row.D.Denot). Did Does x (slice_index_or c.for_each_mut.new.s i d)) changes.1.argument_is (subst (λ (y : Job g.row.D.Denot). Did Does changes.1.argument.now y) changes.1.left did)
+    did_at Does changes.1.argument.now changes.1.after_call.now (slice_index_or c.args.jobs.now i d) (slice_index_or c.for_each_mut.new.s i d) changes.1.argument_is changes.1.left did
