@@ -164,26 +164,26 @@ crew_of Works (o ∷ olds) (n ∷ news) same did =
 
 -- ---- giving back
 
-pub served : {D : Type 0} (Works : Worker D → Type 0) (olds news : List (Job D)) (spare passes passes_after : List Sitting) (doors between doors_after : List D) (ending : ServeEnding)
-    → passes ≡ spare ++ passes_in olds → doors ≡ doors_in olds → between ≡ [] → Crew Works olds news
-    → passes_after ≡ spare ++ passes_in news → doors_after ≡ between ++ doors_in news → ending ≡ serve_ending (stops_in news)
+pub served : {D : Type 0} (Works : Worker D → Type 0) (olds news : List (Job D)) (spare passes passes_after : List Sitting) (doors between doors_after : List D) (back view : List (Job D)) (ending : ServeEnding)
+    → passes ≡ spare ++ passes_in olds → doors ≡ doors_in olds → between ≡ [] → Crew Works olds news → back ≡ news → view ≡ back
+    → passes_after ≡ spare ++ passes_in back → doors_after ≡ between ++ doors_in back → ending ≡ serve_ending (stops_in view)
     → Serving Works passes passes_after doors doors_after ending
-served {D = D} Works olds news spare passes passes_after doors between doors_after ending before at none c after left ends = inl (record {
+served {D = D} Works olds news spare passes passes_after doors between doors_after back view ending before at none c same shown after left ends = inl (record {
   spare = spare;
   workers = c.workers;
   passes_are = before ∙ ap (λ (l : List Sitting). spare ++ l) c.had;
-  passes_then = after ∙ ap (λ (l : List Sitting). spare ++ l) c.has;
+  passes_then = after ∙ (ap (λ (l : List (Job D)). spare ++ passes_in l) same ∙ ap (λ (l : List Sitting). spare ++ l) c.has);
   doors_are = at ∙ c.at;
-  doors_then = left ∙ (ap (λ (l : List D). l ++ doors_in news) none ∙ c.left);
+  doors_then = left ∙ (ap (λ (l : List (Job D)). between ++ doors_in l) same ∙ (ap (λ (l : List D). l ++ doors_in news) none ∙ c.left));
   each = c.each;
-  ending_is = ends ∙ (ap (λ (b : Bool). if b then DoorFault else (if list_any is_lost (stops_in news) then OutOfMemory else Done)) (c.stops is_fault)
-      ∙ ap (λ (b : Bool). if list_any is_fault (map (λ (w : Worker D). w.stop) c.workers) then DoorFault else (if b then OutOfMemory else Done)) (c.stops is_lost));
+  ending_is = ends ∙ (ap (λ (l : List (Job D)). serve_ending (stops_in l)) (shown ∙ same) ∙ (ap (λ (b : Bool). if b then DoorFault else (if list_any is_lost (stops_in news) then OutOfMemory else Done)) (c.stops is_fault)
+      ∙ ap (λ (b : Bool). if list_any is_fault (map (λ (w : Worker D). w.stop) c.workers) then DoorFault else (if b then OutOfMemory else Done)) (c.stops is_lost)));
 })
 
-pub passes_kept : {D : Type 0} (Works : Worker D → Type 0) (desk : Open) → ((w : Worker D) → Works w → IsOf desk w.pass_after) → (olds news : List (Job D)) (spare passes passes_after : List Sitting)
-    → passes ≡ spare ++ passes_in olds → Crew Works olds news → passes_after ≡ spare ++ passes_in news → Each (IsOf desk) passes → (length passes_after ≡ length passes) × Each (IsOf desk) passes_after
-passes_kept {D = D} Works desk of olds news spare passes passes_after before c after each =
-    let now : passes_after ≡ spare ++ map (λ (w : Worker D). w.pass_after) c.workers = after ∙ ap (λ (l : List Sitting). spare ++ l) c.has in
+pub passes_kept : {D : Type 0} (Works : Worker D → Type 0) (desk : Open) → ((w : Worker D) → Works w → IsOf desk w.pass_after) → (olds news back : List (Job D)) (spare passes passes_after : List Sitting)
+    → passes ≡ spare ++ passes_in olds → Crew Works olds news → back ≡ news → passes_after ≡ spare ++ passes_in back → Each (IsOf desk) passes → (length passes_after ≡ length passes) × Each (IsOf desk) passes_after
+passes_kept {D = D} Works desk of olds news back spare passes passes_after before c same after each =
+    let now : passes_after ≡ spare ++ map (λ (w : Worker D). w.pass_after) c.workers = after ∙ (ap (λ (l : List (Job D)). spare ++ passes_in l) same ∙ ap (λ (l : List Sitting). spare ++ l) c.has) in
     let old : passes ≡ spare ++ map (λ (w : Worker D). w.pass) c.workers = before ∙ ap (λ (l : List Sitting). spare ++ l) c.had in
     let sizes : length passes_after ≡ length passes =
     ap length now ∙ (length-append spare _ ∙ (ap (λ (n : ℕ). length spare + n) (length-map c.workers (λ (w : Worker D). w.pass_after) ∙ sym (length-map c.workers (λ (w : Worker D). w.pass))) ∙ (sym (length-append spare _) ∙ ap length (sym old)))) in (

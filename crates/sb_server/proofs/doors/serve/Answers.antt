@@ -1,7 +1,7 @@
-use Rattle.std.proofs.Common.{◌≡◌, ℕ, ◌<◌, List, ◌++◌, length, sym, ap, ◌∙◌, subst, arith, rules}
+use Rattle.std.proofs.Common.{◌≡◌, ℕ, ◌<◌, List, length, sym, subst, arith, rules}
 use Rattle.std.specs.Prelude.{All, slice_index_or}
 use Rattle.sb_server.specs.declared.job.Job.{Job}
-use Rattle.sb_server.specs.Serves.{HasPass, Did, Working, Worker, doors_in, passes_in, stops_in, serve_ending}
+use Rattle.sb_server.specs.Serves.{HasPass, Did, Working, Worker}
 use Rattle.sb_server.specs.Works.{ServesBy}
 use Rattle.sb_server.proofs.Serving.{Crew, crew_of, all_manned, written, doors_fit, passes_fit, served, passes_kept}
 use Rattle.sb_server.proofs.doors.serve.Goals as goal
@@ -38,10 +38,7 @@ returns-clause-serves g c =
     let same : length new ≡ length old.items = search rules in
     let back = written old.len old.items new old.ok.0 same in
     let crew : Crew Does old.items new = crew_of Does old.items new same (subst (λ (l : List (Job g.row.D.Denot)). (i : ℕ) (d : Job g.row.D.Denot) → i < length l → Did Does (slice_index_or l i d) (slice_index_or new i d)) c.as_mut_slice.ensures.value c.serve_doors.ensures) in
-    let after = c.put_back.ensures.passes ∙ ap (λ (l : List (Job g.row.D.Denot)). spare ++ passes_in l) back in
-    let left = c.put_back.ensures.doors ∙ ap (λ (l : List (Job g.row.D.Denot)). between ++ doors_in l) back in
-    let ends = c.ending_of-ending.ensures ∙ ap (λ (l : List (Job g.row.D.Denot)). serve_ending (stops_in l)) (c.as_slice.ensures.value ∙ back) in
-    served Does old.items new spare c.args.passes.now.items c.put_back.new.passes.items c.args.doors.now.items between c.put_back.new.doors.items c.ending_of-ending.result pairs.passes pairs.doors.0 pairs.doors.1 crew after left ends
+    served Does old.items new spare c.args.passes.now.items c.put_back.new.passes.items c.args.doors.now.items between c.put_back.new.doors.items _ c.as_slice.result.now c.ending_of-ending.result pairs.passes pairs.doors.0 pairs.doors.1 crew back c.as_slice.ensures.value c.put_back.ensures.passes c.put_back.ensures.doors c.ending_of-ending.ensures
 
 pub returns-clause-desk : goal.returns-clause-desk
 returns-clause-desk g c =
@@ -52,5 +49,4 @@ returns-clause-desk g c =
     let same : length new ≡ length old.items = search rules in
     let back = written old.len old.items new old.ok.0 same in
     let crew : Crew Does old.items new = crew_of Does old.items new same (subst (λ (l : List (Job g.row.D.Denot)). (i : ℕ) (d : Job g.row.D.Denot) → i < length l → Did Does (slice_index_or l i d) (slice_index_or new i d)) c.as_mut_slice.ensures.value c.serve_doors.ensures) in
-    let after = c.put_back.ensures.passes ∙ ap (λ (l : List (Job g.row.D.Denot)). spare ++ passes_in l) back in
-    passes_kept Does c.args.desk.now (λ w x. x.of) old.items new spare c.args.passes.now.items c.put_back.new.passes.items c.pair_up-jobs.ensures.passes crew after c.requires.desk
+    passes_kept Does c.args.desk.now (λ w x. x.of) old.items new _ spare c.args.passes.now.items c.put_back.new.passes.items c.pair_up-jobs.ensures.passes crew back c.put_back.ensures.passes c.requires.desk
