@@ -1,5 +1,5 @@
 -- One more line of a run.
-use Rattle.std.proofs.Common.{◌≡◌, ◌≤◌, ◌⊎◌, inl, inr, ℕ, List, [], ◌∷◌, ◌++◌, map, Bool, true, false, ◌||◌, ◌-◌, take, drop, Option, Some, None, refl, sym, ◌∙◌, ap, subst, append_assoc, arith}
+use Rattle.std.proofs.Common.{◌≡◌, ◌⊎◌, inl, inr, ℕ, List, [], ◌∷◌, ◌++◌, map, Bool, true, false, ◌||◌, Option, refl, sym, ◌∙◌, ap, subst, append_assoc}
 use Rattle.std.proofs.lemmas.List.{append-nil, map-append}
 use Rattle.sb_outside.specs.Streams.{Gains}
 use Rattle.sb_outside.proofs.Gains.{gains-gains, gains-none}
@@ -7,13 +7,11 @@ use Rattle.sb_machine.specs.declared.state.State.{State}
 use Rattle.sb_input.specs.declared.partial_line.PartialLine.{PartialLine}
 use Rattle.sb_input.specs.declared.reader.Reader.{Reader}
 use Rattle.sb_bus.specs.declared.script_line.ScriptLine.{ScriptLine}
-use Rattle.sb_bus.specs.declared.script_line.ScriptLine.TheVariants.{Blank, Malformed, Request}
-use Rattle.sb_input.specs.Lines.{NoFeed, lines_of, AreWhole}
+use Rattle.sb_input.specs.Lines.{lines_of, AreWhole}
 use Rattle.sb_bus.specs.Lines.{script_line, script_lines}
-use Rattle.sb_input.specs.Taking.{Took}
 use Rattle.sb_bus.specs.Outside.{Output, Outside}
 use Rattle.sb_bus.specs.Runs.{reply_to, state_by, refuses_it, replies_to, state_after_all, any_refused, IsAnswered, IsScriptRun, RunsSoFar, FollowLines}
-use Rattle.sb_input.specs.Readers.{pending_of, IsAt, IsNext, ReadsLine, ReadsNone}
+use Rattle.sb_input.specs.Readers.{pending_of, IsAt, ReadsLine, ReadsNone}
 use Rattle.sb_bus.proofs.Follows.{followed_says}
 use Rattle.sb_input.proofs.Advances.{advances, fresh_at}
 

@@ -1,51 +1,48 @@
 -- A whole call of the program, on each of its ways.
-use Rattle.std.proofs.Common.{◌≡◌, ◌≢◌, ◌≤◌, ◌⊎◌, inl, inr, ℕ, List, ◌++◌, length, Bool, true, false, Option, Some, None, refl, sym, ◌∙◌, ap, subst, arith, length-append}
+use Rattle.std.proofs.Common.{◌≡◌, ◌≢◌, ◌≤◌, ◌⊎◌, inl, inr, ℕ, List, ◌++◌, length, Bool, true, false, Option, Some, None, refl, sym, ◌∙◌, ap, arith, length-append}
 use Rattle.std.specs.Prelude.{IsSome}
 use Rattle.sb_outside.specs.Causes.{Rose, RoseByOne}
 use Rattle.sb_journal.specs.declared.found.Side.{Side}
 use Rattle.sb_journal.specs.declared.found.OpenWhy.{OpenWhy}
 use Rattle.sb_journal.specs.declared.found.OpenWhy.TheVariants.{Damaged, DiskFault as FailedDisk, OutOfMemory as NoMemory}
 use Rattle.sb_machine.specs.declared.state.State.{State}
-use Rattle.sb_journal.specs.Disks.{Disks, AreHonest, AreUnwritten, IsAtRest, KeepFound, HaveFailed, AreQuiet, SameHonesty}
+use Rattle.sb_journal.specs.Disks.{Disks, AreHonest, AreUnwritten, IsAtRest, HaveFailed, AreQuiet, SameHonesty}
 use Rattle.sb_engine.specs.Engines.{summary_of}
 use Rattle.sb_node.specs.Recovery.{damaged, recovers, Recovers, recovered_on}
 use Rattle.sb_node.specs.Nodes.{IsDurable}
-use Rattle.sb_bus.specs.Outside.{Input, Output, Outside}
+use Rattle.sb_bus.specs.Outside.{Output, Outside}
 use Rattle.sb_bus.specs.declared.ending.RunEnd.{RunEnd}
 use Rattle.sb_bus.specs.declared.ending.RunEnd.TheVariants.{ReadFault, WriteFault, DiskFault, OutOfMemory, LongInput}
-use Rattle.sb_bus.specs.declared.command.Command.{Command}
-use Rattle.sb_bus.specs.declared.command.Command.TheVariants.{Run, Check}
-use Rattle.sb_bus.specs.Words.{command_in}
+use Rattle.sb_bus.specs.declared.task.Task.{Task}
+use Rattle.sb_bus.specs.declared.task.Task.TheVariants.{Run, Check}
 use Rattle.sb_bus.specs.Checks.{check_line, IsTold, IsLineTold}
 use Rattle.sb_input.specs.Taking.{IsLong}
 use Rattle.sb_bus.specs.Runs.{IsScriptRun, state_after_all, status_by}
 use Rattle.sb_bus.specs.Endings.{LastLine, IsLineWritten, EndsAt, IsCutRun, status_of_end}
-use Rattle.sb_bus.specs.Tops.{IsCheck, IsEarly, IsUnopened, IsRefused, IsDamageReported, usage_line, IsRunStatus, IsStatus, IsShort, IsFree, IsComplete, IsCarriedOut}
+use Rattle.sb_bus.specs.Tops.{IsCheck, IsUnopened, IsRefused, IsDamageReported, usage_line, IsRunStatus, IsStatus, IsShort, IsFree, IsComplete, IsCarriedOut}
 use Rattle.sb_bus.proofs.Faults.{quiet_on, failed_on, honest_on}
 use Rattle.sb_bus.proofs.Statuses.{no_five, no_disk_end, no_two_whole, no_two_end}
-use Rattle.sb_bus.proofs.Whole.{IsOpened, opened, whole_run}
+use Rattle.sb_bus.specs.Openings.{IsOpened, IsFailed, IsFailedStatus}
+use Rattle.sb_bus.proofs.Whole.{opened, whole_run}
 use Rattle.sb_bus.proofs.Early.{early_run}
 
--- the words name one command at most
-no_some : (words : List (List ℕ)) (P : Type 0) → command_in words ≡ None → IsSome (command_in words) → P
-no_some words P none some = let other : IsSome {T = Command} None = subst (λ (o : Option Command). IsSome o) none some in absurd cc
+-- a call has one task at most
+no_some : (P : Type 0) → IsSome {T = Task} None → P
+no_some P some = absurd cc
 
-unnamed : (words : List (List ℕ)) (command : Command) (P : Type 0) → command_in words ≡ None → command_in words ≡ Some command → P
-unnamed words command P none some = let other : None ≡ Some command = sym none ∙ some in absurd cc
+no_none : (task : Task) (P : Type 0) → Some task ≡ None → P
+no_none task P none = absurd cc
 
-no_run : (words : List (List ℕ)) (P : Type 0) → command_in words ≡ Some Check → command_in words ≡ Some Run → P
-no_run words P check run = let other : Some Check ≡ Some Run = sym check ∙ run in absurd cc
+-- ---- words that name no task
 
--- ---- words that name nothing
-
-pub usage_alone : (words : List (List ℕ)) (salt : ℕ) (was : Outside) (output : Output) → command_in words ≡ None → IsLineWritten usage_line was.output output → IsCarriedOut words salt was (record was { output = output }) 2
-usage_alone words salt was output none written = record {
+pub usage_alone : (salt : ℕ) (was : Outside) (output : Output) → IsLineWritten usage_line was.output output → IsCarriedOut None salt was (record was { output = output }) 2
+usage_alone salt was output written = record {
   whole = λ named refused is. no_two_whole refused _ is;
   early = λ named end is. no_two_end end _ is;
   long = λ ten. absurd cc;
-  checked = λ named. unnamed words Check _ none named;
+  checked = λ named. no_none Check _ (sym named);
   broken = λ six. absurd cc;
-  usage = λ two. none;
+  usage = λ two. refl;
   unnamed = λ nothing. inl refl;
   usage_written = λ two. written;
   known = inr (inl refl);
@@ -55,13 +52,13 @@ usage_alone words salt was output none written = record {
   write_quiet = λ refused is. no_two_whole refused _ is;
   disk_fault = λ five. absurd cc;
   disk_quiet = λ other. (refl, refl);
-  complete = λ some honest free. no_some words _ none some;
+  complete = λ some honest free. no_some _ some;
   honesty = (refl, refl);
 }
 
 -- ---- words that weren't read, for want of memory
 
-nothing_done : (salt : ℕ) (was : Outside) → IsUnopened salt was was OutOfMemory
+pub nothing_done : (salt : ℕ) (was : Outside) → IsUnopened salt was was OutOfMemory
 nothing_done salt was = record {
   why = inr refl;
   unread = refl;
@@ -81,8 +78,8 @@ not_whole : (refused : Bool) (P : Type 0) → 7 ≡ status_by refused → P
 not_whole false P is = absurd cc
 not_whole true P is = absurd cc
 
-pub unread_alone : (words : List (List ℕ)) (salt : ℕ) (was : Outside) → IsCarriedOut words salt was was 7
-unread_alone words salt was = record {
+pub unread_alone : (task : Option Task) (salt : ℕ) (was : Outside) → IsCarriedOut task salt was was 7
+unread_alone task salt was = record {
   whole = λ named refused is. not_whole refused _ is;
   early = λ named end is. inl (unread_by salt was end is);
   long = λ ten. absurd cc;
@@ -104,31 +101,12 @@ unread_alone words salt was = record {
 
 -- ---- an opening that failed
 
--- the statuses that it may have
-abbrev pub IsFailedStatus : ℕ → Type 0
-IsFailedStatus status = (status ≡ 5) ⊎ ((status ≡ 6) ⊎ (status ≡ 7))
-
 between : (n : ℕ) → IsFailedStatus n → (5 ≤ n) × (n ≤ 7)
 between n (inl five) = (omega (arith, five), omega (arith, five))
 between n (inr (inl six)) = (omega (arith, six), omega (arith, six))
 between n (inr (inr seven)) = (omega (arith, seven), omega (arith, seven))
 
--- what is known of it
-pub record IsFailed (salt : ℕ) (was : Disks) (now : Disks) (out out_after : Output) (why : OpenWhy) (status : ℕ) : Type 0 where
-  pub known : IsFailedStatus status
-  pub damage : status ≡ 6 → IsDamageReported why out out_after
-  pub silent : status ≢ 6 → out_after ≡ out
-  pub failed : status ≡ 5 → why ≡ FailedDisk
-  pub other : status ≢ 5 → why ≢ FailedDisk
-  pub broken : AreHonest was → (side : Side) (place : ℕ) → why ≡ Damaged side place → recovered_on was salt ≡ damaged side place
-  pub untouched : AreHonest was → why ≢ FailedDisk → AreUnwritten was now
-  pub rests : AreHonest was → (side : Side) (place : ℕ) → why ≡ Damaged side place → IsAtRest side was now
-  pub keeps : AreHonest was → KeepFound salt was now
-  pub cause : why ≡ FailedDisk → HaveFailed was now
-  pub quiet : why ≢ FailedDisk → AreQuiet was now
-  pub honesty : SameHonesty was now
-
-unopened_by : (salt : ℕ) (was : Outside) (disks : Disks) (output : Output) (why : OpenWhy) (status : ℕ) → IsFailed salt was.disks disks was.output output why status → (end : RunEnd) → status ≡ status_of_end end → IsUnopened salt was (record was { output = output; disks = disks }) end
+pub unopened_by : (salt : ℕ) (was : Outside) (disks : Disks) (output : Output) (why : OpenWhy) (status : ℕ) → IsFailed salt was.disks disks was.output output why status → (end : RunEnd) → status ≡ status_of_end end → IsUnopened salt was (record was { output = output; disks = disks }) end
 unopened_by salt was disks output why status fails ReadFault is = absurd (omega (arith, is, (between status fails.known).0))
 unopened_by salt was disks output why status fails WriteFault is = absurd (omega (arith, is, (between status fails.known).0))
 unopened_by salt was disks output why status fails DiskFault is = record {
@@ -147,7 +125,7 @@ unopened_by salt was disks output why status fails OutOfMemory is = record {
 }
 unopened_by salt was disks output why status fails LongInput is = absurd (omega (arith, is, (between status fails.known).1))
 
-refused_by : (salt : ℕ) (was : Outside) (disks : Disks) (output : Output) (why : OpenWhy) → (AreHonest was.disks → (side : Side) (place : ℕ) → why ≡ Damaged side place → recovered_on was.disks salt ≡ damaged side place)
+pub refused_by : (salt : ℕ) (was : Outside) (disks : Disks) (output : Output) (why : OpenWhy) → (AreHonest was.disks → (side : Side) (place : ℕ) → why ≡ Damaged side place → recovered_on was.disks salt ≡ damaged side place)
     → (AreHonest was.disks → why ≢ FailedDisk → AreUnwritten was.disks disks) → (AreHonest was.disks → (side : Side) (place : ℕ) → why ≡ Damaged side place → IsAtRest side was.disks disks) → IsDamageReported why was.output output → IsRefused salt was (record was { output = output; disks = disks })
 refused_by salt was disks output (Damaged side place) broken untouched rests reported = record {
   side = side;
@@ -182,8 +160,8 @@ check_unopened salt was disks output why status fails (inl five) = inr (inl (Dis
 check_unopened salt was disks output why status fails (inr (inl six)) = inr (inr six)
 check_unopened salt was disks output why status fails (inr (inr seven)) = inr (inl (OutOfMemory, seven, unopened_by salt was disks output why status fails OutOfMemory seven))
 
-pub not_opened : (words : List (List ℕ)) (command : Command) (salt : ℕ) (was : Outside) (disks : Disks) (output : Output) (why : OpenWhy) (status : ℕ) → command_in words ≡ Some command → IsFailed salt was.disks disks was.output output why status → IsCarriedOut words salt was (record was { output = output; disks = disks }) status
-not_opened words command salt was disks output why status some fails =
+pub not_opened : (task : Task) (salt : ℕ) (was : Outside) (disks : Disks) (output : Output) (why : OpenWhy) (status : ℕ) → IsFailed salt was.disks disks was.output output why status → IsCarriedOut (Some task) salt was (record was { output = output; disks = disks }) status
+not_opened task salt was disks output why status fails =
     let range = between status fails.known in
     record {
       whole = λ named refused is. no_whole_above status refused _ range.0 is;
@@ -192,7 +170,7 @@ not_opened words command salt was disks output why status some fails =
       checked = λ named. check_unopened salt was disks output why status fails fails.known;
       broken = λ six. refused_by salt was disks output why fails.broken fails.untouched fails.rests (fails.damage six);
       usage = λ two. absurd (omega (arith, two, range.0));
-      unnamed = λ none. unnamed words _ _ none some;
+      unnamed = λ none. no_none task _ none;
       usage_written = λ two. absurd (omega (arith, two, range.0));
       known = known_unopened status fails.known;
       read_fault = λ three. absurd (omega (arith, three, range.0));
@@ -270,15 +248,15 @@ complete_by Safe salt was now ready start state status same runs free = by_statu
     by_status (inl whole) = inl whole
     by_status (inr end) = by_end end.0 end.1
 
-pub run_over : (words : List (List ℕ)) (Safe : Type 0) (salt : ℕ) (was now : Outside) (ready : Disks) (start state : State) (status : ℕ) → command_in words ≡ Some Run → IsOpened Safe salt was.disks ready start → IsEnded Safe salt start (opened was ready) now state status → IsCarriedOut words salt was now status
-run_over words Safe salt was now ready start state status some opening runs = record {
+pub run_over : (Safe : Type 0) (salt : ℕ) (was now : Outside) (ready : Disks) (start state : State) (status : ℕ) → IsOpened Safe salt was.disks ready start → IsEnded Safe salt start (opened was ready) now state status → IsCarriedOut (Some Run) salt was now status
+run_over Safe salt was now ready start state status opening runs = record {
   whole = λ named refused is. whole_run Safe salt was now ready start state refused status opening (runs.done refused is) (λ honest. runs.recovers (opening.safe honest) (no_five refused status is)) (λ honest. runs.durable (opening.safe honest) (no_five refused status is)) is;
   early = λ named end is. inr (early_run Safe salt was now ready start state end opening (runs.cut end is) (λ honest sound. runs.recovers (opening.safe honest) (no_disk_end end status is sound)) (λ honest sound. runs.durable (opening.safe honest) (no_disk_end end status is sound)));
   long = λ ten. (runs.cut LongInput ten).long refl;
-  checked = λ named. no_run words _ named some;
+  checked = λ named. absurd cc;
   broken = λ six. absurd (no_six status runs.known six);
   usage = λ two. absurd (no_two status runs.known two);
-  unnamed = λ none. unnamed words _ _ none some;
+  unnamed = λ none. no_none Run _ none;
   usage_written = λ two. absurd (no_two status runs.known two);
   known = inl runs.known;
   read_fault = runs.read_fault;
@@ -293,7 +271,7 @@ run_over words Safe salt was now ready start state status some opening runs = re
 
 -- ---- a check
 
-told_status : (line part : List ℕ) (before now status : ℕ) → IsTold line part before now status → (status ≡ 0) ⊎ ((status ≡ 4) ⊎ (status ≡ 7))
+pub told_status : (line part : List ℕ) (before now status : ℕ) → IsTold line part before now status → (status ≡ 0) ⊎ ((status ≡ 4) ⊎ (status ≡ 7))
 told_status line part before now status (inl is) = inl is.0
 told_status line part before now status (inr (inl is)) = inr (inl is.0)
 told_status line part before now status (inr (inr is)) = inr (inr is.0)
@@ -309,12 +287,12 @@ told_known status (inl is) = inl (inl (false, is))
 told_known status (inr (inl is)) = inl (inr (WriteFault, is))
 told_known status (inr (inr is)) = inl (inr (OutOfMemory, is))
 
-told_fault : (line part : List ℕ) (before now status : ℕ) → IsTold line part before now status → status ≡ 4 → RoseByOne before now
+pub told_fault : (line part : List ℕ) (before now status : ℕ) → IsTold line part before now status → status ≡ 4 → RoseByOne before now
 told_fault line part before now status (inl is) four = absurd (omega (arith, is.0, four))
 told_fault line part before now status (inr (inl is)) four = is.2
 told_fault line part before now status (inr (inr is)) four = absurd (omega (arith, is.0, four))
 
-told_quiet : (line part : List ℕ) (before now status : ℕ) (refused : Bool) → IsTold line part before now status → status ≡ status_by refused → now ≡ before
+pub told_quiet : (line part : List ℕ) (before now status : ℕ) (refused : Bool) → IsTold line part before now status → status ≡ status_by refused → now ≡ before
 told_quiet line part before now status refused (inl is) by = is.2
 told_quiet line part before now status false (inr (inl is)) by = absurd (omega (arith, is.0, by))
 told_quiet line part before now status true (inr (inl is)) by = absurd (omega (arith, is.0, by))
@@ -325,15 +303,15 @@ told_complete line part before now status (inl is) quiet = inl (false, is.0)
 told_complete line part before now status (inr (inl is)) quiet = absurd (quiet (rose_of _ _ is.2))
 told_complete line part before now status (inr (inr is)) quiet = inr is.0
 
-pub check_over : (words : List (List ℕ)) (Safe : Type 0) (salt last : ℕ) (was : Outside) (ready : Disks) (output : Output) (start : State) (status : ℕ) → command_in words ≡ Some Check → IsOpened Safe salt was.disks ready start → (Safe → recovered_on ready salt ≡ recovers start last)
-    → IsLineTold (check_line (summary_of start last)) was.output output status → IsCarriedOut words salt was (record was { output = output; disks = ready }) status
-check_over words Safe salt last was ready output start status some opening kept told =
+pub check_over : (Safe : Type 0) (salt last : ℕ) (was : Outside) (ready : Disks) (output : Output) (start : State) (status : ℕ) → IsOpened Safe salt was.disks ready start → (Safe → recovered_on ready salt ≡ recovers start last)
+    → IsLineTold (check_line (summary_of start last)) was.output output status → IsCarriedOut (Some Check) salt was (record was { output = output; disks = ready }) status
+check_over Safe salt last was ready output start status opening kept told =
     let line = check_line (summary_of start last) in
     let is = told_status line told.part was.output.faults output.faults status told.is in
     let none = not_told status is in
     record {
-      whole = λ named. no_run words _ some named;
-      early = λ named. no_run words _ some named;
+      whole = λ named. absurd cc;
+      early = λ named. absurd cc;
       long = λ ten. absurd (none.4 ten);
       checked = λ named. inl (record {
         start = start;
@@ -348,7 +326,7 @@ check_over words Safe salt last was ready output start status some opening kept 
       });
       broken = λ six. absurd (none.3 six);
       usage = λ two. absurd (none.0 two);
-      unnamed = λ nothing. unnamed words Check _ nothing some;
+      unnamed = λ nothing. no_none Check _ nothing;
       usage_written = λ two. absurd (none.0 two);
       known = told_known status is;
       read_fault = λ three. absurd (none.1 three);

@@ -1,9 +1,8 @@
 -- A whole call that has a server answer its input.
-use Rattle.std.proofs.Common.{◌≡◌, ◌≢◌, ◌⊎◌, inl, inr, ℕ, List, [], ◌∷◌, ◌++◌, Bool, true, false, Option, Some, None, refl, sym, ◌∙◌, ap, subst, arith}
+use Rattle.std.proofs.Common.{◌≡◌, ◌≢◌, inl, inr, ℕ, List, [], ◌++◌, true, false, Option, Some, None, refl, sym, ◌∙◌, ap, subst}
 use Rattle.sb_outside.specs.Causes.{RoseByOne}
 use Rattle.sb_outside.specs.Streams.{Gains}
 use Rattle.sb_outside.specs.Links.{Exchange}
-use Rattle.sb_journal.specs.Disks.{Disks}
 use Rattle.sb_client.specs.Requests.{request_of}
 use Rattle.sb_client.specs.Replies.{HasNoLine}
 use Rattle.sb_client.specs.Answers.{one_exchange}
@@ -12,16 +11,10 @@ use Rattle.sb_client.specs.Runs.{exchanges_in, EndsAt, IsCutRun, IsRun}
 use Rattle.sb_client.specs.declared.ending.ClientEnding.{ClientEnding}
 use Rattle.sb_client.specs.declared.ending.ClientEnding.TheVariants.{Done, ReadFault, WriteFault, LinkFault, BadReply, LongInput, OutOfMemory}
 use Rattle.sb_bus.specs.Outside.{Outside}
-use Rattle.sb_bus.specs.Tops.{IsComplete, IsCarriedOut}
-use Rattle.sb_bus.specs.Words.{command_in}
+use Rattle.sb_bus.specs.Tops.{IsComplete}
 use Rattle.sb_bus.specs.Clients.{Exchanges, status_of_client, client_side, MayHaveGiven, IsFreeClient, IsClientCall}
-use Rattle.sb_bus.specs.Calls.{IsCall, task_of}
-use Rattle.sb_bus.specs.declared.command.Command.{Command}
-use Rattle.sb_bus.specs.declared.command.Command.TheVariants.{Run as RunCommand, Check as CheckCommand, Client}
-use Rattle.sb_bus.specs.declared.command.Task.{Task}
-use Rattle.sb_bus.specs.declared.command.Task.TheVariants.{Run, Check}
 use Rattle.sb_client.proofs.Advances.{cut_at_once}
-use Rattle.sb_bus.proofs.Carried.{rose_of, short_long, unread_alone}
+use Rattle.sb_bus.proofs.Carried.{rose_of, short_long}
 
 -- ---- what a status says of the end
 
@@ -92,8 +85,8 @@ client_call was now link link_now end status says ended = record {
   complete = λ free. subst IsComplete (sym says) (complete_client was now link link_now end ended free);
 }
 
--- words that weren't read, for want of memory, which may name anything
-at_once : (was : Outside) (link : Exchanges) → IsClientCall was was link link 7
+-- memory was wanting before anything was done
+pub at_once : (was : Outside) (link : Exchanges) → IsClientCall was was link link 7
 at_once was link = client_call was was link link OutOfMemory 7 refl (record {
   run = cut_at_once (client_side was link);
   disks = refl;
@@ -104,9 +97,6 @@ at_once was link = client_call was was link link OutOfMemory 7 refl (record {
   link_fault = λ is. absurd cc;
   link_quiet = λ other. refl;
 })
-
-pub unread_call : (words : List (List ℕ)) (salt : ℕ) (was : Outside) (link : Exchanges) → IsCall words salt was was link link 7
-unread_call words salt was link = record { carried_out = λ other. unread_alone words salt was; client = λ is. at_once was link }
 
 -- a client has no status 2
 pub no_two_client : {was now : Outside} {link link_now : Exchanges} (status : ℕ) → IsClientCall was now link link_now status → status ≡ 2 → ⊥
@@ -121,39 +111,3 @@ no_two_client status call two = by_end call.end (sym call.says ∙ two)
     by_end BadReply is = absurd cc
     by_end LongInput is = absurd cc
     by_end OutOfMemory is = absurd cc
-
--- ---- which commands there are
-
-pub no_task : (command : Command) → task_of command ≡ None → command ≡ Client
-no_task RunCommand none = absurd cc
-no_task CheckCommand none = absurd cc
-no_task Client none = refl
-
-pub a_run : (command : Command) → task_of command ≡ Some Run → command ≡ RunCommand
-a_run RunCommand is = refl
-a_run CheckCommand is = absurd cc
-a_run Client is = absurd cc
-
-pub a_check : (command : Command) → task_of command ≡ Some Check → command ≡ CheckCommand
-a_check RunCommand is = absurd cc
-a_check CheckCommand is = refl
-a_check Client is = absurd cc
-
-pub no_client : (command : Command) (task : Task) → task_of command ≡ Some task → command ≢ Client
-no_client command task is client = let other : None ≡ Some task = sym (ap task_of client) ∙ is in absurd cc
-
--- words that name another command, or none
-pub other_words : (words : List (List ℕ)) (salt : ℕ) (was now : Outside) (link link_now : Exchanges) (status : ℕ) → command_in words ≢ Some Client → IsCarriedOut words salt was now status → IsCall words salt was now link link_now status
-other_words words salt was now link link_now status other carried = record { carried_out = λ o. carried; client = λ is. absurd (other is) }
-
-pub client_words : (words : List (List ℕ)) (salt : ℕ) (was now : Outside) (link link_now : Exchanges) (status : ℕ) → command_in words ≡ Some Client → IsClientCall was now link link_now status → IsCall words salt was now link link_now status
-client_words words salt was now link link_now status client called = record { carried_out = λ other. absurd (other client); client = λ is. called }
-
-pub not_none : (words : List (List ℕ)) → command_in words ≡ None → command_in words ≢ Some Client
-not_none words none some = let other : None ≡ Some Client = sym none ∙ some in absurd cc
-
-pub not_other : (words : List (List ℕ)) (command : Command) → command_in words ≡ Some command → command ≢ Client → command_in words ≢ Some Client
-not_other words command is other some = let same : Some command ≡ Some Client = sym is ∙ some in other (unwrapped command Client same)
-  where
-    unwrapped : (a b : Command) → Some a ≡ Some b → a ≡ b
-    unwrapped a b e = search

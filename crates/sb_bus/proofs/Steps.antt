@@ -1,15 +1,14 @@
 -- What a step of a running node says of the machine.
-use Rattle.std.proofs.Common.{◌≡◌, ℕ, List, [], ◌∷◌, Bool, true, false, Option, Some, None, Result, Ok, Err, refl, sym, ◌∙◌, ap, subst, arith, max, min}
-use Rattle.std.specs.Prelude.{if◌then◌else◌, is_some, is_err, IfSome}
+use Rattle.std.proofs.Common.{◌≡◌, ℕ, [], ◌∷◌, Bool, true, false, Option, Some, None, Result, Ok, Err, refl, sym, ◌∙◌, ap, subst, arith, max, min}
+use Rattle.std.specs.Prelude.{is_some, is_err, IfSome}
 use Rattle.std.specs.Bool.{MatchBool}
 use Rattle.sb_outside.specs.Streams.{Gains}
-use Rattle.sb_machine.specs.Answers.{answer_of, state_of, moment_of, max_moment}
+use Rattle.sb_machine.specs.Answers.{answer_of, moment_of, max_moment}
 use Rattle.sb_machine.specs.Consistent.{IsConsistent}
 use Rattle.sb_machine.specs.Due.{is_due}
 use Rattle.sb_machine.specs.History.{Log, IsAnswer, IsLegal, advanced, after_entries, entries_at, fresh_log, is_fault, is_spent, state_after, stops}
 use Rattle.sb_machine.specs.declared.call.Call.{Call}
 use Rattle.sb_machine.specs.declared.call.TimedCall.{TimedCall}
-use Rattle.sb_machine.specs.declared.history.Entry.{Entry}
 use Rattle.sb_machine.specs.declared.history.Entry.TheVariants.{Ticked, Answered as Replied}
 use Rattle.sb_machine.specs.declared.reply.Answered.{Answered}
 use Rattle.sb_machine.specs.declared.reply.Refusal.{Refusal}

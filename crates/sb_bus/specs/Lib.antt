@@ -4,10 +4,11 @@ pub mod Taking
 pub mod Nodes
 pub mod Runs
 pub mod Endings
-pub mod Words
-pub mod WordRows
 pub mod Commits
 pub mod Checks
+pub mod Lawful
 pub mod Tops
+pub mod Openings
 pub mod Clients
 pub mod Calls
+pub mod Servings

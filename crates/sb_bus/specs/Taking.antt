@@ -1,5 +1,5 @@
 -- What was taken of an input: the lines that were answered, and what was read ahead of them.
-use Rattle.std.specs.Prelude.{◌≡◌, ◌≤◌, ◌+◌, ℕ, List, [], ◌++◌, length, Option, Some, None}
+use Rattle.std.specs.Prelude.{◌≡◌, ◌≤◌, ℕ, List, ◌++◌, length}
 use Rattle.sb_input.specs.Limits.{max_piece}
 use Rattle.sb_input.specs.Lines.{NoFeed}
 use Rattle.sb_input.specs.Taking.{Took, IsLineAhead}

@@ -2,7 +2,9 @@
 // the lines that must be written.
 use crate::top::top;
 use sb_outside::{Bytes, MemDisk, MemLink, MemSink, MemSource, NoDoor, StepClock};
+use std::sync::Wait;
 use std::test::Fail;
+use std::thread::Threads;
 
 const CLIENT: [&str; 3] = ["client", "--port", "8080"];
 
@@ -88,7 +90,11 @@ fn link_of(rt: &HostRuntime, case: Case<'_>) -> Result<MemLink, Fail> {
 }
 
 // Makes the run, and gives its link back.
-fn answers(rt: &HostRuntime, case: Case<'_>) -> Result<MemLink, Fail> {
+fn answers<T: Threads + Wait + Sync>(
+    rt: &HostRuntime,
+    threads: &T,
+    case: Case<'_>,
+) -> Result<MemLink, Fail> {
     let alloc = rt.alloc();
     let disk_a = MemDisk::new(alloc, Vec::new(alloc), Vec::new(alloc))?;
     let disk_b = MemDisk::new(alloc, Vec::new(alloc), Vec::new(alloc))?;
@@ -99,7 +105,7 @@ fn answers(rt: &HostRuntime, case: Case<'_>) -> Result<MemLink, Fail> {
     let mut link = link_of(rt, case)?;
     let clock = StepClock::new(0, 1);
     let (status, disks) = top(
-        rt,
+        threads,
         alloc,
         &CLIENT,
         disk_a,
@@ -126,7 +132,7 @@ fn answers(rt: &HostRuntime, case: Case<'_>) -> Result<MemLink, Fail> {
 #[test]
 fn a_client_has_its_lines_answered(rt: HostRuntime) -> Result<(), Fail> {
     for case in &CASES {
-        let link = answers(&rt, *case)?;
+        let link = answers(&rt, &rt, *case)?;
         if case.input.starts_with(CREATE) {
             assert_eq!(rt; link.request(0), Some(REQUEST.as_bytes()));
         }

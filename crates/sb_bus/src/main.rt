@@ -1,9 +1,11 @@
 //! The program `bus`: a message broker over a journal in a folder.
 //!
-//! It cuts its input into script lines, has each answered by a namespace over its journal
-//! (`sb_node`), and writes the reply line (`sb_lines`). `top` is the whole program over whatever
-//! disks, streams, clock, doors and link it is handed, and its one contract says what a call does to
-//! them (`IsCarriedOut` in `specs/Tops.antt`); `outside` makes the real ones, and calls it.
+//! A run cuts its input into script lines, has each answered by a namespace over its journal
+//! (`sb_node`), and writes the reply line (`sb_lines`). A server has the requests of connections
+//! answered by one namespace (`sb_server`, over a desk). `top` is the whole program over whatever
+//! threads, disks, streams, clock, doors and link it is handed, and its one contract says what a call
+//! does to them (`IsCall` in `specs/Calls.antt`, `IsServeCall` in `specs/Servings.antt`); `outside`
+//! makes the real ones, and calls it.
 //!
 //! ```text
 //! $ mkdir -p data && ./bus run --data data < examples/first.script
@@ -14,28 +16,30 @@
 
 #[cfg(test)]
 mod adapter_tests;
+mod alone;
 mod checking;
 mod client;
 #[cfg(test)]
 mod client_tests;
-mod command;
 mod dispatch;
 mod ending;
 mod final_line;
+mod opening;
 mod outside;
 #[cfg(test)]
 mod rows;
 mod running;
 mod script_line;
+mod serving;
+mod task;
 #[cfg(test)]
 mod tests;
 mod top;
-mod words;
 #[cfg(test)]
 mod worked;
 
 use std::process::ExitCode;
 
 fn main(rt: HostRuntime) -> ExitCode {
-    ExitCode::from(outside::status(&rt))
+    ExitCode::from(outside::status(&rt, &rt))
 }

@@ -1,14 +1,16 @@
 // Makes the real disks, streams and clock, and calls the top.
-use crate::command::{Command, WordsFault};
 use crate::top::top;
-use crate::words::{asked_text, needs};
 use sb_outside::{
-    Dialing, Link, MemDisk, NoDoor, NoLink, Reading, SystemClock, Writing, hold_streams, open_disk,
-    sync_folder,
+    Dialing, Door, Link, Listening, MemDisk, NoDoor, NoLink, Reading, SystemClock, Writing,
+    hold_streams, open_disk, sync_folder,
 };
+use sb_words::{Command, Needs, WordsFault, asked_text, needs};
 use std::alloc::Global;
 use std::fs::{File, TryLockError};
 use std::io::{Error, ErrorKind};
+use std::net::{Ipv4Addr, OpenListener, TcpListener};
+use std::sync::Wait;
+use std::thread::Threads;
 use std::time::Duration;
 use std::{env, io};
 
@@ -54,8 +56,17 @@ fn lock_folder(rt: &HostRuntime, folder: &str) -> io::Result<File> {
     }
 }
 
-// Calls the top over the files of a folder.
-fn over_folder(rt: &HostRuntime, words: &[&str], folder: &str) -> io::Result<u8> {
+// Calls the top over the files of a folder, and these doors.
+fn over_folder<T: Threads + Wait + Sync, R: Door + Send>(
+    rt: &HostRuntime,
+    threads: &T,
+    words: &[&str],
+    folder: &str,
+    doors: &mut Vec<R>,
+) -> io::Result<u8>
+where
+    R::Conn: Send,
+{
     let alloc = rt.alloc();
     let _streams = hold_streams(rt, folder)?;
     let _lock = lock_folder(rt, folder)?;
@@ -65,9 +76,8 @@ fn over_folder(rt: &HostRuntime, words: &[&str], folder: &str) -> io::Result<u8>
     let disk_b = open_disk(rt, path_b.as_str())?;
     sync_folder(rt, folder)?;
     let salt = salt_of(std::rt::Clock::since_1970(rt)?);
-    let mut doors: Vec<NoDoor> = Vec::new(alloc);
     let (status, _disks) = top(
-        rt,
+        threads,
         alloc,
         words,
         disk_a,
@@ -76,25 +86,57 @@ fn over_folder(rt: &HostRuntime, words: &[&str], folder: &str) -> io::Result<u8>
         &SystemClock::new(rt),
         &mut Reading::new(rt.stdin()),
         &mut Writing::new(rt.stdout()),
-        &mut doors,
+        doors,
         &mut NoLink::new(),
     );
     Ok(status)
 }
 
+// A door for each worker, all over one listener at this port.
+fn doors_at(rt: &HostRuntime, port: u16, workers: u16) -> io::Result<Vec<Listening<TcpListener>>> {
+    let listener = TcpListener::bind(rt, (Ipv4Addr::LOCALHOST, port))?;
+    let mut doors = Vec::new(rt.alloc());
+    for _ in 1..workers {
+        doors.push(Listening::new(listener.try_clone()?))?;
+    }
+    doors.push(Listening::new(listener))?;
+    Ok(doors)
+}
+
+// Calls the top over the files of a folder, and doors over a listener.
+fn over_listener<T: Threads + Wait + Sync>(
+    rt: &HostRuntime,
+    threads: &T,
+    words: &[&str],
+    needs: &Needs,
+) -> io::Result<u8> {
+    let mut doors = doors_at(rt, needs.port, needs.workers)?;
+    over_folder(rt, threads, words, needs.folder.as_str(), &mut doors)
+}
+
 // Calls the top over a link to the server at this port.
-fn with_server(rt: &HostRuntime, words: &[&str], port: u16) -> io::Result<u8> {
-    over_nothing(rt, words, &mut Dialing::new(rt, port))
+fn with_server<T: Threads + Wait + Sync>(
+    rt: &HostRuntime,
+    threads: &T,
+    words: &[&str],
+    port: u16,
+) -> io::Result<u8> {
+    over_nothing(rt, threads, words, &mut Dialing::new(rt, port))
 }
 
 // Calls the top over empty disks in memory, and this link.
-fn over_nothing<N: Link>(rt: &HostRuntime, words: &[&str], link: &mut N) -> io::Result<u8> {
+fn over_nothing<T: Threads + Wait + Sync, N: Link>(
+    rt: &HostRuntime,
+    threads: &T,
+    words: &[&str],
+    link: &mut N,
+) -> io::Result<u8> {
     let alloc = rt.alloc();
     let disk_a = MemDisk::new(alloc, Vec::new(alloc), Vec::new(alloc))?;
     let disk_b = MemDisk::new(alloc, Vec::new(alloc), Vec::new(alloc))?;
     let mut doors: Vec<NoDoor> = Vec::new(alloc);
     let (status, _disks) = top(
-        rt,
+        threads,
         alloc,
         words,
         disk_a,
@@ -118,18 +160,26 @@ fn tell(rt: &HostRuntime, text: &str) -> u8 {
 }
 
 // The status of the call that these words make.
-fn status_by(rt: &HostRuntime, words: &[&str]) -> io::Result<u8> {
+fn status_by<T: Threads + Wait + Sync>(
+    rt: &HostRuntime,
+    threads: &T,
+    words: &[&str],
+) -> io::Result<u8> {
     match needs(rt.alloc(), words) {
         Ok(needs) => match needs.command {
-            Command::Run | Command::Check => over_folder(rt, words, needs.folder.as_str()),
-            Command::Client => with_server(rt, words, needs.port),
+            Command::Run | Command::Check => {
+                let mut doors: Vec<NoDoor> = Vec::new(rt.alloc());
+                over_folder(rt, threads, words, needs.folder.as_str(), &mut doors)
+            }
+            Command::Serve => over_listener(rt, threads, words, &needs),
+            Command::Client => with_server(rt, threads, words, needs.port),
         },
-        Err(WordsFault::BadWords) => over_nothing(rt, words, &mut NoLink::new()),
+        Err(WordsFault::BadWords) => over_nothing(rt, threads, words, &mut NoLink::new()),
         Err(WordsFault::OutOfMemory) => Ok(NO_MEMORY),
     }
 }
 
-fn run(rt: &HostRuntime) -> io::Result<u8> {
+fn run<T: Threads + Wait + Sync>(rt: &HostRuntime, threads: &T) -> io::Result<u8> {
     let owned = words_of(rt)?;
     let mut words = Vec::new(rt.alloc());
     for word in &owned {
@@ -137,16 +187,16 @@ fn run(rt: &HostRuntime) -> io::Result<u8> {
     }
     match asked_text(rt.alloc(), &words) {
         Ok(Some(text)) => Ok(tell(rt, text.as_str())),
-        Ok(None) => status_by(rt, &words),
+        Ok(None) => status_by(rt, threads, &words),
         Err(_) => Ok(NO_MEMORY),
     }
 }
 
 /// The status that the program ends with; 11, with one line on standard error, where another run holds
-/// the folder, or where a file, the clock or the words can't be had. Words that ask for help or for the
-/// version are answered here, and the top isn't called.
-pub fn status(rt: &HostRuntime) -> u8 {
-    match run(rt) {
+/// the folder, or where a file, the port, the clock or the words can't be had. Words that ask for help
+/// or for the version are answered here, and the top isn't called.
+pub fn status<T: Threads + Wait + Sync>(rt: &HostRuntime, threads: &T) -> u8 {
+    match run(rt, threads) {
         Ok(status) => status,
         Err(error) => {
             let _ = eprintln!(rt; "bus: {error}");

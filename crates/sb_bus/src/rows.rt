@@ -676,18 +676,18 @@ fn scripts_are_answered(rt: HostRuntime) -> Result<(), Fail> {
     ];
     for row in &rows {
         let (script, status) = *row;
-        left_by(&rt, &[], &[script], status)?;
+        left_by(&rt, &rt, &[], &[script], status)?;
     }
     Ok(())
 }
 
 #[test]
 fn later_runs_find_what_was_done(rt: HostRuntime) -> Result<(), Fail> {
-    let first = left_by(&rt, &[], &[TIME_GOES_ON], 1)?;
-    left_by(&rt, &first, &[LATER_RUN], 1)?;
-    let numbered = left_by(&rt, &[], &[NUMBERED], 0)?;
-    left_by(&rt, &numbered, &[REPEATED], 1)?;
-    left_by(&rt, &[], &[MADE_AGAIN], 1)?;
+    let first = left_by(&rt, &rt, &[], &[TIME_GOES_ON], 1)?;
+    left_by(&rt, &rt, &first, &[LATER_RUN], 1)?;
+    let numbered = left_by(&rt, &rt, &[], &[NUMBERED], 0)?;
+    left_by(&rt, &rt, &numbered, &[REPEATED], 1)?;
+    left_by(&rt, &rt, &[], &[MADE_AGAIN], 1)?;
     Ok(())
 }
 
@@ -743,7 +743,7 @@ fn a_body_is_too_large(rt: HostRuntime) -> Result<(), Fail> {
     let begin = br#"{"do":"send","to":"q","messages":[{"body":""#;
     let script = [&begin[..], &body, br#""}]}"#].concat(alloc)?;
     let told = b"{\"refused\":\"TooLarge\",\"size\":262145}\n";
-    let after = left_by_bytes(&rt, &ONE_EVENT, &script, told, 1)?;
+    let after = left_by_bytes(&rt, &rt, &ONE_EVENT, &script, told, 1)?;
     assert_eq!(rt; after.as_slice(), &ONE_EVENT[..]);
     Ok(())
 }

@@ -2,7 +2,9 @@
 // answers it.
 use crate::top::{top, top_alone};
 use sb_outside::{MemDisk, MemSink, MemSource, NoDoor, NoLink, StepClock};
+use std::sync::Wait;
 use std::test::Fail;
+use std::thread::Threads;
 
 const RUN: [&str; 3] = ["run", "--data", "."];
 
@@ -183,7 +185,11 @@ fn listed(rt: &HostRuntime, call: Option<u64>) -> Result<Vec<u64>, Fail> {
 }
 
 // Makes the run, and gives disk a as it leaves it.
-fn ran(rt: &HostRuntime, case: Case<'_>) -> Result<MemDisk, Fail> {
+fn ran<T: Threads + Wait + Sync>(
+    rt: &HostRuntime,
+    threads: &T,
+    case: Case<'_>,
+) -> Result<MemDisk, Fail> {
     let alloc = rt.alloc();
     let disk_a = MemDisk::new(
         alloc,
@@ -200,7 +206,7 @@ fn ran(rt: &HostRuntime, case: Case<'_>) -> Result<MemDisk, Fail> {
     let mut doors: Vec<NoDoor> = Vec::new(alloc);
     let clock = StepClock::new(0, 1);
     let (status, disks) = top(
-        rt,
+        threads,
         alloc,
         case.words,
         disk_a,
@@ -228,14 +234,19 @@ fn ran(rt: &HostRuntime, case: Case<'_>) -> Result<MemDisk, Fail> {
 }
 
 // The bytes that it leaves there.
-fn leaves(rt: &HostRuntime, case: Case<'_>) -> Result<Vec<u8>, Fail> {
-    let disk = ran(rt, case)?;
+fn leaves<T: Threads + Wait + Sync>(
+    rt: &HostRuntime,
+    threads: &T,
+    case: Case<'_>,
+) -> Result<Vec<u8>, Fail> {
+    let disk = ran(rt, threads, case)?;
     Ok(disk.bytes().to_vec(rt.alloc())?)
 }
 
 // The disk that a run over one row leaves whose disk fails at a call.
-fn ran_failing(
+fn ran_failing<T: Threads + Wait + Sync>(
     rt: &HostRuntime,
+    threads: &T,
     disk: &[u8],
     call: Option<u64>,
     row: &str,
@@ -253,12 +264,13 @@ fn ran_failing(
         told: &rows.told,
         status,
     };
-    ran(rt, case)
+    ran(rt, threads, case)
 }
 
 // The bytes that a run over these rows leaves, each line of which is answered.
-pub(crate) fn left_by(
+pub(crate) fn left_by<T: Threads + Wait + Sync>(
     rt: &HostRuntime,
+    threads: &T,
     disk: &[u8],
     parts: &[&str],
     status: u8,
@@ -272,25 +284,25 @@ pub(crate) fn left_by(
         told: &rows.told,
         status,
     };
-    leaves(rt, case)
+    leaves(rt, threads, case)
 }
 
 #[test]
 fn later_runs_go_on(rt: HostRuntime) -> Result<(), Fail> {
-    let made = left_by(&rt, &[], &[], 0)?;
+    let made = left_by(&rt, &rt, &[], &[], 0)?;
     assert_eq!(rt;
         made.as_slice(),
         [&ONE_EVENT[..42], &[0]].concat(rt.alloc())?.as_slice()
     );
-    let setup = left_by(&rt, &[], &[SETUP], 0)?;
+    let setup = left_by(&rt, &rt, &[], &[SETUP], 0)?;
     assert_eq!(rt; setup.as_slice(), &ONE_EVENT[..]);
     let first = [CREATE, SEND, PEEK, RECEIVE];
-    let left = left_by(&rt, &made, &first, 0)?;
+    let left = left_by(&rt, &rt, &made, &first, 0)?;
     assert_eq!(rt; left.len(), 186);
-    let again = left_by(&rt, &[], &first, 0)?;
+    let again = left_by(&rt, &rt, &[], &first, 0)?;
     assert_eq!(rt; left.as_slice(), again.as_slice());
-    let taken = left_by(&rt, &left, &[RECEIVE_AGAIN, RECEIVE_NONE], 0)?;
-    let after = left_by(&rt, &taken, &[RECEIVE_LOST], 1)?;
+    let taken = left_by(&rt, &rt, &left, &[RECEIVE_AGAIN, RECEIVE_NONE], 0)?;
+    let after = left_by(&rt, &rt, &taken, &[RECEIVE_LOST], 1)?;
     assert_eq!(rt; after.as_slice(), taken.as_slice());
     Ok(())
 }
@@ -298,16 +310,16 @@ fn later_runs_go_on(rt: HostRuntime) -> Result<(), Fail> {
 // Where a lock has ended by the time of a call, that is journaled before the call, once, and stays so in a later run.
 #[test]
 fn time_goes_on_first(rt: HostRuntime) -> Result<(), Fail> {
-    let held = left_by(&rt, &[], &[CREATE, SEND, RECEIVE_LOCKED], 0)?;
-    let same = left_by(&rt, &held, &[PEEK_HELD], 0)?;
+    let held = left_by(&rt, &rt, &[], &[CREATE, SEND, RECEIVE_LOCKED], 0)?;
+    let same = left_by(&rt, &rt, &held, &[PEEK_HELD], 0)?;
     assert_eq!(rt; same.as_slice(), held.as_slice());
-    let freed = left_by(&rt, &held, &[PEEK_FREED], 0)?;
+    let freed = left_by(&rt, &rt, &held, &[PEEK_FREED], 0)?;
     let (front, end) = freed
         .split_at_checked(held.len().saturating_sub(1))
         .ok_or("the file goes on")?;
     assert_eq!(rt; end, &TICK_RECORD[..]);
     assert!(rt; held.starts_with(front));
-    let after = left_by(&rt, &freed, &[PEEK_FREED], 0)?;
+    let after = left_by(&rt, &rt, &freed, &[PEEK_FREED], 0)?;
     assert_eq!(rt; after.as_slice(), freed.as_slice());
     Ok(())
 }
@@ -329,8 +341,14 @@ fn checking<'a>(disk: &'a [u8], told: &'a str, status: u8) -> Case<'a> {
 
 #[test]
 fn a_check_tells_the_numbers(rt: HostRuntime) -> Result<(), Fail> {
-    let again = left_by(&rt, &[], &[MADE_AGAIN], 0)?;
-    let freed = left_by(&rt, &[], &[CREATE, SEND, RECEIVE_LOCKED, PEEK_FREED], 0)?;
+    let again = left_by(&rt, &rt, &[], &[MADE_AGAIN], 0)?;
+    let freed = left_by(
+        &rt,
+        &rt,
+        &[],
+        &[CREATE, SEND, RECEIVE_LOCKED, PEEK_FREED],
+        0,
+    )?;
     let rows: [(&[u8], &str); 4] = [
         (
             &[],
@@ -351,17 +369,18 @@ fn a_check_tells_the_numbers(rt: HostRuntime) -> Result<(), Fail> {
     ];
     for row in &rows {
         let (disk, told) = *row;
-        let after = leaves(&rt, checking(disk, told, 0))?;
+        let after = leaves(&rt, &rt, checking(disk, told, 0))?;
         assert!(rt; disk.is_empty() || after.as_slice() == disk);
     }
     let damaged = changed(&rt, &ONE_EVENT, 9, 2)?;
     let told = damaged_at(&rt, 9)?;
-    leaves(&rt, checking(&damaged, told.as_str(), 6))?;
+    leaves(&rt, &rt, checking(&damaged, told.as_str(), 6))?;
     let failing = Failing {
         output: Some(0),
         ..NOTHING
     };
     leaves(
+        &rt,
         &rt,
         Case {
             failing,
@@ -373,16 +392,17 @@ fn a_check_tells_the_numbers(rt: HostRuntime) -> Result<(), Fail> {
 
 #[test]
 fn refused_lines_change_nothing(rt: HostRuntime) -> Result<(), Fail> {
-    let made = left_by(&rt, &[], &[CREATE], 0)?;
+    let made = left_by(&rt, &rt, &[], &[CREATE], 0)?;
     assert_eq!(rt; made.len(), 87);
-    let after = left_by(&rt, &made, &[BAD_LINES], 1)?;
+    let after = left_by(&rt, &rt, &made, &[BAD_LINES], 1)?;
     assert_eq!(rt; after.as_slice(), made.as_slice());
     Ok(())
 }
 
 // The bytes that a run over these, answered so, leaves.
-pub(crate) fn left_by_bytes(
+pub(crate) fn left_by_bytes<T: Threads + Wait + Sync>(
     rt: &HostRuntime,
+    threads: &T,
     disk: &[u8],
     script: &[u8],
     told: &[u8],
@@ -396,18 +416,26 @@ pub(crate) fn left_by_bytes(
         told,
         status,
     };
-    leaves(rt, case)
+    leaves(rt, threads, case)
 }
 
 // The same of texts.
-fn left_by_text(
+fn left_by_text<T: Threads + Wait + Sync>(
     rt: &HostRuntime,
+    threads: &T,
     disk: &[u8],
     script: &str,
     told: &str,
     status: u8,
 ) -> Result<Vec<u8>, Fail> {
-    left_by_bytes(rt, disk, script.as_bytes(), told.as_bytes(), status)
+    left_by_bytes(
+        rt,
+        threads,
+        disk,
+        script.as_bytes(),
+        told.as_bytes(),
+        status,
+    )
 }
 
 // The first bytes with one of them changed.
@@ -426,11 +454,16 @@ fn damaged_at(rt: &HostRuntime, place: u64) -> Result<String, Fail> {
 }
 
 // The file of three records with one byte changed is damaged at this place, and stays as it is.
-fn is_damaged(rt: &HostRuntime, file: &[u8], change: (usize, u8, u64)) -> Result<(), Fail> {
+fn is_damaged<T: Threads + Wait + Sync>(
+    rt: &HostRuntime,
+    threads: &T,
+    file: &[u8],
+    change: (usize, u8, u64),
+) -> Result<(), Fail> {
     let (place, byte, damage) = change;
     let bytes = changed(rt, file, place, byte)?;
     let told = damaged_at(rt, damage)?;
-    let after = left_by_text(rt, &bytes, RECEIVE, told.as_str(), 6)?;
+    let after = left_by_text(rt, threads, &bytes, RECEIVE, told.as_str(), 6)?;
     if after.as_slice() != bytes.as_slice() {
         return Err(Fail::from("a damaged file was written"));
     }
@@ -440,7 +473,7 @@ fn is_damaged(rt: &HostRuntime, file: &[u8], change: (usize, u8, u64)) -> Result
 // Three records: gates at 42, 86 and 152, the end gate at 185.
 #[test]
 fn damage_has_its_place(rt: HostRuntime) -> Result<(), Fail> {
-    let file = left_by(&rt, &[], &[CREATE, SEND, RECEIVE], 0)?;
+    let file = left_by(&rt, &rt, &[], &[CREATE, SEND, RECEIVE], 0)?;
     assert_eq!(rt; file.len(), 186);
     let rows = [
         // The head: magic, version, generation 0 and above 2^62, first number the same, base.
@@ -466,13 +499,13 @@ fn damage_has_its_place(rt: HostRuntime) -> Result<(), Fail> {
         (166, 1, 152),
     ];
     for row in &rows {
-        is_damaged(&rt, &file, *row)?;
+        is_damaged(&rt, &rt, &file, *row)?;
     }
     let told = damaged_at(&rt, 152)?;
     let cut = file.get(..170).ok_or("a front of the file")?;
-    left_by_text(&rt, cut, RECEIVE, told.as_str(), 6)?;
+    left_by_text(&rt, &rt, cut, RECEIVE, told.as_str(), 6)?;
     let without_gate = file.get(..185).ok_or("a front of the file")?;
-    left_by(&rt, without_gate, &[RECEIVE_AGAIN], 0)?;
+    left_by(&rt, &rt, without_gate, &[RECEIVE_AGAIN], 0)?;
     Ok(())
 }
 
@@ -491,7 +524,7 @@ fn line_ends(rt: HostRuntime) -> Result<(), Fail> {
     ];
     for row in &rows {
         let (script, told, status) = *row;
-        left_by_text(&rt, &[], script, told, status)?;
+        left_by_text(&rt, &rt, &[], script, told, status)?;
     }
     Ok(())
 }
@@ -541,8 +574,9 @@ fn lines_that_are_no_text(rt: HostRuntime) -> Result<(), Fail> {
 }
 
 // The bytes that a run over one row leaves whose disk fails at a call.
-fn left_by_failing(
+fn left_by_failing<T: Threads + Wait + Sync>(
     rt: &HostRuntime,
+    threads: &T,
     disk: &[u8],
     call: u64,
     row: &str,
@@ -563,7 +597,7 @@ fn left_by_failing(
         told: &rows.told,
         status,
     };
-    leaves(rt, case)
+    leaves(rt, threads, case)
 }
 
 // Each call of the disk fails in turn, over a journal that has an event: opening reads in three calls
@@ -583,8 +617,8 @@ fn each_disk_call_fails(rt: HostRuntime) -> Result<(), Fail> {
     ];
     for row in &rows {
         let (call, first, status, next) = *row;
-        let left = left_by_failing(&rt, &ONE_EVENT, call, first, status)?;
-        left_by(&rt, &left, &[next], 0)?;
+        let left = left_by_failing(&rt, &rt, &ONE_EVENT, call, first, status)?;
+        left_by(&rt, &rt, &left, &[next], 0)?;
     }
     Ok(())
 }
@@ -639,7 +673,7 @@ fn after(call: Option<u64>, fill: u8) -> Stop<'static> {
 // since the last sync holds the fill: also what the failed call was to write.
 #[test]
 fn an_append_stops(rt: HostRuntime) -> Result<(), Fail> {
-    let made = left_by(&rt, &[], &[], 0)?;
+    let made = left_by(&rt, &rt, &[], &[], 0)?;
     let stops = [
         // Within the first call, and after it.
         before(3, 0xff),
@@ -664,11 +698,11 @@ fn an_append_stops(rt: HostRuntime) -> Result<(), Fail> {
             status,
         } = *stop;
         let disk = match call {
-            Some(_) => ran_failing(&rt, &made, call, SETUP_FAILS, 5)?,
-            None => ran_failing(&rt, &made, None, SETUP, 0)?,
+            Some(_) => ran_failing(&rt, &rt, &made, call, SETUP_FAILS, 5)?,
+            None => ran_failing(&rt, &rt, &made, None, SETUP, 0)?,
         };
         let image = disk.image(rt.alloc(), fill)?;
-        left_by(&rt, &image, &[next], status)?;
+        left_by(&rt, &rt, &image, &[next], status)?;
     }
     Ok(())
 }
@@ -715,7 +749,7 @@ fn each_status_has_its_cause(rt: HostRuntime) -> Result<(), Fail> {
             told,
             status,
         };
-        leaves(&rt, case)?;
+        leaves(&rt, &rt, case)?;
     }
     let no_forms: [&[&str]; 6] = [
         &["serve"],
@@ -734,7 +768,7 @@ fn each_status_has_its_cause(rt: HostRuntime) -> Result<(), Fail> {
             told: USAGE.as_bytes(),
             status: 2,
         };
-        leaves(&rt, case)?;
+        leaves(&rt, &rt, case)?;
     }
     Ok(())
 }

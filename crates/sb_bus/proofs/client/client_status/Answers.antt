@@ -1,6 +1,4 @@
 use Rattle.std.proofs.Common.{refl}
-use Rattle.sb_bus.specs.Outside.{input_of, output_of}
-use Rattle.sb_bus.specs.Clients.{exchanges_of}
 use Rattle.sb_bus.proofs.Clients.{client_call}
 use Rattle.sb_bus.proofs.client.client_status.Goals as goal
 

@@ -1,0 +1,11 @@
+// What a call may be asked to do without waiting for anybody.
+/// What a call of the program is to do, where it waits for nobody.
+#[derive(Clone, Copy, Debug, PartialEq, Eq)]
+pub enum Task {
+    /// Answer the script lines of the input.
+    Run,
+    /// Tell the numbers of the namespace.
+    Check,
+    /// Have a server answer the script lines of the input.
+    Client,
+}
