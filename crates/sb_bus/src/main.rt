@@ -24,17 +24,23 @@ mod client_tests;
 mod dispatch;
 mod ending;
 mod final_line;
+#[cfg(test)]
+mod linked_tests;
 mod opening;
 mod outside;
 #[cfg(test)]
 mod rows;
 mod running;
 mod script_line;
+#[cfg(test)]
+mod server_tests;
 mod serving;
 mod task;
 #[cfg(test)]
 mod tests;
 mod top;
+#[cfg(test)]
+mod waiting_tests;
 #[cfg(test)]
 mod worked;
 
