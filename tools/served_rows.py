@@ -1,0 +1,193 @@
+#!/usr/bin/env python3
+"""Asks a server over real sockets, by curl, by the program's own client and byte by byte.
+
+usage: tools/served_rows.py PROGRAM
+
+PROGRAM is the built program (crates/sb_bus/out/sb_bus). A server is started on an empty folder; a message
+is sent and received as docs/REST.md has it, settled by its Location, and the same two requests are sent whole,
+pipelined and cut after each byte. Two connections are open at once where a receive waits for a send. The exit
+status is 1 where something is answered otherwise.
+"""
+import os
+import re
+import signal
+import socket
+import subprocess
+import sys
+import tempfile
+import threading
+import time
+
+SEND = b"POST /Q/messages HTTP/1.1\r\nHost: h\r\nContent-Length: 2\r\n\r\nhi"
+RECEIVE = b"POST /q/messages/head?timeout=0 HTTP/1.1\r\nHost: h\r\n\r\n"
+SENT = b"HTTP/1.1 201 Created\r\nContent-Length: 0\r\n\r\n"
+TIME = r"[A-Z][a-z]{2}, \d\d [A-Z][a-z]{2} \d{4} \d\d:\d\d:\d\d GMT"
+TOKEN = r"[0-9a-f]{8}-[0-9a-f]{4}-[0-9a-f]{4}-[0-9a-f]{4}-[0-9a-f]{12}"
+RECEIVED = re.compile(
+    (
+        r"HTTP/1\.1 201 Created\r\n"
+        r'BrokerProperties: \{"DeliveryCount":1,"EnqueuedSequenceNumber":(\d+),"EnqueuedTimeUtc":"%s",'
+        r'"LockToken":"(%s)","LockedUntilUtc":"%s","SequenceNumber":\1\}\r\n'
+        r"Location: (http://h/q/messages/\1/\2)\r\nContent-Length: 2\r\n\r\nhi"
+    )
+    % (TIME, TOKEN, TIME)
+)
+
+
+class Failed(Exception):
+    """Something was answered otherwise."""
+
+
+def wants(is_so, what):
+    if not is_so:
+        raise Failed(what)
+
+
+def free_port():
+    with socket.socket() as probe:
+        probe.bind(("127.0.0.1", 0))
+        return probe.getsockname()[1]
+
+
+def start(program, folder, port, *words):
+    server = subprocess.Popen(
+        [program, "serve", "--data", folder, "--port", str(port), *words], stdout=subprocess.PIPE, text=True
+    )
+    for _ in range(600):
+        if server.poll() is not None:
+            raise Failed(f"the server ended with status {server.returncode}")
+        with open("/proc/net/tcp", encoding="ascii") as sockets:
+            if f"0100007F:{port:04X} 00000000:0000 0A" in sockets.read():
+                return server
+        time.sleep(0.05)
+    raise Failed("the server doesn't listen")
+
+
+def client(program, port, lines, status):
+    """The reply lines that the program's client writes."""
+    ran = subprocess.run(
+        [program, "client", "--port", str(port)], input="".join(line + "\n" for line in lines),
+        capture_output=True, text=True, check=False,
+    )
+    wants(ran.returncode == status, f"client ended with status {ran.returncode}")
+    return ran.stdout.splitlines()
+
+
+def curl(port, *words):
+    """The status of a response and its headers and body, as curl prints them."""
+    *words, path = words
+    done = subprocess.run(
+        ["curl", "-s", "-i", "-H", "Host: h", *words, f"http://127.0.0.1:{port}{path}"], capture_output=True, check=True
+    )
+    text = done.stdout.decode()
+    return int(text.split(" ")[1]), text
+
+
+def over_one_connection(port, pieces):
+    """What comes back over one connection, which ends with the last request."""
+    with socket.create_connection(("127.0.0.1", port), timeout=20) as conn:
+        conn.setsockopt(socket.IPPROTO_TCP, socket.TCP_NODELAY, 1)
+        for piece in pieces:
+            conn.sendall(piece)
+        conn.shutdown(socket.SHUT_WR)
+        got = b""
+        while piece := conn.recv(65536):
+            got += piece
+        return got
+
+
+def settle(port, location, method, status):
+    path = location.removeprefix("http://h")
+    got, _ = curl(port, "-X", method, path)
+    wants(got == status, f"{method} {path} was answered {got}")
+
+
+def two_requests(port):
+    both = SEND + RECEIVE
+    for pieces in ([SEND, RECEIVE], [both], [both[i : i + 1] for i in range(len(both))]):
+        got = over_one_connection(port, pieces)
+        wants(got.startswith(SENT), f"a send was answered {got!r}")
+        found = RECEIVED.fullmatch(got[len(SENT) :].decode())
+        wants(found, f"a receive was answered {got[len(SENT):]!r}")
+        location = found[3]
+        settle(port, location.replace(found[2], found[2].upper()), "DELETE", 200)
+        settle(port, location, "DELETE", 404)
+    got = over_one_connection(port, [SEND[:-1]])
+    wants(got == b"", f"a request that is cut off was answered {got!r}")
+
+
+def by_curl(port):
+    status, _ = curl(port, "-X", "POST", "--data-binary", "hello", "/q/messages")
+    wants(status == 201, f"curl's send was answered {status}")
+    status, text = curl(port, "-X", "DELETE", "/q/messages/head")
+    wants(status == 200 and text.endswith("hello"), f"curl's receive was answered {text}")
+    status, _ = curl(port, "-X", "DELETE", "/q/messages/head?timeout=0")
+    wants(status == 204, f"a receive of nothing was answered {status}")
+    with tempfile.NamedTemporaryFile() as body:
+        for size, wanted in ((262_144, 201), (262_145, 403)):
+            body.truncate(size)
+            status, _ = curl(port, "-X", "POST", "--data-binary", f"@{body.name}", "/q/messages")
+            wants(status == wanted, f"a body of {size} bytes was answered {status}")
+    status, _ = curl(port, "-X", "DELETE", "/q/messages/head")
+    wants(status == 200, f"the large message was answered {status}")
+
+
+def two_at_once(port):
+    """A receive waits on one connection while another sends."""
+    got = []
+    waiter = threading.Thread(target=lambda: got.append(curl(port, "-X", "DELETE", "/q/messages/head?timeout=30")))
+    waiter.start()
+    time.sleep(0.5)
+    curl(port, "-X", "POST", "--data-binary", "late", "/q/messages")
+    waiter.join()
+    wants(got and got[0][0] == 200 and got[0][1].endswith("late"), f"a receive that waits was answered {got}")
+
+
+def all_rows(program):
+    folder, port = tempfile.mkdtemp(), free_port()
+    server = start(program, folder, port)
+    try:
+        told = client(program, port, ['{"do":"create-queue","name":"q"}', '{"do":"counts","entity":"q"}'], 0)
+        wants(
+            told == ['{"ok":"done"}', '{"counts":{"dead":0,"main":0,"transfer":0},"ok":"counts"}'],
+            f"the client wrote {told}",
+        )
+        two_requests(port)
+        by_curl(port)
+        two_at_once(port)
+        busy = subprocess.run(
+            [program, "serve", "--data", tempfile.mkdtemp(), "--port", str(port)], capture_output=True, text=True, check=False
+        )
+        wants(
+            busy.returncode == 11 and busy.stderr.count("\n") == 1 and not busy.stdout,
+            f"a port in use: status {busy.returncode}, {busy.stderr}",
+        )
+    finally:
+        server.send_signal(signal.SIGTERM)
+        server.wait()
+    two_workers_end(program)
+
+
+def two_workers_end(program):
+    """Each worker ends after one connection, and the numbers of the history are told."""
+    folder, port = tempfile.mkdtemp(), free_port()
+    server = start(program, folder, port, "--workers", "2", "--connections", "1")
+    client(program, port, ['{"do":"create-queue","name":"q"}', '{"do":"delete","entity":"r"}'], 1)
+    told, _ = server.communicate(timeout=20)
+    wants(
+        told == '{"changing":1,"entries":2,"ok":"report","refused":1}\n' and server.returncode == 0,
+        f"status {server.returncode}, {told!r}",
+    )
+
+
+def main():
+    if len(sys.argv) != 2:
+        sys.exit(__doc__)
+    try:
+        all_rows(os.path.realpath(sys.argv[1]))
+    except Failed as failed:
+        sys.exit(f"failed: {failed}")
+    print("ok")
+
+
+main()
