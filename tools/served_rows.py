@@ -5,8 +5,9 @@ usage: tools/served_rows.py PROGRAM
 
 PROGRAM is the built program (crates/sb_bus/out/sb_bus). A server is started on an empty folder; a message
 is sent and received as docs/REST.md has it, settled by its Location, and the same two requests are sent whole,
-pipelined and cut after each byte. Two connections are open at once where a receive waits for a send. The exit
-status is 1 where something is answered otherwise.
+pipelined and cut after each byte. Two connections are open at once where a receive waits for a send, and the one worker
+of a server is free again once its caller has said nothing for 60 seconds. The exit status is 1 where something is
+answered otherwise.
 """
 import os
 import re
@@ -166,6 +167,22 @@ def all_rows(program):
         server.send_signal(signal.SIGTERM)
         server.wait()
     two_workers_end(program)
+    silent_caller(program)
+
+
+def silent_caller(program):
+    """One worker, whose caller says nothing: another is served once a minute has passed."""
+    port = free_port()
+    server = start(program, tempfile.mkdtemp(), port, "--workers", "1")
+    try:
+        with socket.create_connection(("127.0.0.1", port)):
+            begun = time.monotonic()
+            code, _ = curl(port, "-X", "POST", "--data-binary", "hi", "/q/messages")
+            waited = time.monotonic() - begun
+        wants(code == 410 and 55 < waited < 75, f"{code} after {waited:.1f} seconds beside a silent caller")
+    finally:
+        server.send_signal(signal.SIGTERM)
+        server.wait()
 
 
 def two_workers_end(program):

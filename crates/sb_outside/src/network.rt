@@ -7,12 +7,16 @@ use crate::{Connected, Door, DoorFault, Link, LinkFault};
 use std::io;
 use std::io::{ErrorKind, Read, Write};
 use std::net::{Ipv4Addr, Net, OpenListener, OpenStream, TcpStream};
+use std::time::Duration;
 
 // A reply of so many bytes is a fault.
 const LONGEST_REPLY: usize = 1 << 40;
 
 // How much of a reply is read at once.
 const PIECE: usize = 16_384;
+
+// A connection whose other side gives nothing, or takes nothing, for so many seconds fails.
+const LONGEST_SILENCE: u64 = 60;
 
 /// A link to a server at a port of this machine (127.0.0.1). Each exchange has a connection of its own,
 /// whose reply ends where the server ends it. Each error of the system is a counted fault, and so is a
@@ -89,7 +93,9 @@ impl<R: Net + Drop> Link for Dialing<R> {
     }
 }
 
-/// A door over a listener, which never ends. Each error of the system is a counted fault.
+/// A door over a listener, which never ends. Each error of the system is a counted fault. Of its
+/// connections, a read or a write that waited for the other side for 60 seconds is a fault, so that a
+/// silent caller keeps no worker.
 #[derive(Drop)]
 pub struct Listening<L: OpenListener + Drop> {
     listener: L,
@@ -110,6 +116,15 @@ fn next_stream<L: OpenListener>(listener: &L) -> io::Result<L::Stream> {
         }
     }
     Err(io::Error::from(ErrorKind::Interrupted))
+}
+
+// Sets what the connections of a door have: a response waits for no more bytes to go with it, and
+// nobody waits for a silent caller. Where the system can't, the connection is served without.
+fn prepare<S: OpenStream>(stream: &S) {
+    let silence = Some(Duration::from_secs(LONGEST_SILENCE));
+    let _ = stream.set_nodelay(true);
+    let _ = stream.set_read_timeout(silence);
+    let _ = stream.set_write_timeout(silence);
 }
 
 impl<L: OpenListener + Drop> Listening<L>
@@ -147,8 +162,7 @@ where
     fn accept(&mut self) -> Result<Option<Connected<L::Stream>>, DoorFault> {
         match next_stream(&self.listener) {
             Ok(stream) if self.out < u64::MAX => {
-                // (a response waits for no more bytes to go with it)
-                let _ = stream.set_nodelay(true);
+                prepare(&stream);
                 self.out += 1;
                 Ok(Some(Connected::new(stream)))
             }
