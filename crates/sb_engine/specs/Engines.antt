@@ -50,7 +50,7 @@ adds_nothing cs = not (list_any (λ c. is_some (place_of c)) cs)
 -- there is room for what a plan adds
 pub record HasRoom (e : Engine) (t : ℕ) (p : Planned) : Type 0 where
   pub sound : IsSound (engine_state e) t p
-  pub space : IsRoomFor t p.changes e.space
+  pub space : IsRoomFor p.changes e.space
   pub clients : is_some p.kept ≡ true → 1 ≤ e.clients.spare
 
 -- ---- what a call comes to, as a plan

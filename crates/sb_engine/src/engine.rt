@@ -1,5 +1,5 @@
 // A whole namespace in memory.
-ghost use Rattle.std.specs.Prelude.{◌≡◌, ◌⊎◌, ◌≤◌, ◌<◌, ◌^◌, [], Some, None, is_some, true, false, Ok, Err, IfOk, IfErr, OnOk};
+ghost use Rattle.std.specs.Prelude.{◌≡◌, ℕ, ◌⊎◌, ◌≤◌, ◌<◌, ◌^◌, [], Some, None, is_some, true, false, Ok, Err, IfOk, IfErr, OnOk};
 ghost use Rattle.std.specs.Option.{option_map};
 ghost use Rattle.std.specs.Result.{IsOk};
 ghost use Rattle.sb_entities.specs.Stores.{space_in, IsRoomFor};
@@ -206,16 +206,15 @@ impl Engine {
 
     /// Takes all memory that a plan needs; where it is wanting, the namespace stays. A plan whose
     /// changes add nothing, and that isn't kept, needs none.
-    pub fn reserve(&mut self, moment: u64, plan: &Plan) -> Result<(), AllocError>
-        requires sound { IsSound (engine_state self.old) moment plan.now }
+    pub fn reserve(&mut self, plan: &Plan) -> Result<(), AllocError>
         ensures state { engine_state self.new ≡ engine_state self.old }
-        ensures room { OnOk result (HasRoom self.new moment plan.now) }
+        ensures room { OnOk result ((moment : ℕ) → IsSound (engine_state self.old) moment plan.now → HasRoom self.new moment plan.now) }
         ensures free { is_some plan.now.kept ≡ false → adds_nothing plan.now.changes ≡ true → IsOk result }
     {
         if plan.is_kept() {
             self.clients.reserve(1)?;
         }
-        self.space.reserve(moment, plan.changes())
+        self.space.reserve(plan.changes())
     }
 
     /// Carries a plan out at a moment, in ms since 1970; it takes no memory. Where the moment that is
@@ -252,7 +251,7 @@ impl Engine {
 
 // Changes are carried out where there are any.
 fn carry_changes(space: &mut Watched, moment: u64, changes: Changes)
-    requires room { IsRoomFor moment changes space.old }
+    requires room { IsRoomFor changes space.old }
     requires numbered { is_none_in changes ≡ false → is_numbered moment changes (space_in space.old) ≡ true }
     ensures { space_in space.new ≡ after_all moment changes (space_in space.old) }
 {

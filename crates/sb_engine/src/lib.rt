@@ -13,7 +13,7 @@
 //! ```text
 //! let plan = engine.plan(moment, &call)?;          // nothing is changed yet
 //! if plan.is_changing() {
-//!     engine.reserve(moment, &plan)?;              // where memory is wanting, all stays
+//!     engine.reserve(&plan)?;                      // where memory is wanting, all stays
 //!     let answered = engine.commit(moment, plan);
 //! }
 //! ```

@@ -65,18 +65,18 @@ impl Watched {
         is_due(&self.space, moment)
     }
 
-    /// Takes all memory that these changes at `moment` need; where it is wanting, all stays.
-    pub fn reserve(&mut self, moment: u64, changes: &Changes) -> Result<(), AllocError>
+    /// Takes all memory that these changes need; where it is wanting, all stays.
+    pub fn reserve(&mut self, changes: &Changes) -> Result<(), AllocError>
         ensures state { space_in self.new ≡ space_in self.old }
-        ensures room { OnOk result (IsRoomFor moment changes.now self.new) }
+        ensures room { OnOk result (IsRoomFor changes.now self.new) }
         ensures free { list_any (λ c. is_some (place_of c)) changes.now ≡ false → IsOk result }
     {
-        self.space.reserve(moment, changes)
+        self.space.reserve(changes)
     }
 
     /// Carries out these changes at `moment`, in ms since 1970. It takes no memory.
     pub fn carry_out(&mut self, moment: u64, changes: Changes)
-        requires room { IsRoomFor moment changes self.old }
+        requires room { IsRoomFor changes self.old }
         requires numbered { machine.is_numbered moment changes (space_in self.old) ≡ true }
         ensures { space_in self.new ≡ machine.after_all moment changes (space_in self.old) }
     {

@@ -70,5 +70,5 @@ stock_in s = record {
 }
 
 -- the memory that carrying these changes out takes is there
-abbrev pub IsRoomFor : ℕ → List Change → SpaceStore → Type 0
-IsRoomFor t cs s = PromisesAll cs (stock_in s)
+abbrev pub IsRoomFor : List Change → SpaceStore → Type 0
+IsRoomFor cs s = PromisesAll cs (stock_in s)

@@ -20,7 +20,7 @@ use sb_model::Rows;
 impl SpaceStore {
     /// Carries out these changes at `moment`, in ms since 1970. It takes no memory.
     pub fn carry_out(&mut self, moment: u64, changes: Changes)
-        requires room { IsRoomFor moment changes self.old }
+        requires room { IsRoomFor changes self.old }
         requires numbered { is_numbered moment changes (space_in self.old) ≡ true }
         ensures space { space_in self.new ≡ after_all moment changes (space_in self.old) }
     {

@@ -7,7 +7,7 @@
 //!
 //! ```text
 //! let mut space = SpaceStore::new(alloc, salt);
-//! space.reserve(moment, &changes)?;                // where memory is wanting, the space stays
+//! space.reserve(&changes)?;                        // where memory is wanting, the space stays
 //! space.carry_out(moment, changes);                // this can't fail
 //! if let Some(entity) = space.at(&path) {
 //!     let first = entity.part(path.part).copies().first_ready();

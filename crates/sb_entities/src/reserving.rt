@@ -18,9 +18,9 @@ impl SpaceStore {
     /// Takes the memory that carrying out these changes needs; where it is wanting, the space
     /// stays. It counts as wanting, too, where a change adds to an entity or a transaction whose
     /// number is still to be given. Changes that add nothing take none.
-    pub fn reserve(&mut self, moment: u64, changes: &Changes) -> Result<(), AllocError>
+    pub fn reserve(&mut self, changes: &Changes) -> Result<(), AllocError>
         ensures space { space_in self.new ≡ space_in self.old }
-        ensures room { OnOk result (IsRoomFor moment changes.now self.new) }
+        ensures room { OnOk result (IsRoomFor changes.now self.new) }
         ensures free { list_any (λ c. is_some (places.place_of c)) changes.now ≡ false → IsOk result }
     {
         for index in 0..changes.len() {

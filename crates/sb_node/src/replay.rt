@@ -44,7 +44,7 @@ fn carry_out(engine: &mut Engine, moment: u64, plan: Plan) -> Result<(), AllocEr
     requires { IsSound (engine_state engine.old) moment plan }
     ensures { OnOk result (engine_state engine.new ≡ carried_out moment plan (engine_state engine.old)) }
 {
-    engine.reserve(moment, &plan)?;
+    engine.reserve(&plan)?;
     let _answered = engine.commit(moment, plan);
     Ok(())
 }
