@@ -22,3 +22,4 @@ pub mod Turning
 pub mod Items
 pub mod Later
 pub mod Sooner
+pub mod Crossing

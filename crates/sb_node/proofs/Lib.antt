@@ -13,3 +13,4 @@ pub mod Merely
 pub mod Counts
 pub mod Undecided
 pub mod Standing
+pub mod Crossing

@@ -11,7 +11,7 @@ use Rattle.sb_bus.specs.Checks.{IsLineTold}
 use Rattle.sb_bus.specs.Openings.{IsOpened}
 use Rattle.sb_bus.specs.Outside.{Outside, output_of}
 use Rattle.sb_bus.specs.Servings.{IsServeCall, passes_for, report_line, serve_status}
-use Rattle.sb_bus.proofs.Crossing.{node_send}
+use Rattle.sb_node.proofs.Crossing.{node_send}
 use Rattle.sb_bus.proofs.Servings.{IsClosed, IsWorked, closed_node, each_of, failed_call, served_call, unserved_call}
 use Rattle.sb_bus.proofs.Whole.{kept_recovers}
 use Rattle.sb_bus.proofs.serving.serve_over.Goals as goal

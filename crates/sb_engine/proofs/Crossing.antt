@@ -1,11 +1,9 @@
--- A node may go to another thread, where its disks may.
+-- An engine may go to another thread.
 use denote.Param.Send.{IsSend, recorded_send, sendable, struct_send, view_send}
-use denote.RattleType.{RattleType}
 use denote.Struct.Declared.{shape}
 use Rattle.std.proofs.Crossing.{crosses}
 use Rattle.std.proofs.alloc.Global.TheSendSync as global
 use Rattle.std.proofs.vec.Vec.TheSendSync as vec
-use Rattle.sb_outside.specs.declared.disk.Disk.{Ghosts}
 use Rattle.sb_model.proofs.expression.Expression.TheLaws.TheKnot as knot
 use Rattle.sb_machine.specs.contracts.rule.Rule as rule
 use Rattle.sb_repeats.proofs.clients.Clients.TheSendSync as clients
@@ -18,8 +16,6 @@ use Rattle.sb_entities.specs.contracts.space.SpaceStore as store
 use Rattle.sb_engine.specs.contracts.engine.Engine as engine
 use Rattle.sb_engine.specs.contracts.watched.Watched as watched
 use Rattle.sb_engine.specs.contracts.watched.Watched.TheInside as inside
-use Rattle.sb_journal.proofs.journal.Journal.TheSendSync as journal
-use Rattle.sb_node.specs.contracts.node.Node as node
 
 rule_send : IsSend rule.the_row
 rule_send = search (crosses, knot.crosses, sendable) depth 60 fits 20000
@@ -39,8 +35,5 @@ store_send = search (crosses, sendable, global.the_field_send, entities_send, tx
 watched_send : IsSend watched.the_field.row
 watched_send = view_send inside.the_row _ _ _ _ (recorded_send inside.the_field.row _ _ inside.the_type.to_one (struct_send (shape inside.the_type) (store_send, (search sendable, tt))))
 
-engine_send : IsSend engine.the_field.row
+pub engine_send : IsSend engine.the_field.row
 engine_send = search (crosses, sendable, global.the_field_send, clients.the_send, watched_send) depth 60 fits 20000
-
-pub node_send : (D : RattleType) (B : Ghosts D.Denot) → IsSend D → IsSend (node.the_row D B)
-node_send D B s = search (crosses, sendable, engine_send, journal.the_field_send) depth 60 fits 20000
