@@ -1,22 +1,24 @@
 -- A server's call, on each of its ways.
 use Rattle.std.proofs.Common.{◌≡◌, ◌≢◌, ◌≤◌, ◌<◌, ◌⊎◌, inl, inr, ℕ, List, [], ◌∷◌, length, map, Bool, true, false, Option, Some, None, Err, refl, sym, ◌∙◌, ap, ap₂, subst, arith}
-use Rattle.std.specs.Prelude.{IsTrue, if◌then◌else◌, is_some, ◌||◌}
+use Rattle.std.specs.Prelude.{if◌then◌else◌, is_some, ◌||◌}
 use Rattle.std.specs.List.{list_any}
+use Rattle.sb_outside.specs.Causes.{Rose}
 use Rattle.sb_outside.specs.declared.disk.Disk.{Ghosts}
 use Rattle.sb_machine.specs.History.{Log, IsLegal, after_entries, after_entry, fresh_log, state_after, stops}
 use Rattle.sb_machine.specs.declared.history.Entry.{Entry}
 use Rattle.sb_machine.specs.declared.history.Entry.TheVariants.{Ticked, Answered as Replied}
 use Rattle.sb_machine.specs.declared.state.State.{State}
-use Rattle.sb_journal.specs.Disks.{Disks, AreHonest, HaveFailed}
+use Rattle.sb_journal.specs.Disks.{Disks, AreHonest, AreQuiet, HaveFailed, SameHonesty}
+use Rattle.sb_journal.proofs.Pairs.{still_honest}
 use Rattle.sb_journal.specs.declared.found.OpenWhy.{OpenWhy}
 use Rattle.sb_node.specs.declared.node.Node.{Node}
 use Rattle.sb_node.specs.Nodes.{node_disks, node_state, node_stopped, IsDurable, IsOneOf}
 use Rattle.sb_node.specs.Recovery.{Recovers, recovered_on}
-use Rattle.sb_node.specs.Serving.{HasRisen, node_origin, origin_of, states_left, StandsFor}
+use Rattle.sb_node.specs.Serving.{opened_disks, origin_of, states_left, FollowHistory, HasDiskRisen, StandsFor}
+use Rattle.sb_node.proofs.Whole.{honest_on, quiet_on}
 use Rattle.sb_desk.specs.Desks.{IsKeptIn, IsNew, IsOf, Open, Sitting, below}
 use Rattle.sb_desk.specs.Entries.{IsReport}
 use Rattle.sb_desk.specs.Lists.{Each, HaveSeatsBelow}
-use Rattle.sb_desk.specs.declared.report.Origin.{Origin}
 use Rattle.sb_desk.specs.declared.report.Report.{Report}
 use Rattle.sb_server.specs.Serves.{Serving, Worker, is_fault, is_lost, serve_ending}
 use Rattle.sb_server.specs.Works.{TellsFault}
@@ -35,7 +37,7 @@ use Rattle.sb_bus.specs.declared.task.Task.{Task}
 use Rattle.sb_bus.proofs.Calls.{no_form, IsBadWords}
 use Rattle.sb_bus.specs.Outside.{Output, Outside}
 use Rattle.sb_bus.specs.Openings.{IsOpened, IsFailed, IsFailedStatus}
-use Rattle.sb_bus.specs.Servings.{HasDiskRisen, HasDoorRisen, IsFreeServing, IsServeCall, IsServed, IsServeStatus, NoneStops, has_stopped, passes_for, report_line, serve_status}
+use Rattle.sb_bus.specs.Servings.{HasDoorRisen, IsFreeServing, IsServeCall, IsServed, IsServeStatus, NoneStops, has_stopped, passes_for, report_line, serve_status}
 use Rattle.sb_bus.specs.declared.ending.RunEnd.TheVariants.{DiskFault, OutOfMemory as WantsMemory}
 use Rattle.sb_bus.proofs.Carried.{nothing_done, refused_by, rose_of, told_fault, told_quiet, told_status, unopened_by}
 use Rattle.sb_bus.proofs.Lawful.{lawful}
@@ -50,6 +52,7 @@ unserved_at_once Works count salt was doors = record {
   write_fault = λ four. absurd cc;
   write_quiet = λ none. refl;
   disk_fault = λ five. absurd cc;
+  disk_quiet = λ other. (refl, refl);
   broken = λ six. absurd cc;
   door_fault = λ eight. absurd cc;
   door_quiet = λ other last. refl;
@@ -65,6 +68,11 @@ risen : (was now : Disks) → HaveFailed was now → HasDiskRisen was now
 risen was now (n, inl one) = inl (rose_of _ _ one.1)
 risen was now (n, inr one) = inr (rose_of _ _ one.1)
 
+-- none rose before
+risen_since : (was mid now : Disks) → AreQuiet was mid → HasDiskRisen mid now → HasDiskRisen was now
+risen_since was mid now quiet (inl rose) = inl (subst (λ (n : ℕ). Rose n now.a.faults) quiet.0 rose)
+risen_since was mid now quiet (inr rose) = inr (subst (λ (n : ℕ). Rose n now.b.faults) quiet.1 rose)
+
 pub failed_call : {R : Type 0} (Works : Open → Worker R → Type 0) (count : R → ℕ) (salt : ℕ) (was : Outside) (disks : Disks) (output : Output) (doors : List R) (why : OpenWhy) (status : ℕ) → IsFailed salt was.disks disks was.output output why status
     → IsServeCall Works count salt was (record was { output = output; disks = disks }) doors doors status
 failed_call {R} Works count salt was disks output doors why status fails = by_status fails.known
@@ -76,6 +84,7 @@ failed_call {R} Works count salt was disks output doors why status fails = by_st
       write_fault = λ four. absurd (omega (arith, five, four));
       write_quiet = λ none. absurd (omega (arith, five, none));
       disk_fault = λ same. risen was.disks disks (fails.cause (fails.failed five));
+      disk_quiet = λ other. absurd (other five);
       broken = λ six. absurd (omega (arith, five, six));
       door_fault = λ eight. absurd (omega (arith, five, eight));
       door_quiet = λ other last. refl;
@@ -91,6 +100,7 @@ failed_call {R} Works count salt was disks output doors why status fails = by_st
           write_fault = λ four. absurd (omega (arith, six, four));
           write_quiet = λ none. absurd (omega (arith, six, none));
           disk_fault = λ five. absurd (omega (arith, six, five));
+          disk_quiet = λ other. fails.quiet (fails.other other);
           broken = λ same. refused;
           door_fault = λ eight. absurd (omega (arith, six, eight));
           door_quiet = λ other last. refl;
@@ -104,6 +114,7 @@ failed_call {R} Works count salt was disks output doors why status fails = by_st
       write_fault = λ four. absurd (omega (arith, seven, four));
       write_quiet = λ none. absurd (omega (arith, seven, none));
       disk_fault = λ five. absurd (omega (arith, seven, five));
+      disk_quiet = λ other. fails.quiet (fails.other other);
       broken = λ six. absurd (omega (arith, seven, six));
       door_fault = λ eight. absurd (omega (arith, seven, eight));
       door_quiet = λ other last. refl;
@@ -135,6 +146,7 @@ unserved_call Works count Safe salt was ready doors start opening recovers = rec
   write_fault = λ four. absurd cc;
   write_quiet = λ none. refl;
   disk_fault = λ five. absurd cc;
+  disk_quiet = λ other. opening.quiet;
   broken = λ six. absurd cc;
   door_fault = λ eight. absurd cc;
   door_quiet = λ other last. refl;
@@ -303,24 +315,26 @@ doors_quiet Work count passes passes_now doors doors_now ending tells (inr none)
 
 -- ---- a node behind its history
 
--- what is known of its disks, and whether it has stopped
-pub record IsClosed (salt : ℕ) (start : State) (h : List Entry) (origin : Origin) (now : Disks) (stopped : Bool) : Type 0 where
+-- what is known of its disks since it was opened, and whether it has stopped
+pub record IsClosed (salt : ℕ) (start : State) (h : List Entry) (ready now : Disks) (stopped : Bool) : Type 0 where
   pub legal : IsLegal start h
   pub says : stopped ≡ has_stopped start h
-  pub cause : stopped ≡ true → HasRisen origin now
-  pub honest_a : now.a.honest ≡ origin.disk_a.honest
-  pub honest_b : now.b.honest ≡ origin.disk_b.honest
+  pub cause : stopped ≡ true → HasDiskRisen ready now
+  pub quiet : stopped ≡ false → AreQuiet ready now
+  pub honesty : SameHonesty ready now
+  pub follows : AreHonest now → FollowHistory start h ready now
   pub recovers : AreHonest now → stopped ≡ false → Recovers (recovered_on now salt) (state_after start h)
   pub durable : AreHonest now → stopped ≡ false → IsDurable now (state_after start h)
   pub left : AreHonest now → IsOneOf now (states_left start h)
 
-pub closed_node : {D : Type 0} {B : Ghosts D} (n : Node D B) (salt : ℕ) (start : State) (h : List Entry) → StandsFor n start h → IsClosed salt start h (node_origin n) (node_disks n) (is_some (node_stopped n))
+pub closed_node : {D : Type 0} {B : Ghosts D} (n : Node D B) (salt : ℕ) (start : State) (h : List Entry) → StandsFor n start h → IsClosed salt start h (opened_disks n) (node_disks n) (is_some (node_stopped n))
 closed_node n salt start h stands = record {
   legal = stands.legal;
   says = ap (λ (l : Log). l.stopped) stands.leads;
   cause = stands.cause;
-  honest_a = stands.since_a.0;
-  honest_b = stands.since_b.0;
+  quiet = λ goes. stands.quiet (none_of (node_stopped n) goes);
+  honesty = stands.honesty;
+  follows = stands.follows;
   recovers = λ honest goes. subst (Recovers (recovered_on (node_disks n) salt)) leads (kept_recovers n salt (stands.kept honest (none_of (node_stopped n) goes)));
   durable = λ honest goes. subst (IsDurable (node_disks n)) leads (kept_durable n (stands.kept honest (none_of (node_stopped n) goes)));
   left = stands.left;
@@ -357,7 +371,7 @@ pub record IsWorked {R : Type 0} (Works : Open → Worker R → Type 0) (h : Lis
   pub serves : Serving (Works desk) passes passes_now doors doors_now ending
 
 module _ {R : Type 0} (Works : Open → Worker R → Type 0) (count : R → ℕ) (Safe : Type 0) (salt : ℕ) (was now : Outside) (ready : Disks) (doors doors_now : List R) (h : List Entry) (desk : Open) (passes passes_now : List Sitting) (ending : ServeEnding) (report : Report) (stopped : Bool) (told : ℕ) where
-  served : IsOpened Safe salt was.disks ready desk.start → desk.origin ≡ origin_of was.disks → IsWorked Works h desk passes passes_now doors doors_now ending → IsReport desk.start h report → IsClosed salt desk.start h (origin_of was.disks) now.disks stopped
+  served : IsOpened Safe salt was.disks ready desk.start → desk.origin ≡ origin_of ready → IsWorked Works h desk passes passes_now doors doors_now ending → IsReport desk.start h report → IsClosed salt desk.start h ready now.disks stopped
       → IsLineTold (report_line report) was.output now.output told → IsServed Works salt was now doors doors_now (serve_status stopped ending told)
   served opening origin worked counts closed line = record {
     start = desk.start;
@@ -368,7 +382,6 @@ module _ {R : Type 0} (Works : Open → Worker R → Type 0) (count : R → ℕ)
     laws = lawful desk.start h opening.consistent closed.legal;
     desk = desk;
     begins = refl;
-    origin = origin;
     many = worked.many;
     passes = passes;
     passes_now = passes_now;
@@ -385,19 +398,23 @@ module _ {R : Type 0} (Works : Open → Worker R → Type 0) (count : R → ℕ)
     says = ap (λ (b : Bool). serve_status b ending told) closed.says;
     running = λ none. none_stops (fresh_log desk.start) h (sym closed.says ∙ goes_elsewhere stopped ending told (λ five. absurd (omega (arith, none, five))));
     ready = ready;
+    origin = origin;
     opens = opening.opens;
     holds = opening.holds;
+    unfailed = opening.quiet;
+    as_honest = opening.honesty;
+    follows = λ honest. closed.follows (stays_honest honest);
     kept = λ honest other. closed.recovers (stays_honest honest) (goes_elsewhere stopped ending told other);
     durable = λ honest other. closed.durable (stays_honest honest) (goes_elsewhere stopped ending told other);
     left = λ honest. closed.left (stays_honest honest);
   }
     where
       stays_honest : AreHonest was.disks → AreHonest now.disks
-      stays_honest honest = (subst IsTrue (sym closed.honest_a) honest.0, subst IsTrue (sym closed.honest_b) honest.1)
+      stays_honest honest = still_honest ready now.disks closed.honesty (still_honest was.disks ready opening.honesty honest)
 
-  free_serving : Tells (Works desk) count → IsWorked Works h desk passes passes_now doors doors_now ending → IsClosed salt desk.start h (origin_of was.disks) now.disks stopped
+  free_serving : Tells (Works desk) count → AreQuiet was.disks ready → IsWorked Works h desk passes passes_now doors doors_now ending → IsClosed salt desk.start h ready now.disks stopped
       → IsLineTold (report_line report) was.output now.output told → IsFreeServing count salt was now doors doors_now → (serve_status stopped ending told ≡ 0) ⊎ (serve_status stopped ending told ≡ 7)
-  free_serving tells worked closed line free = by_end stopped ending told refl refl refl
+  free_serving tells quiet worked closed line free = by_end stopped ending told refl refl refl
     where
       by_told : IsToldStatus told → (told ≡ 0) ⊎ (told ≡ 7)
       by_told (inl none) = inl none
@@ -405,13 +422,13 @@ module _ {R : Type 0} (Works : Open → Worker R → Type 0) (count : R → ℕ)
       by_told (inr (inr seven)) = inr seven
 
       by_end : (s : Bool) (e : ServeEnding) (t : ℕ) → stopped ≡ s → ending ≡ e → told ≡ t → (serve_status s e t ≡ 0) ⊎ (serve_status s e t ≡ 7)
-      by_end true e t is same so = absurd (free.disk_quiet (closed.cause is))
+      by_end true e t is same so = absurd (free.disk_quiet (risen_since was.disks ready now.disks quiet (closed.cause is)))
       by_end false DoorFault t is same so = absurd (free.door_quiet (door_risen (Works desk) count passes passes_now doors doors_now ending tells worked.serves same))
       by_end false OutOfMemory t is same so = inr refl
       by_end false Done t is same so = subst (λ (n : ℕ). (n ≡ 0) ⊎ (n ≡ 7)) so (by_told (told_status _ _ _ _ told line.is))
 
-  pub served_call : Tells (Works desk) count → IsOpened Safe salt was.disks ready desk.start → desk.origin ≡ origin_of was.disks → IsWorked Works h desk passes passes_now doors doors_now ending
-      → IsReport desk.start h report → IsClosed salt desk.start h (origin_of was.disks) now.disks stopped → IsLineTold (report_line report) was.output now.output told → now.input ≡ was.input → IsServeCall Works count salt was now doors doors_now (serve_status stopped ending told)
+  pub served_call : Tells (Works desk) count → IsOpened Safe salt was.disks ready desk.start → desk.origin ≡ origin_of ready → IsWorked Works h desk passes passes_now doors doors_now ending
+      → IsReport desk.start h report → IsClosed salt desk.start h ready now.disks stopped → IsLineTold (report_line report) was.output now.output told → now.input ≡ was.input → IsServeCall Works count salt was now doors doors_now (serve_status stopped ending told)
   served_call tells opening origin worked counts closed line unread =
       let known = told_status _ _ _ _ told line.is in
       record {
@@ -419,13 +436,14 @@ module _ {R : Type 0} (Works : Open → Worker R → Type 0) (count : R → ℕ)
         known = serve_known stopped ending told known;
         write_fault = λ four. told_fault _ _ _ _ told line.is (told_at stopped ending told 4 four (omega arith));
         write_quiet = λ none. told_quiet _ _ _ _ told false line.is (told_at stopped ending told 0 none (omega arith));
-        disk_fault = λ five. closed.cause (stopped_at_five stopped ending told known five);
+        disk_fault = λ five. risen_since was.disks ready now.disks opening.quiet (closed.cause (stopped_at_five stopped ending told known five));
+        disk_quiet = λ other. quiet_on was.disks ready now.disks opening.quiet (closed.quiet (goes_elsewhere stopped ending told other));
         broken = λ six. absurd (never_six stopped ending told known six);
         door_quiet = λ other last. doors_quiet (Works desk) count passes passes_now doors doors_now ending tells worked.serves (no_door_else stopped ending told other last);
         door_fault = λ eight. door_risen (Works desk) count passes passes_now doors doors_now ending tells worked.serves (door_at_eight stopped ending told known eight);
-        complete = λ honest free. free_serving tells worked closed line free;
+        complete = λ honest free. free_serving tells opening.quiet worked closed line free;
         unread = unread;
-        honesty = (closed.honest_a, closed.honest_b);
+        honesty = honest_on was.disks ready now.disks opening.honesty closed.honesty;
       }
 
 -- ---- words that couldn't be read

@@ -10,7 +10,7 @@ use Rattle.sb_machine.specs.declared.state.State.{State}
 use Rattle.sb_journal.specs.Disks.{Disks, AreHonest, KeepFound, AreQuiet, SameHonesty}
 use Rattle.sb_node.specs.Nodes.{IsDurable, IsOneOf}
 use Rattle.sb_node.specs.Recovery.{Recovers, recovered_on}
-use Rattle.sb_node.specs.Serving.{HasRisen, origin_of, states_left}
+use Rattle.sb_node.specs.Serving.{origin_of, states_left, FollowHistory, HasDiskRisen}
 use Rattle.sb_desk.specs.Desks.{IsKeptIn, IsNew, Open, Sitting, below}
 use Rattle.sb_desk.specs.Entries.{IsReport}
 use Rattle.sb_desk.specs.Lists.{Each, HaveSeatsBelow}
@@ -63,10 +63,6 @@ HasDoorRisen count [] doors_now = ⊥
 HasDoorRisen count (d ∷ ds) [] = ⊥
 HasDoorRisen count (d ∷ ds) (e ∷ es) = Rose (count d) (count e) ⊎ HasDoorRisen count ds es
 
--- that of one of these disks did
-abbrev pub HasDiskRisen : (was now : Disks) → Type 0
-HasDiskRisen was now = HasRisen (origin_of was) now
-
 -- ---- the call
 
 -- The doors were served over one history, from the state that the disks stood for, a consistent one: each door by a worker with a pass
@@ -82,7 +78,6 @@ pub record IsServed {R : Type 0} (Works : Open → Worker R → Type 0) (salt : 
   pub laws : HasLaws start history
   pub desk : Open
   pub begins : desk.start ≡ start
-  pub origin : desk.origin ≡ origin_of was.disks
   pub many : desk.passes ≡ passes_for (length doors)
   pub passes : List Sitting
   pub passes_now : List Sitting
@@ -99,10 +94,16 @@ pub record IsServed {R : Type 0} (Works : Open → Worker R → Type 0) (salt : 
   pub says : status ≡ serve_status (has_stopped start history) ending told
   -- at 0 no answer of it is that of a failed disk
   pub running : status ≡ 0 → NoneStops history
-  -- what stood there when the journal was open; a crash before that leaves what was found
+  -- What stood there when the journal was open, which leads to the first state; a crash before that leaves what was found. No call of a
+  -- disk had failed.
   pub ready : Disks
+  pub origin : desk.origin ≡ origin_of ready
   pub opens : AreHonest was.disks → KeepFound salt was.disks ready
   pub holds : AreHonest was.disks → IsDurable ready start
+  pub unfailed : AreQuiet was.disks ready
+  pub as_honest : SameHonesty was.disks ready
+  -- a crash at any moment since leads to the state after a front of the history, which has all that was answered by then
+  pub follows : AreHonest was.disks → FollowHistory start history ready now.disks
   -- unless a disk failed, the disks stand for the state behind the history, also after a crash
   pub kept : AreHonest was.disks → status ≢ 5 → Recovers (recovered_on now.disks salt) (state_after start history)
   pub durable : AreHonest was.disks → status ≢ 5 → IsDurable now.disks (state_after start history)
@@ -145,6 +146,7 @@ pub record IsServeCall {R : Type 0} (Works : Open → Worker R → Type 0) (coun
   pub write_fault : status ≡ 4 → RoseByOne was.output.faults now.output.faults
   pub write_quiet : status ≡ 0 → now.output.faults ≡ was.output.faults
   pub disk_fault : status ≡ 5 → HasDiskRisen was.disks now.disks
+  pub disk_quiet : status ≢ 5 → AreQuiet was.disks now.disks
   pub broken : status ≡ 6 → IsRefused salt was now
   pub door_fault : status ≡ 8 → HasDoorRisen count doors doors_now
   pub door_quiet : status ≢ 5 → status ≢ 8 → map count doors_now ≡ map count doors

@@ -3,7 +3,7 @@ ghost use Rattle.std.specs.Prelude.{◌≡◌, ◌≢◌, ◌⊎◌, [], None, I
 ghost use Rattle.std.specs.Result.{MatchResult};
 ghost use Rattle.sb_journal.specs.Disks.{disks_of};
 ghost use Rattle.sb_node.specs.Nodes.{node_state, node_stopped, node_disk_b, node_disks, IsKept};
-ghost use Rattle.sb_node.specs.Serving.{node_origin, origin_of, StandsFor};
+ghost use Rattle.sb_node.specs.Serving.{opened_disks, StandsFor};
 ghost use Rattle.sb_bus.specs.Outside.{output_of};
 ghost use Rattle.sb_bus.specs.Openings.{IsOpened, HasFailed};
 ghost use Rattle.sb_bus.specs.Tops.{IsDamageReported, letter_of};
@@ -28,7 +28,7 @@ pub fn open_node<D: Disk, K: Sink>(
     ensures opened { IfOk result (λ n. IsOpened (IsKept n) salt (disks_of D.Disk disk_a disk_b) (node_disks n) (node_state n)) }
     ensures running { IfOk result (λ n. node_stopped n ≡ None) }
     ensures stands { IfOk result (λ n. StandsFor n (node_state n) []) }
-    ensures origin { IfOk result (λ n. node_origin n ≡ origin_of (disks_of D.Disk disk_a disk_b)) }
+    ensures origin { IfOk result (λ n. opened_disks n ≡ node_disks n) }
     ensures unsaid { IfOk result (λ _. output.new ≡ output.old) }
     ensures failed { IfErr result (λ e. HasFailed salt (disks_of D.Disk disk_a disk_b) (disks_of D.Disk e.1 e.2) (output_of K.Sink output.old) (output_of K.Sink output.new) e.0) }
     ensures disk_b { MatchResult result (λ n. node_disk_b n ≡ disk_b) (λ e. e.2 ≡ disk_b) }

@@ -5,6 +5,7 @@ use Rattle.atomic_table.specs.Seated.{TableId}
 use Rattle.sb_machine.specs.Namespace.{empty_state}
 use Rattle.sb_machine.specs.declared.history.Entry.{Entry}
 use Rattle.sb_machine.specs.declared.state.State.{State}
+use Rattle.sb_desk.specs.declared.report.DiskOrigin.{DiskOrigin}
 use Rattle.sb_desk.specs.declared.report.Origin.{Origin}
 use Rattle.sb_desk.specs.declared.view.Made.{Made}
 use Rattle.sb_desk.specs.declared.view.View.{View}
@@ -76,8 +77,11 @@ less_one v = record v { parts = v.parts - 1; spare = v.spare - 1 }
 abbrev pub one_more : View → View
 one_more v = record { seat = v.seat + v.spare; spare = 0; passes = v.passes; start = v.start; origin = v.origin; seen = v.seen; parts = 1; stage = Idle; one = []; other = []; claims = [] }
 
+abbrev no_disk : DiskOrigin
+no_disk = record { faults = 0; honest = false; held = record { seen = []; synced = []; ranges = []; least = 0; greatest = 0 }; past = [] }
+
 abbrev pub spent_view : View
-spent_view = record { seat = 0; spare = 0; passes = 0; start = empty_state 0; origin = record { disk_a = record { faults = 0; honest = false }; disk_b = record { faults = 0; honest = false } }; seen = []; parts = 0; stage = Spent; one = []; other = []; claims = [] }
+spent_view = record { seat = 0; spare = 0; passes = 0; start = empty_state 0; origin = record { disk_a = no_disk; disk_b = no_disk }; seen = []; parts = 0; stage = Spent; one = []; other = []; claims = [] }
 
 -- the seat has the longer one of two lists
 abbrev pub told : View → View → View

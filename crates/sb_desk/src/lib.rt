@@ -32,5 +32,5 @@ mod view;
 
 pub use desk::{CloseFault, Desk, NewFault};
 pub use pass::Pass;
-pub use report::{DiskOrigin, Origin, Report};
+pub use report::{DiskMoment, DiskOrigin, Origin, Report};
 pub use served::{Served, Stepped};

@@ -1,5 +1,5 @@
 -- A namespace in which one queue is made, and the histories that it stands for.
-use Rattle.std.specs.Prelude.{◌≡◌, ◌++◌, ℕ, codes, List, [], ◌∷◌, Option, Some, None, Result}
+use Rattle.std.specs.Prelude.{◌≡◌, ◌++◌, ℕ, false, codes, List, [], ◌∷◌, Option, Some, None, Result}
 use Rattle.sb_machine.specs.Answers.{state_of}
 use Rattle.sb_machine.specs.Consistent.{IsConsistent}
 use Rattle.sb_machine.specs.History.{fresh_log, after_entries, IsLegal}
@@ -12,6 +12,7 @@ use Rattle.sb_machine.specs.declared.reply.Answered.{Answered}
 use Rattle.sb_machine.specs.declared.reply.Refusal.{Refusal}
 use Rattle.sb_machine.specs.declared.state.State.{State}
 use Rattle.sb_desk.specs.Entries.{IsReport}
+use Rattle.sb_desk.specs.declared.report.DiskOrigin.{DiskOrigin}
 use Rattle.sb_desk.specs.declared.report.Report.{Report}
 
 -- the one call that is carried out
@@ -22,6 +23,10 @@ creation = record { by = None; act = CreateQueue (codes "q") default_description
 abbrev pub state_at : Option ℕ → State
 state_at None = empty_state 0
 state_at (Some t) = state_of (empty_state 0) t creation
+
+-- it has no disks
+abbrev pub no_disk : DiskOrigin
+no_disk = record { faults = 0; honest = false; held = record { seen = []; synced = []; ranges = []; least = 0; greatest = 0 }; past = [] }
 
 pub record StandsFor (made : Option ℕ) (numbers : Report) (from : State) (h : List Entry) : Type 0 where
   pub consistent : IsConsistent from

@@ -1,7 +1,7 @@
-ghost use Rattle.std.specs.Prelude.{◌≡◌, ◌+◌, true, false, [], Err};
+ghost use Rattle.std.specs.Prelude.{◌≡◌, ◌+◌, true, [], Err};
 ghost use Rattle.sb_machine.specs.Namespace.{default_description};
 ghost use Rattle.sb_desk.specs.Entries.{counted};
-ghost use Rattle.sb_desktests.specs.Namespaces.{creation, state_at, StandsFor, GoesOn};
+ghost use Rattle.sb_desktests.specs.Namespaces.{creation, no_disk, state_at, StandsFor, GoesOn};
 
 use sb_desk::{Report, Served, Stepped};
 use sb_machine::{Act, Answer, Answered, Call, Description, Refusal, Reply};
@@ -64,7 +64,7 @@ impl Served for OneQueue {
 
     ghost stands = { λ q from h. StandsFor q.made q.numbers from h };
 
-    ghost origin = { λ q. record { disk_a = record { faults = 0; honest = false }; disk_b = record { faults = 0; honest = false } } };
+    ghost origin = { λ q. record { disk_a = no_disk; disk_b = no_disk } };
 
     fn step(&mut self, reading: u64, call: &Call) -> Stepped {
         Stepped {

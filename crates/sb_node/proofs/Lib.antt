@@ -12,5 +12,6 @@ pub mod Numbers
 pub mod Merely
 pub mod Counts
 pub mod Undecided
+pub mod Following
 pub mod Standing
 pub mod Crossing

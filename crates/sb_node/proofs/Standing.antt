@@ -1,13 +1,14 @@
 -- A node stands for a history, and after a step for that with the step's entries.
-use Rattle.std.proofs.Common.{◌≡◌, ◌≢◌, inl, inr, ℕ, ◌≤◌, List, [], ◌∷◌, ◌++◌, Bool, true, false, true≢false, Option, Some, None, Result, Ok, Err, refl, sym, ap, ◌∙◌, subst, arith}
+use Rattle.std.proofs.Common.{◌≡◌, ◌≢◌, inl, inr, ℕ, List, [], ◌∷◌, ◌++◌, map, Bool, true, false, true≢false, Option, Some, None, Result, Ok, Err, refl, sym, ap, ◌∙◌, subst, arith}
 use Rattle.std.specs.Prelude.{if◌then◌else◌, is_some, IfErr}
 use Rattle.sb_desk.specs.Entries.{made_by}
+use Rattle.sb_desk.specs.declared.report.DiskMoment.{DiskMoment}
 use Rattle.sb_desk.specs.declared.report.DiskOrigin.{DiskOrigin}
 use Rattle.sb_desk.specs.declared.report.Origin.{Origin}
 use Rattle.sb_journal.specs.Disks.{disks_of, Disks, OneDisk, AreHonest, AreQuiet, NoneFell, OneFault, SameHonesty}
 use Rattle.sb_journal.specs.Journals.{journal_disks}
 use Rattle.sb_journal.specs.declared.journal.Journal.{Journal}
-use Rattle.sb_journal.proofs.Pairs.{still_honest}
+use Rattle.sb_journal.proofs.Pairs.{started_pair, still_honest}
 use Rattle.sb_laws.proofs.Histories.{goes_on}
 use Rattle.sb_machine.specs.Consistent.{IsConsistent}
 use Rattle.sb_machine.specs.Events.{after_event, event_at, is_disk_fault, undecided}
@@ -20,12 +21,15 @@ use Rattle.sb_machine.specs.declared.reply.Answered.{Answered}
 use Rattle.sb_machine.specs.declared.reply.Refusal.{Refusal}
 use Rattle.sb_machine.specs.declared.reply.Refusal.TheVariants.{DiskFault, Stopped}
 use Rattle.sb_machine.specs.declared.state.State.{State}
+use Rattle.sb_outside.specs.Held.{Held}
 use Rattle.sb_outside.specs.declared.disk.Disk.{Ghosts}
 use Rattle.sb_node.specs.declared.node.Node.{Node}
-use Rattle.sb_node.specs.Nodes.{node_disk_a, node_disk_b, node_disks, node_journal, node_log, node_state, node_stopped, node_ticked, IsDurable, IsKept, IsOneOf}
-use Rattle.sb_node.specs.Serving.{node_origin, node_report, opened_disks, origin_of, states_left, states_with, with_entries, HasRisen, IsSince, StandsFor}
+use Rattle.sb_node.specs.Nodes.{node_disk_a, node_disk_b, node_disks, node_journal, node_log, node_state, node_stopped, node_ticked, IsDurable, IsKept, IsOneOf, LeadsToOneOf, StayOneOf}
+use Rattle.sb_node.specs.Serving.{disk_moment, disk_origin, node_report, opened_disks, origin_of, states_left, states_with, with_entries, FollowEntries, FollowHistory, HasDiskRisen, StandsFor}
 use Rattle.sb_node.specs.Steps.{entries_with, log_of, IsStep}
 use Rattle.sb_node.proofs.Counts.{after_on, numbers_on}
+use Rattle.sb_node.proofs.Following.{follows_on}
+use Rattle.sb_node.proofs.Whole.{fell_on, honest_on, quiet_on}
 
 -- the entries of a step, in the desk's words
 pub made_is : (tick : Option ℕ) (seat reading : ℕ) (call : Call) (answer : Result Answered Refusal) → entries_with tick seat reading call answer ≡ made_by seat tick reading call answer
@@ -119,18 +123,15 @@ no_tick : (tick : Option ℕ) (s : State) (n seat reading : ℕ) (call : Call) (
 no_tick None s n seat reading call answer legal = refl
 no_tick (Some t) s n seat reading call answer legal = absurd (true≢false legal.0.0)
 
--- ---- counts and honesty since it was opened
+-- ---- counts since it was opened
 
-since_on : (origin later : DiskOrigin) (was now : OneDisk) → later ≡ origin → now.honest ≡ was.honest → was.faults ≤ now.faults → IsSince origin was → IsSince later now
-since_on origin later was now same honest more is = subst (λ (o : DiskOrigin). IsSince o now) (sym same) (honest ∙ is.0, omega (arith, more, is.1))
+risen_on : (was mid later : Disks) → NoneFell mid later → HasDiskRisen was mid → HasDiskRisen was later
+risen_on was mid later more (inl rose) = inl (omega (arith, more.0, rose))
+risen_on was mid later more (inr rose) = inr (omega (arith, more.1, rose))
 
-risen_on : (origin : Origin) (was now : Disks) → NoneFell was now → HasRisen origin was → HasRisen origin now
-risen_on origin was now more (inl rose) = inl (omega (arith, more.0, rose))
-risen_on origin was now more (inr rose) = inr (omega (arith, more.1, rose))
-
-rises : (origin : Origin) (was now : Disks) (n : ℕ) → IsSince origin.disk_a was.a → IsSince origin.disk_b was.b → OneFault was now n → HasRisen origin now
-rises origin was now n a b (inl fault) = inl (omega (arith, a.1, fault.1))
-rises origin was now n a b (inr fault) = inr (omega (arith, b.1, fault.1))
+rises : (was mid later : Disks) (n : ℕ) → NoneFell was mid → OneFault mid later n → HasDiskRisen was later
+rises was mid later n none (inl fault) = inl (omega (arith, none.0, fault.1))
+rises was mid later n none (inr fault) = inr (omega (arith, none.1, fault.1))
 
 -- ---- a step
 
@@ -147,6 +148,8 @@ pub record Goes {D : Type 0} {B : Ghosts D} (old new : Node D B) (seat reading :
   pub kept : IsKept old → node_stopped new ≡ None → IsKept new
   pub untouched : IfErr answer (λ e. e ≢ DiskFault → node_ticked new ≡ None → node_journal new ≡ node_journal old)
   pub durable : IsKept old → node_stopped new ≡ None → IsDurable (node_disks new) (node_state new)
+  pub follows : IsKept old → FollowEntries [] (node_log old) (entries_with (node_ticked new) seat reading call answer) (node_disks old) (node_disks new)
+  pub quiet : answer ≢ Err DiskFault → AreQuiet (node_disks old) (node_disks new)
   pub undecided_now : IsKept old → answer ≡ Err DiskFault → IsOneOf (node_disks new) (node_state new ∷ after_event (node_state new) (event_at (node_state new) reading call) ∷ [])
 
 -- it ran before a step, where it runs behind it
@@ -245,14 +248,66 @@ module _ {D : Type 0} {B : Ghosts D} (old new : Node D B) (seat reading : ℕ) (
   leaves (Some m) None has was = leaves_failed (ap is_some has) was
   leaves (Some m) (Some n) has was = leaves_stopped n was
 
+-- ---- its moments
+
+-- a step of one that has stopped with no failed disk in its history
+stopped_moments : (disks : Disks) (s : State) (seat reading n : ℕ) (call : Call) (l : Log) → l.state ≡ s → IsOneOf disks (s ∷ []) → FollowEntries [] l (Replied seat reading call (Err (Stopped n)) ∷ []) disks disks
+stopped_moments disks s seat reading n call l same one =
+    (disks, subst (λ (x : State). StayOneOf disks disks (x ∷ x ∷ [])) (sym same) (started_pair disks (LeadsToOneOf (s ∷ s ∷ [])) (λ x y on_x on_y. first x y (one x y on_x on_y))), refl)
+  where
+    first : (x y : List ℕ) → LeadsToOneOf (s ∷ []) x y → LeadsToOneOf (s ∷ s ∷ []) x y
+    first x y (inl is) = inl is
+    first x y (inr none) = absurd none
+
+-- what a crash leads to at each moment since it was opened
+module _ {D : Type 0} {B : Ghosts D} (old new : Node D B) (seat reading : ℕ) (call : Call) (answer : Result Answered Refusal) (start : State) (h : List Entry) (go : Goes old new seat reading call answer) (is : StandsFor old start h) (honest : AreHonest (node_disks new)) where
+  abbrev made : List Entry
+  made = entries_with (node_ticked new) seat reading call answer
+
+  honest_then : AreHonest (node_disks old)
+  honest_then = still_honest (node_disks new) (node_disks old) (sym go.honesty.0, sym go.honesty.1) honest
+
+  no_tick_left : (after_entries (fresh_log start) h).tick ≡ None
+  no_tick_left = ap (λ (l : Log). l.tick) (sym is.leads)
+
+  joined : (undecided (fresh_log start) h ≡ None → FollowEntries [] (after_entries (fresh_log start) h) made (node_disks old) (node_disks new)) → ((e : Event) → undecided (fresh_log start) h ≡ Some e → node_disks new ≡ node_disks old) → FollowHistory start (h ++ made) (opened_disks new) (node_disks new)
+  joined goes stays =
+      subst (λ (d : Disks). FollowHistory start (h ++ made) d (node_disks new)) (sym go.origin)
+      (follows_on [] (fresh_log start) h made (opened_disks old) (node_disks old) (node_disks new) (λ none. refl) no_tick_left goes stays (is.follows honest_then))
+
+  moments_running : node_stopped old ≡ None → FollowHistory start (h ++ made) (opened_disks new) (node_disks new)
+  moments_running runs = joined
+      (λ none. subst (λ (l : Log). FollowEntries [] l made (node_disks old) (node_disks new)) is.leads (go.follows (is.kept honest_then runs)))
+      (λ e is_e. absurd (true≢false (sym (undecided_stops (fresh_log start) h e is_e) ∙ ap (λ (l : Log). l.stopped) (sym is.leads) ∙ ap is_some runs)))
+
+  moments_stopped : (n : ℕ) → node_stopped old ≡ Some n → FollowHistory start (h ++ made) (opened_disks new) (node_disks new)
+  moments_stopped n was = joined
+      (λ none. subst (λ (es : List Entry). FollowEntries [] (after_entries (fresh_log start) h) es (node_disks old) (node_disks new)) (sym (one_entry old new seat reading call answer go n was))
+      (subst (λ (d : Disks). FollowEntries [] (after_entries (fresh_log start) h) (Replied seat reading call (Err (Stopped n)) ∷ []) (node_disks old) d) (sym (same_disks old new seat reading call answer go n was))
+      (stopped_moments (node_disks old) (state_after start h) seat reading n call (after_entries (fresh_log start) h) refl
+      (subst (λ (o : Option Event). IsOneOf (node_disks old) (states_with (state_after start h) o)) none (is.left honest_then)))))
+      (λ e is_e. same_disks old new seat reading call answer go n was)
+
+  moments : (before : Option ℕ) → node_stopped old ≡ before → FollowHistory start (h ++ made) (opened_disks new) (node_disks new)
+  moments None was = moments_running was
+  moments (Some n) was = moments_stopped n was
+
+-- no count rose, if it runs
+stays_quiet : {D : Type 0} {B : Ghosts D} (old new : Node D B) (seat reading : ℕ) (call : Call) (answer : Result Answered Refusal) (start : State) (h : List Entry) → Goes old new seat reading call answer → StandsFor old start h
+    → node_stopped new ≡ None → AreQuiet (opened_disks new) (node_disks new)
+stays_quiet old new seat reading call answer start h go is runs =
+    subst (λ (d : Disks). AreQuiet d (node_disks new)) (sym go.origin)
+    (quiet_on (opened_disks old) (node_disks old) (node_disks new) (is.quiet (ran old new seat reading call answer go runs))
+    (go.quiet (λ failed. let fault = go.failed failed in let never : Some fault.0 ≡ None = sym fault.1 ∙ runs in absurd cc)))
+
 -- a count rose, if it has stopped
 causes : {D : Type 0} {B : Ghosts D} (old new : Node D B) (seat reading : ℕ) (call : Call) (answer : Result Answered Refusal) (start : State) (h : List Entry) → Goes old new seat reading call answer → StandsFor old start h
-    → (before : Option ℕ) → node_stopped old ≡ before → is_some (node_stopped new) ≡ true → HasRisen (node_origin new) (node_disks new)
+    → (before : Option ℕ) → node_stopped old ≡ before → is_some (node_stopped new) ≡ true → HasDiskRisen (opened_disks new) (node_disks new)
 causes old new seat reading call answer start h go is None was has =
     let fault = go.failed (has_failed old new seat reading call answer go has was) in
-    subst (λ (o : Origin). HasRisen o (node_disks new)) (ap origin_of (sym go.origin)) (rises (node_origin old) (node_disks old) (node_disks new) fault.0 is.since_a is.since_b fault.2)
+    subst (λ (d : Disks). HasDiskRisen d (node_disks new)) (sym go.origin) (rises (opened_disks old) (node_disks old) (node_disks new) fault.0 is.later fault.2)
 causes old new seat reading call answer start h go is (Some n) was has =
-    subst (λ (o : Origin). HasRisen o (node_disks new)) (ap origin_of (sym go.origin)) (risen_on (node_origin old) (node_disks old) (node_disks new) go.later (is.cause (ap is_some was)))
+    subst (λ (d : Disks). HasDiskRisen d (node_disks new)) (sym go.origin) (risen_on (opened_disks old) (node_disks old) (node_disks new) go.later (is.cause (ap is_some was)))
 
 stands_on : {D : Type 0} {B : Ghosts D} (old new : Node D B) (seat reading : ℕ) (call : Call) (answer : Result Answered Refusal) (start : State) (h : List Entry) → Goes old new seat reading call answer → StandsFor old start h
     → StandsFor new start (h ++ entries_with (node_ticked new) seat reading call answer)
@@ -261,10 +316,13 @@ stands_on old new seat reading call answer start h go is = record {
   legal = goes_on (fresh_log start) h (entries_with (node_ticked new) seat reading call answer) is.legal (subst (λ (l : Log). IsLegalFrom l (entries_with (node_ticked new) seat reading call answer)) is.leads go.step.legal);
   leads = leads_on old new start h (entries_with (node_ticked new) seat reading call answer) go.step.leads is.leads;
   numbers = numbers_on start h (entries_with (node_ticked new) seat reading call answer) (node_log old) (node_report old) (node_report new) is.leads is.numbers go.numbers;
-  since_a = since_on (node_origin old).disk_a (node_origin new).disk_a (node_disks old).a (node_disks new).a (ap (λ (d : Disks). (origin_of d).disk_a) go.origin) go.honesty.0 go.later.0 is.since_a;
-  since_b = since_on (node_origin old).disk_b (node_origin new).disk_b (node_disks old).b (node_disks new).b (ap (λ (d : Disks). (origin_of d).disk_b) go.origin) go.honesty.1 go.later.1 is.since_b;
+  honesty = subst (λ (d : Disks). SameHonesty d (node_disks new)) (sym go.origin) (honest_on (opened_disks old) (node_disks old) (node_disks new) is.honesty go.honesty);
+  later = subst (λ (d : Disks). NoneFell d (node_disks new)) (sym go.origin) (fell_on (opened_disks old) (node_disks old) (node_disks new) is.later go.later);
   cause = causes old new seat reading call answer start h go is (node_stopped old) refl;
   kept = λ honest runs. go.kept (is.kept (still_honest (node_disks new) (node_disks old) (sym go.honesty.0, sym go.honesty.1) honest) (ran old new seat reading call answer go runs)) runs;
+  quiet = stays_quiet old new seat reading call answer start h go is;
+  began = λ honest. subst (λ (d : Disks). IsDurable d start) (sym go.origin) (is.began (still_honest (node_disks new) (node_disks old) (sym go.honesty.0, sym go.honesty.1) honest));
+  follows = λ honest. moments old new seat reading call answer start h go is honest (node_stopped old) refl;
   left = λ honest. leaves old new seat reading call answer start h go is honest (node_stopped new) (node_stopped old) refl refl;
 }
 
@@ -280,11 +338,26 @@ stands_with old new seat reading call answer start h tick told go is =
 pub were_honest_first : (was mid later : Disks) → SameHonesty was mid → SameHonesty mid later → AreHonest later → AreHonest was
 were_honest_first was mid later first second honest = still_honest later was (sym (second.0 ∙ first.0), sym (second.1 ∙ first.1)) honest
 
-pub same_origin : (was mid later : Disks) → AreQuiet was mid → AreQuiet mid later → SameHonesty was mid → SameHonesty mid later → origin_of later ≡ origin_of was
-same_origin was mid later quiet quieter first second = λ i. record {
-  disk_a = record { faults = (quieter.0 ∙ quiet.0) i; honest = (second.0 ∙ first.0) i };
-  disk_b = record { faults = (quieter.1 ∙ quiet.1) i; honest = (second.1 ∙ first.1) i };
-}
+-- ---- disks of one origin are the same
+
+abbrev held_of : DiskMoment → Held
+held_of m = record { seen = m.seen; synced = m.synced; ranges = m.ranges; least = m.least; greatest = m.greatest }
+
+past_of : (past : List Held) → map held_of (map disk_moment past) ≡ past
+past_of [] = refl
+past_of (h ∷ hs) = ap (λ (l : List Held). h ∷ l) (past_of hs)
+
+abbrev disk_of_origin : DiskOrigin → OneDisk
+disk_of_origin o = record { honest = o.honest; held = held_of o.held; past = map held_of o.past; faults = o.faults }
+
+disk_there : (disk : OneDisk) → disk_of_origin (disk_origin disk) ≡ disk
+disk_there disk = ap (λ (past : List Held). record { honest = disk.honest; held = disk.held; past = past; faults = disk.faults }) (past_of disk.past)
+
+pub same_found : (was now : Disks) → origin_of now ≡ origin_of was → now ≡ was
+same_found was now same =
+    let a : now.a ≡ was.a = sym (disk_there now.a) ∙ ap (λ (o : Origin). disk_of_origin o.disk_a) same ∙ disk_there was.a in
+    let b : now.b ≡ was.b = sym (disk_there now.b) ∙ ap (λ (o : Origin). disk_of_origin o.disk_b) same ∙ disk_there was.b in
+    λ i. record { a = a i; b = b i }
 
 pub begins : {D : Type 0} {B : Ghosts D} (n : Node D B) → IsConsistent (node_state n) → node_stopped n ≡ None → (node_report n).entries ≡ 0 → (node_report n).changing ≡ 0 → (node_report n).refused ≡ 0
     → opened_disks n ≡ node_disks n → (AreHonest (node_disks n) → IsKept n) → (AreHonest (node_disks n) → IsDurable (node_disks n) (node_state n)) → StandsFor n (node_state n) []
@@ -293,10 +366,13 @@ begins n consistent runs entries changed refused opened kept durable = record {
   legal = refl;
   leads = ap (log_of (node_state n)) runs;
   numbers = record { entries = entries; changing = changed; refused = refused };
-  since_a = let same = ap (λ (d : Disks). d.a.faults) opened in (ap (λ (d : Disks). d.a.honest) (sym opened), omega (arith, same));
-  since_b = let same = ap (λ (d : Disks). d.b.faults) opened in (ap (λ (d : Disks). d.b.honest) (sym opened), omega (arith, same));
+  honesty = (ap (λ (d : Disks). d.a.honest) (sym opened), ap (λ (d : Disks). d.b.honest) (sym opened));
+  later = let same_a = ap (λ (d : Disks). d.a.faults) opened in let same_b = ap (λ (d : Disks). d.b.faults) opened in (omega (arith, same_a), omega (arith, same_b));
   cause = λ has. absurd (true≢false (sym has ∙ ap is_some runs));
   kept = λ honest still. kept honest;
+  quiet = λ still. (ap (λ (d : Disks). d.a.faults) (sym opened), ap (λ (d : Disks). d.b.faults) (sym opened));
+  began = λ honest. subst (λ (d : Disks). IsDurable d (node_state n)) (sym opened) (durable honest);
+  follows = λ honest. sym opened;
   left = λ honest. first_left (node_disks n) (node_state n) None (durable honest);
 }
 

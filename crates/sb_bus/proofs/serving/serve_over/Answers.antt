@@ -4,6 +4,8 @@ use Rattle.std.proofs.Common.{ap, refl, subst, sym, ◌∙◌}
 use Rattle.std.specs.Prelude.{is_some}
 use Rattle.sb_journal.specs.Disks.{disks_of}
 use Rattle.sb_node.specs.Nodes.{node_disk_a, node_disk_b, node_disks, node_state, node_stopped, IsKept}
+use Rattle.sb_node.specs.Serving.{opened_disks, origin_of}
+use Rattle.sb_node.proofs.Standing.{same_found}
 use Rattle.sb_desk.specs.Desks.{Open, below}
 use Rattle.sb_server.specs.Serves.{Worker, Working}
 use Rattle.sb_server.specs.Works.{ServesBy}
@@ -61,9 +63,10 @@ returns g c input =
     let told = c.tell_report-told.result in
     let output = c.tell_report-told.new.output in
     let now : Outside = record { input = input; output = output_of g.K.Sink output; disks = node_disks last } in
-    let from_here = new.desk.1 ∙ opened.origin in
+    let from_here = same_found (opened_disks first) (opened_disks last) (ok.2 ∙ new.desk.1) ∙ opened.origin in
     let opening = subst (IsOpened (IsKept first) c.args.salt was.disks (node_disks first)) (sym new.desk.0) opened.opened in
-    let closed = subst (λ o. IsClosed c.args.salt desk.start ok.0 o (node_disks last) stopped) (ok.2 ∙ from_here) (closed_node last c.args.salt desk.start ok.0 ok.1) in
+    let closed = subst (λ d. IsClosed c.args.salt desk.start ok.0 d (node_disks last) stopped) from_here (closed_node last c.args.salt desk.start ok.0 ok.1) in
+    let origin = new.desk.1 ∙ ap origin_of opened.origin in
     let worked : IsWorked works ok.0 desk passes passes_now doors doors_now ending =
     record {
       many = new.desk.2 ∙ c.at_least_one.ensures ∙ ap passes_for (c.len.ensures ∙ c.args.doors.now.ok.0);
@@ -75,7 +78,7 @@ returns g c input =
     }
     in
     let line = subst (λ o. IsLineTold (report_line report) (output_of g.K.Sink o) (output_of g.K.Sink output) told) opened.unsaid c.tell_report-told.ensures in
-    let over = served_call works g.R.Door.count (IsKept first) c.args.salt was now (node_disks first) doors doors_now ok.0 desk passes passes_now ending report stopped told (λ w does. does.stops.faults) opening from_here worked ok.3 closed line refl in
+    let over = served_call works g.R.Door.count (IsKept first) c.args.salt was now (node_disks first) doors doors_now ok.0 desk passes passes_now ending report stopped told (λ w does. does.stops.faults) opening origin worked ok.3 closed line refl in
     let status = c.status_of-status.ensures ∙ ap (λ b. serve_status b ending told) c.stopped.ensures in
     let told_so = subst (IsServeCall works g.R.Door.count c.args.salt was now doors doors_now) (sym status) over in
     subst (λ a. IsServeCall works g.R.Door.count c.args.salt was (record now { disks = disks_of g.D.Disk a c.close-disk_a-2.result.1 }) doors doors_now c.status_of-status.result) (sym c.close-disk_a-2.ensures.disk_a)

@@ -8,13 +8,12 @@ use Rattle.sb_journal.proofs.Pairs.{still_honest, fault_on, opening_stays_pair, 
 use Rattle.sb_machine.specs.Namespace.{empty_state}
 use Rattle.sb_machine.specs.declared.state.State.{State}
 use Rattle.sb_engine.specs.Engines.{engine_state}
-use Rattle.sb_node.specs.Serving.{origin_of}
 use Rattle.sb_node.specs.Recovery.{recovered_from, reached, replay, reaches}
 use Rattle.sb_node.proofs.Crashes.{kept_leads}
 use Rattle.sb_node.proofs.Gates.{gate_after_on}
 use Rattle.sb_node.proofs.Keeping.{last_number}
 use Rattle.sb_node.proofs.Recovered.{events_consistent}
-use Rattle.sb_node.proofs.Standing.{begins, same_origin, were_honest_first}
+use Rattle.sb_node.proofs.Standing.{begins, were_honest_first}
 use Rattle.sb_node.proofs.node.Node.open.Goals as goal
 
 -- the payloads that were found, from an empty namespace on
@@ -121,6 +120,4 @@ returns-in-Ok-finish-clause-stands g c =
     (λ honest. returns-in-Ok-finish-clause-kept g c (were honest)) (λ honest. returns-in-Ok-finish-clause-durable g c (were honest))
 
 pub returns-in-Ok-finish-clause-origin : goal.returns-in-Ok-finish-clause-origin
-returns-in-Ok-finish-clause-origin g c =
-    ap (λ j. origin_of (journal_disks j)) c.of.ensures
-    ∙ same_origin (disks_of g.D.Disk c.args.disk_a c.args.disk_b) (unopened_disks c.in-Ok.read.0) (journal_disks c.in-Ok-finish.journal) c.in-Ok.ensures.quiet c.in-Ok-finish.ensures.quiet c.in-Ok.ensures.honesty c.in-Ok-finish.ensures.honesty
+returns-in-Ok-finish-clause-origin g c = ap (λ j. journal_disks j) c.of.ensures

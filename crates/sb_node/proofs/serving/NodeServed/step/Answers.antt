@@ -17,5 +17,7 @@ returns-clause-stands g c = λ seat start h is.
       kept = made.kept;
       untouched = made.untouched;
       durable = made.durable;
+      follows = λ kept. made.follows kept seat;
+      quiet = made.quiet;
       undecided_now = made.undecided;
     }) is
