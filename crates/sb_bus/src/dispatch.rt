@@ -24,7 +24,7 @@ use sb_outside::{Disk, Sink, write_all};
 use std::alloc::Global;
 
 /// What kind of answer a call got.
-#[derive(Clone, Copy, Debug, PartialEq, Eq)]
+#[derive(Clone, Copy, PartialEq, Eq)]
 pub enum AnswerKind {
     Accepted,
     Refused,

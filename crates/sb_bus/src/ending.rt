@@ -6,7 +6,7 @@ ghost use Rattle.sb_bus.specs.Endings.{status_of_end};
 use sb_input::ReadEnd;
 
 /// Why a run ended before its input did.
-#[derive(Clone, Copy, Debug, PartialEq, Eq)]
+#[derive(Clone, Copy, PartialEq, Eq)]
 pub enum RunEnd {
     ReadFault,
     WriteFault,

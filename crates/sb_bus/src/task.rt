@@ -1,6 +1,6 @@
 // What a call may be asked to do without waiting for anybody.
 /// What a call of the program is to do, where it waits for nobody.
-#[derive(Clone, Copy, Debug, PartialEq, Eq)]
+#[derive(Clone, Copy, PartialEq, Eq)]
 pub enum Task {
     /// Answer the script lines of the input.
     Run,

@@ -5,7 +5,7 @@ ghost use Rattle.sb_client.specs.Endings.{end_of_reading};
 use sb_input::ReadEnd;
 
 /// How a run of the client ended.
-#[derive(Clone, Copy, Debug, PartialEq, Eq)]
+#[derive(Clone, Copy, PartialEq, Eq)]
 pub enum ClientEnding {
     /// All lines were answered; one or more of the replies may be refusals.
     Done { refused: bool },

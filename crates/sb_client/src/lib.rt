@@ -11,8 +11,6 @@ mod ending;
 mod reply;
 mod request;
 mod running;
-#[cfg(test)]
-mod tests;
 
 pub use ending::ClientEnding;
 pub use request::request_of;

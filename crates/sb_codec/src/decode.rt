@@ -15,6 +15,7 @@ fn whole_event(alloc: Global, bytes: &[u8]) -> Result<Event, Unread>
 {
     let (event, rest) = take_event(alloc, bytes)?;
     if !rest.is_empty() {
+        drop(event);
         return Err(Unread::NoSpelling);
     }
     Ok(event)

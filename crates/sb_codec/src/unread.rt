@@ -5,7 +5,7 @@ ghost use Rattle.sb_codec.specs.declared.unread.Unread.TheVariants.{Memory};
 use std::alloc::{AllocError, AllocFailed};
 
 /// Why a value could not be read from the front of the bytes.
-#[derive(Debug, Drop)]
+#[derive(Drop)]
 pub(crate) enum Unread {
     /// Memory is wanting.
     Memory,

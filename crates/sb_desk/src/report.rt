@@ -1,7 +1,7 @@
 use std::collections::LinkedList;
 
 /// The numbers of a history. Each stands still at 2^64 - 1.
-#[derive(Clone, Copy, Debug, PartialEq, Eq)]
+#[derive(Clone, Copy, PartialEq, Eq)]
 pub struct Report {
     /// How many entries it has, ticks included.
     pub entries: u64,

@@ -12,7 +12,7 @@ use crate::Report;
 use sb_machine::{Answer, Call};
 
 /// What a step came to.
-#[derive(Debug, Drop)]
+#[derive(Drop)]
 pub struct Stepped {
     pub answer: Answer,
     /// The moment of the tick before the call, in ms since 1970, where something was due.

@@ -11,7 +11,7 @@ const MAX_MOMENT: u64 = 253_402_214_400_000;
 
 /// A namespace that is empty at first, and makes one queue `q` of the default description. It
 /// answers all other calls with want of memory.
-#[derive(Debug, Drop)]
+#[derive(Drop)]
 pub struct OneQueue {
     /// When the queue was made.
     made: Option<u64>,

@@ -106,7 +106,7 @@ fn send_queued(
 // ---- settlements
 
 /// A copy that a commit has settled.
-#[derive(Clone, Copy, Debug, PartialEq, Eq)]
+#[derive(Clone, Copy, PartialEq, Eq)]
 pub struct SettledCopy {
     pub part: Part,
     pub number: u64,

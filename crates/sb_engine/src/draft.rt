@@ -5,7 +5,7 @@ use sb_machine::{Change, Changes, Reply};
 use std::alloc::Global;
 
 /// A reply, and the changes that it stands for; nothing is changed yet.
-#[derive(Debug, Drop)]
+#[derive(Drop)]
 pub struct Draft {
     pub reply: Reply,
     pub changes: Changes,

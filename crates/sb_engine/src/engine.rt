@@ -22,7 +22,6 @@ ghost use Rattle.sb_engine.specs.Plans.{PlansRow};
 ghost use Rattle.sb_engine.specs.Small.{is_small, takes_no_memory};
 
 use crate::calls::{Verdict, client_of, judge_number};
-use crate::copies::{copy_of_act, copy_of_reply};
 use crate::numbers::{live, made};
 use crate::planning::plan_row;
 use crate::ticks::plan_tick;
@@ -62,39 +61,44 @@ fn tick_in(alloc: Global, space: &Watched, moment: u64) -> Result<Changes, Refus
 }
 
 // What is kept of an accepted call.
-fn kept_of(alloc: Global, by: &By, act: &Act, reply: &Reply) -> Result<Kept, AllocError>
+fn kept_of(by: &By, act: &Act, reply: &Reply) -> Result<Kept, AllocError>
     ensures { IfOk result (λ k. k ≡ kept_as by.now act.now reply.now) }
 {
+    let client = by.client.clone()?;
+    let act = act.clone()?;
+    let Ok(reply) = reply.clone() else {
+        drop(act);
+        return Err(AllocError);
+    };
     Ok(Kept {
-        client: by.client.clone()?,
+        client,
         number: by.number,
-        act: copy_of_act(act)?,
-        reply: copy_of_reply(alloc, reply)?,
+        act,
+        reply,
     })
 }
 
-fn kept_where(
-    alloc: Global,
-    by: Option<&By>,
-    act: &Act,
-    reply: &Reply,
-) -> Result<Option<Kept>, AllocError>
+fn kept_where(by: Option<&By>, act: &Act, reply: &Reply) -> Result<Option<Kept>, AllocError>
     ensures kept { IfOk result (λ k. k ≡ option_map (λ b. kept_as b act.now reply.now) (option_map (λ b. b.now) by.entry)) }
     ensures free { option_map (λ b. b.now) by.entry ≡ None → IsOk result }
 {
     match by {
-        Some(by) => Ok(Some(kept_of(alloc, by, act, reply)?)),
+        Some(by) => Ok(Some(kept_of(by, act, reply)?)),
         None => Ok(None),
     }
 }
 
 // The plan of a draft, kept where a client with a number asks.
-fn plan_draft(alloc: Global, by: Option<&By>, act: &Act, draft: Draft) -> Result<Plan, AllocError>
+fn plan_draft(by: Option<&By>, act: &Act, draft: Draft) -> Result<Plan, AllocError>
     ensures plan { IfOk result (λ p. planned_of (option_map (λ b. b.now) by.entry) act.now (acted draft.reply draft.changes) ≡ Ok p) }
     ensures free { option_map (λ b. b.now) by.entry ≡ None → IsOk result }
 {
-    let kept = kept_where(alloc, by, act, &draft.reply)?;
     let Draft { reply, changes } = draft;
+    let Ok(kept) = kept_where(by, act, &reply) else {
+        drop(reply);
+        drop(changes);
+        return Err(AllocError);
+    };
     Ok(Plan::new(changes, Answered::New(reply), kept))
 }
 
@@ -102,7 +106,7 @@ fn plan_draft(alloc: Global, by: Option<&By>, act: &Act, draft: Draft) -> Result
 fn plan_repeated(alloc: Global, reply: &Reply) -> Result<Plan, AllocError>
     ensures { IfOk result (λ p. p ≡ record { changes = []; answered = Repeated reply.now; kept = None }) }
 {
-    let reply = copy_of_reply(alloc, reply)?;
+    let reply = reply.clone()?;
     Ok(Plan::new(Changes::new(alloc), Answered::Kept(reply), None))
 }
 
@@ -136,7 +140,7 @@ impl Engine {
         ensures sound { IfOk result (λ p. IsSound (engine_state self.now) moment p) }
     {
         let draft = plan_in(self.alloc, &self.space, moment, call)?;
-        match plan_draft(self.alloc, by, &call.act, draft) {
+        match plan_draft(by, &call.act, draft) {
             Ok(plan) => Ok(plan),
             Err(_) => Err(Refusal::OutOfMemory),
         }
@@ -257,6 +261,8 @@ fn carry_changes(space: &mut Watched, moment: u64, changes: Changes)
 {
     if !changes.is_empty() {
         space.carry_out(moment, changes);
+    } else {
+        drop(changes);
     }
 }
 

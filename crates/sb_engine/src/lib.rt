@@ -24,7 +24,6 @@ mod behind;
 mod calls;
 mod claims;
 mod committing;
-mod copies;
 mod deadlines;
 mod draft;
 mod drafting;

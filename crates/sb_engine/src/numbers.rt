@@ -11,7 +11,7 @@ use sb_machine::{Change, Changes, LeafChange, Part};
 use std::collections::VecDeque;
 
 /// What is numbered.
-#[derive(Clone, Copy, Debug, PartialEq, Eq)]
+#[derive(Clone, Copy, PartialEq, Eq)]
 pub enum Numbered {
     Copies,
     Entities,

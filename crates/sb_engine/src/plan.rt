@@ -43,7 +43,14 @@ impl Plan {
     pub fn into_answered(self) -> Answered
         ensures { result ≡ self.answered }
     {
-        self.answered
+        let Plan {
+            changes,
+            answered,
+            kept,
+        } = self;
+        drop(changes);
+        drop(kept);
+        answered
     }
 
     // ---- within this crate

@@ -67,6 +67,7 @@ pub fn plan_row(
     if is_numbered(space, &draft.changes) {
         Ok(draft)
     } else {
+        drop(draft);
         Err(Refusal::Exhausted)
     }
 }

@@ -1,5 +1,5 @@
 /// The numbers of a namespace.
-#[derive(Clone, Copy, Debug, PartialEq, Eq)]
+#[derive(Clone, Copy, PartialEq, Eq)]
 pub struct Summary {
     /// The live copies.
     pub copies: u64,

@@ -104,9 +104,11 @@ fn plan_as_found(alloc: Global, space: &SpaceStore, moment: u64) -> Result<Chang
 {
     let mut changes = Changes::new(alloc);
     let Ok(()) = free_and_wake(alloc, space, &mut changes, moment) else {
+        drop(changes);
         return Err(AllocError);
     };
     let Ok(()) = drop_all(&mut changes, moment, space) else {
+        drop(changes);
         return Err(AllocError);
     };
     Ok(changes)
@@ -133,6 +135,7 @@ pub fn plan_tick(alloc: Global, space: &SpaceStore, moment: u64) -> Result<Chang
     if is_numbered(space, &changes) {
         Ok(changes)
     } else {
+        drop(changes);
         Err(Refusal::Exhausted)
     }
 }

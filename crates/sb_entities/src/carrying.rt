@@ -28,6 +28,7 @@ impl SpaceStore {
         while let Some(change) = left.take_first() {
             self.carry(moment, change);
         }
+        drop(left);
     }
 
     fn carry(&mut self, moment: u64, change: Change)
@@ -63,7 +64,7 @@ impl SpaceStore {
                 operation,
             } => self.txns.queue(txn, deadline, operation),
             Change::Drops { txn } => {
-                let _ = self.txns.drop_txn(txn);
+                drop(self.txns.drop_txn(txn));
             }
         }
     }

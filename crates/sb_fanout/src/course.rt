@@ -32,7 +32,10 @@ fn fail<N: Directory>(
 ) -> Result<Tally, AllocError>
     ensures { Visits (N.last_of course.now.directory.now) tally (visits.failed hops entity.now reason message) result }
 {
-    let message = for_reason(course.alloc, reason, message)?;
+    let Ok(message) = for_reason(course.alloc, reason, message) else {
+        drop(tally);
+        return Err(AllocError);
+    };
     stay(course, tally, entity, Part::Transfer, hops, message)
 }
 
@@ -96,11 +99,21 @@ fn fan<N: Directory>(
 ) -> Result<Tally, AllocError>
     ensures { Visits (N.last_of course.now.directory.now) tally (visits.fanned (transferred (4 - hops) (N.listed course.now.directory.now)) hops (N.listed course.now.directory.now) entity.now message) result }
 {
-    let tally = end(course, tally, entity, Cause::Fanned)?;
-    let subscriptions = course
+    let Ok(tally) = end(course, tally, entity, Cause::Fanned) else {
+        drop(message);
+        return Err(AllocError);
+    };
+    let Ok(subscriptions) = course
         .directory
-        .subscriptions_of(course.alloc, entity.path.name.as_str())?;
-    offer_each(course, tally, hops, &subscriptions, &message)
+        .subscriptions_of(course.alloc, entity.path.name.as_str())
+    else {
+        drop(tally);
+        drop(message);
+        return Err(AllocError);
+    };
+    let result = offer_each(course, tally, hops, &subscriptions, &message);
+    drop(message);
+    result
 }
 
 #[cycle(course)]
@@ -130,10 +143,18 @@ fn offer<N: Directory>(
 ) -> Result<Tally, AllocError>
     ensures { Visits (N.last_of course.now.directory.now) tally (visits.offered (transferred (4 - hops) (N.listed course.now.directory.now)) hops message.now entity.now) result }
 {
-    match copies(course.alloc, entity, message)? {
+    let Ok(outcome) = copies(course.alloc, entity, message) else {
+        drop(tally);
+        return Err(AllocError);
+    };
+    match outcome {
         Outcome::Copies(messages) => come_each(course, tally, hops, entity, messages),
         Outcome::Dead => {
-            let message = cut_to(entity, copy_of(message)?);
+            let Ok(copy) = copy_of(message) else {
+                drop(tally);
+                return Err(AllocError);
+            };
+            let message = cut_to(entity, copy);
             dead_letter(course, tally, hops, entity, DeadReason::RuleFailed, message)
         }
         Outcome::Dropped => Ok(tally),
@@ -187,7 +208,10 @@ fn settle<N: Directory>(
     let Some(to) = &entity.description.forward_to else {
         return stay(course, tally, entity, Part::Main, hops, message);
     };
-    let tally = end(course, tally, entity, Cause::Forwarded)?;
+    let Ok(tally) = end(course, tally, entity, Cause::Forwarded) else {
+        drop(message);
+        return Err(AllocError);
+    };
     transfer(course, tally, hops, entity, message, to.as_str())
 }
 
@@ -202,8 +226,14 @@ fn dead_letter<N: Directory>(
 ) -> Result<Tally, AllocError>
     ensures { Visits (N.last_of course.now.directory.now) tally (visits.dead_lettered (transferred (4 - hops) (N.listed course.now.directory.now)) hops entity.now reason message) result }
 {
-    let tally = end(course, tally, entity, Cause::DeadLettered)?;
-    let message = for_reason(course.alloc, reason, message)?;
+    let Ok(tally) = end(course, tally, entity, Cause::DeadLettered) else {
+        drop(message);
+        return Err(AllocError);
+    };
+    let Ok(message) = for_reason(course.alloc, reason, message) else {
+        drop(tally);
+        return Err(AllocError);
+    };
     bury_in(course, tally, hops, entity, message)
 }
 

@@ -30,7 +30,7 @@ fn ended(lasts: &mut Lasts, changes: &mut Changes, tally: Tally)
     ensures changes { changes.new ≡ tally.changes }
 {
     *lasts = tally.lasts;
-    *changes = tally.changes;
+    drop(mem::replace(changes, tally.changes));
 }
 
 /// A message enters an entity: in a topic it enters each subscription as the rules there select

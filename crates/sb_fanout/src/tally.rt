@@ -35,7 +35,10 @@ fn with_change(changes: Changes, change: Change) -> Result<Changes, AllocError>
     ensures { IfOk result (λ c. c ≡ changes ++ change ∷ []) }
 {
     let mut changes = changes;
-    changes.push(change)?;
+    let Ok(()) = changes.push(change) else {
+        drop(changes);
+        return Err(AllocError);
+    };
     Ok(changes)
 }
 
@@ -60,9 +63,20 @@ fn given<N: Directory>(
     let mut lasts = lasts;
     let seq = match seq {
         Some(seq) => seq,
-        None => lasts.next(course.directory, key)?,
+        None => match lasts.next(course.directory, key) {
+            Ok(seq) => seq,
+            Err(fault) => {
+                drop(changes);
+                drop(change);
+                return Err(fault);
+            }
+        },
     };
-    lasts.raise(key)?;
+    let Ok(()) = lasts.raise(key) else {
+        drop(changes);
+        drop(change);
+        return Err(AllocError);
+    };
     Ok(Tally {
         lasts,
         seq: Some(seq),

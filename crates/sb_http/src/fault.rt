@@ -2,7 +2,7 @@
 
 /// Why a stream of requests is refused. Each ends the connection, behind a response with the status
 /// that stands here.
-#[derive(Clone, Copy, Debug, PartialEq, Eq)]
+#[derive(Clone, Copy, PartialEq, Eq)]
 pub enum HttpFault {
     /// No continuation of the bytes left is a request: 400.
     BadHead,

@@ -6,7 +6,7 @@ ghost use Rattle.sb_http.specs.Fields.{same_word, is_number, number_of, one_more
 use httparse::spans::HeaderSpan;
 
 /// How many Host lines there are.
-#[derive(Clone, Copy, Debug, PartialEq, Eq)]
+#[derive(Clone, Copy, PartialEq, Eq)]
 pub enum Hosts {
     Absent,
     One,
@@ -14,7 +14,7 @@ pub enum Hosts {
 }
 
 /// What the Content-Length lines say.
-#[derive(Clone, Copy, Debug, PartialEq, Eq)]
+#[derive(Clone, Copy, PartialEq, Eq)]
 pub enum Length {
     Absent,
     Value(u64),
@@ -22,7 +22,7 @@ pub enum Length {
 }
 
 /// What the Transfer-Encoding lines say.
-#[derive(Clone, Copy, Debug, PartialEq, Eq)]
+#[derive(Clone, Copy, PartialEq, Eq)]
 pub enum Coding {
     Absent,
     Chunked,
@@ -30,7 +30,7 @@ pub enum Coding {
 }
 
 /// What the lines of a head say of its body.
-#[derive(Clone, Copy, Debug)]
+#[derive(Clone, Copy)]
 pub struct Stated {
     pub hosts: Hosts,
     pub length: Length,
@@ -38,7 +38,7 @@ pub struct Stated {
 }
 
 /// How the body goes.
-#[derive(Clone, Copy, Debug, PartialEq, Eq)]
+#[derive(Clone, Copy, PartialEq, Eq)]
 pub enum Framing {
     /// The head is refused.
     Refused,

@@ -12,7 +12,7 @@ use crate::read::{read_head, read_line};
 use httparse::spans::{HeaderSpan, RequestSpans};
 
 /// What stands where a head is to come.
-#[derive(Clone, Copy, Debug)]
+#[derive(Clone, Copy)]
 pub enum Judged {
     /// Less than a head.
     Waits,
@@ -23,7 +23,7 @@ pub enum Judged {
 }
 
 /// What stands where the line of a chunk is to come.
-#[derive(Clone, Copy, Debug)]
+#[derive(Clone, Copy)]
 pub enum LineJudged {
     /// Less than a line.
     Waits,

@@ -43,8 +43,6 @@ mod read;
 mod request;
 mod response;
 mod steps;
-#[cfg(test)]
-mod tests;
 mod version;
 mod whole;
 pub mod whole_laws;

@@ -2,7 +2,7 @@
 use httparse::spans::RequestSpans;
 
 /// What comes next of a request.
-#[derive(Clone, Copy, Debug)]
+#[derive(Clone, Copy)]
 pub enum Next {
     Head,
     /// A body whose size is known.
@@ -15,7 +15,7 @@ pub enum Next {
 }
 
 /// Where a whole request lies in the buffer.
-#[derive(Clone, Copy, Debug)]
+#[derive(Clone, Copy)]
 pub struct Shape {
     pub head: RequestSpans,
     pub start: usize,
@@ -26,7 +26,7 @@ pub struct Shape {
 }
 
 /// What a step came to.
-#[derive(Clone, Copy, Debug)]
+#[derive(Clone, Copy)]
 pub enum Step {
     Goes,
     Waits,

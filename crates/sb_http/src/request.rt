@@ -6,7 +6,7 @@ use crate::version::Version;
 use httparse::spans::HeaderSpan;
 
 /// A whole request. Its parts are borrowed from the buffer that it came in.
-#[derive(Clone, Copy, Debug)]
+#[derive(Clone, Copy)]
 pub struct Request<'a> {
     pub method: &'a [u8],
     /// The target as it was sent, in origin-form.

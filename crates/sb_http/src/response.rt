@@ -3,7 +3,7 @@ ghost use Rattle.std.specs.Prelude.{◌≡◌};
 ghost use Rattle.sb_http.specs.Responses.{code_of, phrase_of};
 
 /// The status of a response (RFC 9110, section 15): the final ones that this broker answers.
-#[derive(Clone, Copy, Debug, PartialEq, Eq)]
+#[derive(Clone, Copy, PartialEq, Eq)]
 pub enum Status {
     Ok,
     Created,
@@ -22,7 +22,7 @@ pub enum Status {
 
 /// A header of a response. It is written as it stands, so its name is to be a token, and its value
 /// without control bytes.
-#[derive(Debug, Drop)]
+#[derive(Drop)]
 pub struct Header {
     pub name: Vec<u8>,
     pub value: Vec<u8>,
@@ -30,7 +30,7 @@ pub struct Header {
 
 /// A response. Content-Length and Connection are written beside the headers, so they are not among
 /// them; at `NoContent` the body is to be empty.
-#[derive(Debug, Drop)]
+#[derive(Drop)]
 pub struct Response {
     pub status: Status,
     /// The headers in the order in which they are written.

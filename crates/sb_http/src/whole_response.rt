@@ -7,7 +7,7 @@ use crate::version::Version;
 use httparse::spans::HeaderSpan;
 
 /// A whole response. Its parts are borrowed from its bytes.
-#[derive(Clone, Copy, Debug)]
+#[derive(Clone, Copy)]
 pub struct WholeResponse<'a> {
     pub version: Version,
     /// The number of the status, 0 to 999.

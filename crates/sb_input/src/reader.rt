@@ -14,7 +14,7 @@ use sb_outside::{ReadFault, Source};
 use std::alloc::{AllocError, Global};
 
 /// Why no line was read.
-#[derive(Clone, Copy, Debug, PartialEq, Eq)]
+#[derive(Clone, Copy, PartialEq, Eq)]
 pub enum ReadEnd {
     Fault,
     OutOfMemory,

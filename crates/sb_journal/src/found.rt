@@ -7,14 +7,14 @@ use crate::Bytes;
 use crate::reading::HEAD_BYTES;
 
 /// Which of the two disks.
-#[derive(Clone, Copy, Debug, PartialEq, Eq)]
+#[derive(Clone, Copy, PartialEq, Eq)]
 pub enum Side {
     A,
     B,
 }
 
 /// The file that a journal was opened with.
-#[derive(Debug, Drop)]
+#[derive(Drop)]
 pub struct Found {
     /// The disk that it stands on.
     pub disk: Side,
@@ -39,7 +39,7 @@ pub fn first_gate(found: &Found) -> u64
 }
 
 /// Why a journal isn't open.
-#[derive(Clone, Copy, Debug, PartialEq, Eq)]
+#[derive(Clone, Copy, PartialEq, Eq)]
 pub enum OpenWhy {
     /// This disk has a file that can't be read, from this place on. Nothing was written to it.
     Damaged(Side, u64),

@@ -23,8 +23,6 @@ pub mod laws;
 mod opening;
 mod piece;
 mod reading;
-#[cfg(test)]
-mod tests;
 mod unopened;
 
 pub use append::next_gate;

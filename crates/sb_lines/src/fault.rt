@@ -7,7 +7,7 @@ use sb_model::Text;
 use std::alloc::{AllocError, AllocFailed, Global};
 
 /// Why a text spells no call.
-#[derive(Debug, Drop)]
+#[derive(Drop)]
 pub enum LineFault {
     /// This key is the first at fault; it is empty where a line is no JSON object.
     BadKey { key: Text },

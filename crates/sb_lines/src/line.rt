@@ -75,7 +75,13 @@ fn named_call(alloc: Global, word: &str, value: &Value) -> Result<TimedCall, Lin
     ensures { Answers result (lines.named_call word.now (view value.now)) }
 {
     let act = act_named(alloc, value, word)?;
-    let (reading, by) = beside(alloc, is_numbered(word), value)?;
+    let (reading, by) = match beside(alloc, is_numbered(word), value) {
+        Ok(found) => found,
+        Err(fault) => {
+            drop(act);
+            return Err(fault);
+        }
+    };
     Ok(TimedCall {
         reading,
         call: Call { by, act },

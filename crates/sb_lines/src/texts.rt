@@ -16,7 +16,7 @@ use std::alloc::{AllocError, Global};
 const MAX_TTL: u64 = 922_337_203_685;
 
 /// What a null stands for.
-#[derive(Clone, Copy, Debug, PartialEq, Eq)]
+#[derive(Clone, Copy, PartialEq, Eq)]
 pub enum Nulls {
     /// A value of another kind.
     Wrong,

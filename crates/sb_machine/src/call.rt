@@ -2,7 +2,7 @@ use crate::Conditions;
 use sb_model::{Message, Name, Rows, Text};
 
 /// Which of an entity's three queues is meant.
-#[derive(Clone, Copy, Debug, PartialEq, Eq)]
+#[derive(Clone, Copy, PartialEq, Eq)]
 pub enum Part {
     /// Where messages arrive.
     Main,
@@ -13,7 +13,7 @@ pub enum Part {
 }
 
 /// An address: an entity, or a subscription of a topic, and a part of it.
-#[derive(Clone, Debug, Drop)]
+#[derive(Clone, Drop)]
 pub struct Path {
     pub name: Name,
     pub subscription: Option<Name>,
@@ -22,21 +22,21 @@ pub struct Path {
 
 /// A lock token: the UUID whose upper 64 bits are the namespace's salt and whose lower 64 bits
 /// are the lock's number.
-#[derive(Clone, Copy, Debug, PartialEq, Eq)]
+#[derive(Clone, Copy, PartialEq, Eq)]
 pub struct Token {
     pub salt: u64,
     pub lock: u64,
 }
 
 /// How a message is received: under a lock (peek-lock), or with deletion (receive and delete).
-#[derive(Clone, Copy, Debug, PartialEq, Eq)]
+#[derive(Clone, Copy, PartialEq, Eq)]
 pub enum Mode {
     Lock,
     Delete,
 }
 
 /// What an entity is set to do. A field that its kind lacks holds its default.
-#[derive(Clone, Debug, Drop)]
+#[derive(Clone, Drop)]
 pub struct Description {
     /// How long a lock lives, in s: 1 to 300, by default 60.
     pub lock: u64,
@@ -57,14 +57,14 @@ pub struct Description {
 
 /// How a copy under a lock is named: by its number, or by a text that is its MessageId or prints
 /// its number.
-#[derive(Clone, Debug, Drop)]
+#[derive(Clone, Drop)]
 pub enum Which {
     Number(u64),
     Id(Text),
 }
 
 /// What becomes of a copy under a lock.
-#[derive(Clone, Debug, Drop)]
+#[derive(Clone, Drop)]
 pub enum How {
     Complete,
     Abandon,
@@ -76,14 +76,14 @@ pub enum How {
 }
 
 /// The filter of a rule as it is asked for.
-#[derive(Clone, Debug, Drop)]
+#[derive(Clone, Drop)]
 pub enum FilterText {
     Sql(Text),
     Correlation(Conditions),
 }
 
 /// What is asked of the namespace.
-#[derive(Clone, Debug, Drop)]
+#[derive(Drop)]
 pub enum Act {
     CreateQueue {
         name: Name,
@@ -199,28 +199,28 @@ pub enum Act {
 }
 
 /// Who asks, and the number that lets a repeated call act once.
-#[derive(Clone, Debug, Drop)]
+#[derive(Clone, Drop)]
 pub struct By {
     pub client: Text,
     pub number: u64,
 }
 
 /// One call of the namespace.
-#[derive(Clone, Debug, Drop)]
+#[derive(Clone, Drop)]
 pub struct Call {
     pub by: Option<By>,
     pub act: Act,
 }
 
 /// A call and the reading of the clock at which it is made, in ms since 1970.
-#[derive(Clone, Debug, Drop)]
+#[derive(Clone, Drop)]
 pub struct TimedCall {
     pub reading: u64,
     pub call: Call,
 }
 
 /// What a journal record says: time went on, or a call acted, at a moment in ms since 1970.
-#[derive(Clone, Debug, Drop)]
+#[derive(Clone, Drop)]
 pub enum Event {
     Tick { moment: u64 },
     Called { moment: u64, call: Call },

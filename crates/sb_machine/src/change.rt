@@ -3,7 +3,7 @@ use crate::{Description, EntityKind, Hold, Operation, Part, Path, Rule, Standing
 use sb_model::{Message, Name, Rows, Text};
 
 /// One of an entity's three queues of copies.
-#[derive(Clone, Copy, Debug, PartialEq, Eq)]
+#[derive(Clone, Copy, PartialEq, Eq)]
 pub struct LeafKey {
     /// The number of the entity.
     pub entity: u64,
@@ -11,7 +11,7 @@ pub struct LeafKey {
 }
 
 /// A copy as it enters; the part gives it its number, the step its moment.
-#[derive(Debug, Drop)]
+#[derive(Drop)]
 pub struct Fresh {
     /// EnqueuedSequenceNumber; none takes the number.
     pub seq: Option<u64>,
@@ -21,7 +21,7 @@ pub struct Fresh {
 }
 
 /// Why a number ended.
-#[derive(Clone, Copy, Debug, PartialEq, Eq)]
+#[derive(Clone, Copy, PartialEq, Eq)]
 pub enum Cause {
     Fanned,
     Forwarded,
@@ -36,7 +36,7 @@ pub enum Cause {
 }
 
 /// What changes in one part.
-#[derive(Debug, Drop)]
+#[derive(Drop)]
 pub enum LeafChange {
     /// The next number is given to a copy, which stays.
     Enters(Fresh),
@@ -88,7 +88,7 @@ pub enum LeafChange {
 
 /// What changes in a namespace. Each change takes the numbers that it gives from the namespace as
 /// it finds it.
-#[derive(Debug, Drop)]
+#[derive(Drop)]
 pub enum Change {
     InLeaf {
         key: LeafKey,

@@ -10,7 +10,7 @@ use std::marker::Model;
 use std::mem;
 
 /// A list of changes. One needs no memory.
-#[derive(Debug, Drop)]
+#[derive(Drop)]
 pub struct Changes {
     first: Option<Change>,
     more: VecDeque<Change>,
@@ -70,11 +70,16 @@ impl Changes {
         ensures free { self.old ≡ [] → IsOk result }
     {
         if self.first.is_none() {
-            self.first = Some(change);
+            drop(mem::replace(&mut self.first, Some(change)));
             return Ok(());
         }
-        self.more.push_back(change)?;
-        Ok(())
+        match self.more.push_back(change) {
+            Ok(()) => Ok(()),
+            Err(failed) => {
+                drop(failed);
+                Err(AllocError)
+            }
+        }
     }
 
     /// Adds these at the end, to none without memory; where memory is wanting, all stays.
@@ -84,7 +89,7 @@ impl Changes {
         ensures free { self.old ≡ [] → IsOk result }
     {
         if self.first.is_none() {
-            *self = others;
+            drop(mem::replace(self, others));
             return Ok(());
         }
         let Changes { first, mut more } = others;

@@ -1,7 +1,7 @@
 use crate::{Answer, Call};
 
 /// One entry of a history.
-#[derive(Debug, Drop)]
+#[derive(Drop)]
 pub enum Entry {
     /// At this seat time went on to a moment.
     Ticked {

@@ -17,6 +17,7 @@
 mod call;
 mod change;
 mod changes;
+mod copies;
 mod directory;
 mod history;
 mod lookups;

@@ -2,7 +2,7 @@ use crate::{Part, Token};
 use sb_model::{Message, Rows, Text};
 
 /// The state in which a copy is seen when it is looked at.
-#[derive(Clone, Copy, Debug, PartialEq, Eq)]
+#[derive(Clone, Copy, PartialEq, Eq)]
 pub enum CopyState {
     /// It may be received.
     Ready,
@@ -15,7 +15,7 @@ pub enum CopyState {
 }
 
 /// How a copy came to be shown.
-#[derive(Clone, Copy, Debug, PartialEq, Eq)]
+#[derive(Clone, Copy, PartialEq, Eq)]
 pub enum Showing {
     /// It was received with deletion.
     Removed,
@@ -26,7 +26,7 @@ pub enum Showing {
 }
 
 /// A copy of a message as a reply shows it.
-#[derive(Debug, Drop)]
+#[derive(Clone, Drop)]
 pub struct CopyShown {
     pub number: u64,
     /// EnqueuedSequenceNumber: the number under which the message first entered the namespace.
@@ -40,7 +40,7 @@ pub struct CopyShown {
 }
 
 /// What became of one message of a send.
-#[derive(Clone, Copy, Debug, PartialEq, Eq)]
+#[derive(Clone, Copy, PartialEq, Eq)]
 pub enum Receipt {
     /// It has this number.
     Number(u64),
@@ -49,7 +49,7 @@ pub enum Receipt {
 }
 
 /// What an accepted call is answered.
-#[derive(Debug, Drop)]
+#[derive(Drop)]
 pub enum Reply {
     Done,
     /// One receipt for each message, in order.
@@ -93,14 +93,14 @@ pub enum Reply {
 }
 
 /// What an accepted call is answered: its reply, or that of the equal call that acted before.
-#[derive(Debug, Drop)]
+#[derive(Drop)]
 pub enum Answered {
     New(Reply),
     Kept(Reply),
 }
 
 /// Why a call is refused. The numbered order of the tests is in `docs/DEFINITIONS.md`.
-#[derive(Debug, Drop)]
+#[derive(Drop)]
 pub enum Refusal {
     /// A field is outside its written form or range.
     BadCall { key: Text },

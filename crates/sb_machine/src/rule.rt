@@ -7,7 +7,7 @@ use sb_model::{Action, Filter, Message, Name, Property, Rows, SystemText, Text};
 use std::marker::Model;
 
 /// What a correlation filter asks: each of these properties is there with this value.
-#[derive(Clone, Debug, Drop)]
+#[derive(Clone, Drop)]
 pub struct Conditions {
     /// By code of the name, none twice.
     pub sys: Rows<SystemText>,
@@ -16,7 +16,7 @@ pub struct Conditions {
 }
 
 /// A filter's text, and the tree that it spells.
-#[derive(Debug, Drop)]
+#[derive(Drop)]
 pub struct Condition {
     text: Text,
     tree: Filter,
@@ -53,7 +53,7 @@ impl Condition {
 }
 
 /// An action's text, and the statements that it spells.
-#[derive(Debug, Drop)]
+#[derive(Drop)]
 pub struct Effect {
     text: Text,
     statements: Action,
@@ -90,13 +90,13 @@ impl Effect {
 }
 
 /// Which messages a rule is for.
-#[derive(Debug, Drop)]
+#[derive(Drop)]
 pub enum RuleFilter {
     Sql(Condition),
     Correlation(Conditions),
 }
 
-#[derive(Debug, Drop)]
+#[derive(Drop)]
 pub struct Rule {
     pub name: Name,
     pub filter: RuleFilter,
@@ -105,7 +105,7 @@ pub struct Rule {
 }
 
 /// What a subscription takes of a message.
-#[derive(Debug, Drop)]
+#[derive(Drop)]
 pub enum Outcome {
     Copies(Rows<Message>),
     /// A rule failed: one copy is dead-lettered.

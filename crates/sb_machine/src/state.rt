@@ -2,7 +2,7 @@ use crate::{Act, Description, How, Part, Path, Reply, Rule, Token};
 use sb_model::{Message, Rows, Text};
 
 /// How long a lock holds a copy.
-#[derive(Clone, Copy, Debug, PartialEq, Eq)]
+#[derive(Clone, Copy, PartialEq, Eq)]
 pub enum Hold {
     /// Up to this moment, in ms since 1970.
     Until(u64),
@@ -11,7 +11,7 @@ pub enum Hold {
 }
 
 /// What may be done with a copy.
-#[derive(Clone, Copy, Debug, PartialEq, Eq)]
+#[derive(Clone, Copy, PartialEq, Eq)]
 pub enum Standing {
     /// It may be received.
     Ready,
@@ -28,7 +28,7 @@ pub enum Standing {
 }
 
 /// A copy that an entity holds.
-#[derive(Debug, Drop)]
+#[derive(Drop)]
 pub struct StoredCopy {
     /// SequenceNumber, from 1, never reused.
     pub number: u64,
@@ -45,14 +45,14 @@ pub struct StoredCopy {
 }
 
 /// Who holds a session: the number of its lock, and the moment up to which it lives.
-#[derive(Clone, Copy, Debug, PartialEq, Eq)]
+#[derive(Clone, Copy, PartialEq, Eq)]
 pub struct Holder {
     pub lock: u64,
     pub until: u64,
 }
 
 /// A session is remembered while it has a holder or a state.
-#[derive(Debug, Drop)]
+#[derive(Drop)]
 pub struct Session {
     pub id: Text,
     pub state: Option<Rows<u8>>,
@@ -61,14 +61,14 @@ pub struct Session {
 
 /// One part of an entity: the last number given there, its copies in rising number, its sessions
 /// by id.
-#[derive(Debug, Drop)]
+#[derive(Drop)]
 pub struct Leaf {
     pub last: u64,
     pub copies: Rows<StoredCopy>,
     pub sessions: Rows<Session>,
 }
 
-#[derive(Clone, Copy, Debug, PartialEq, Eq)]
+#[derive(Clone, Copy, PartialEq, Eq)]
 pub enum EntityKind {
     Queue,
     Topic,
@@ -76,7 +76,7 @@ pub enum EntityKind {
 }
 
 /// An entity without what lies in it.
-#[derive(Debug, Drop)]
+#[derive(Drop)]
 pub struct Listed {
     pub number: u64,
     pub kind: EntityKind,
@@ -88,14 +88,14 @@ pub struct Listed {
 }
 
 /// A MessageId that was accepted under a window.
-#[derive(Debug, Drop)]
+#[derive(Drop)]
 pub struct AcceptedId {
     pub moment: u64,
     pub id: Text,
 }
 
 /// An entity with its three parts.
-#[derive(Debug, Drop)]
+#[derive(Drop)]
 pub struct Entity {
     pub about: Listed,
     /// By moment, then id.
@@ -106,7 +106,7 @@ pub struct Entity {
 }
 
 /// What a transaction has queued.
-#[derive(Debug, Drop)]
+#[derive(Drop)]
 pub enum Operation {
     Send {
         to: Path,
@@ -122,7 +122,7 @@ pub enum Operation {
 }
 
 /// An open transaction.
-#[derive(Debug, Drop)]
+#[derive(Drop)]
 pub struct Transaction {
     pub number: u64,
     /// The number of its entity.
@@ -132,7 +132,7 @@ pub struct Transaction {
 }
 
 /// All that acts speak of.
-#[derive(Debug, Drop)]
+#[derive(Drop)]
 pub struct Space {
     /// Fixed at creation; the upper half of each lock token.
     pub salt: u64,
@@ -151,7 +151,7 @@ pub struct Space {
 }
 
 /// The last numbered call of a client that was accepted, and its reply.
-#[derive(Debug, Drop)]
+#[derive(Drop)]
 pub struct Kept {
     pub client: Text,
     pub number: u64,
@@ -160,7 +160,7 @@ pub struct Kept {
 }
 
 /// A whole namespace.
-#[derive(Debug, Drop)]
+#[derive(Drop)]
 pub struct State {
     /// The moment up to which time has come, in ms since 1970.
     pub now: u64,

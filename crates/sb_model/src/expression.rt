@@ -6,7 +6,7 @@ use crate::{Name, PropertyValue, Rows, Text};
 use std::alloc::{AllocError, Global};
 
 /// Which property of a message is meant.
-#[derive(Debug, Drop)]
+#[derive(Drop)]
 pub enum PropertyName {
     /// A user property: its name, folded to ASCII lower case.
     User(Name),
@@ -15,7 +15,7 @@ pub enum PropertyName {
 }
 
 /// An operator on one operand.
-#[derive(Clone, Copy, Debug, PartialEq, Eq, Drop)]
+#[derive(Clone, Copy, PartialEq, Eq, Drop)]
 pub enum UnaryOperator {
     Plus,
     Minus,
@@ -27,7 +27,7 @@ pub enum UnaryOperator {
 }
 
 /// An operator on two operands.
-#[derive(Clone, Copy, Debug, PartialEq, Eq, Drop)]
+#[derive(Clone, Copy, PartialEq, Eq, Drop)]
 pub enum BinaryOperator {
     Or,
     And,
@@ -46,7 +46,7 @@ pub enum BinaryOperator {
 
 /// An expression as a tree.
 #[cycle(expression)]
-#[derive(Debug, Drop)]
+#[derive(Drop)]
 pub enum Expression {
     /// A whole number from 0 on, a text, `TRUE` or `FALSE`.
     Constant(PropertyValue),
@@ -65,7 +65,7 @@ pub enum Expression {
 
 /// What stands in parentheses behind `IN`: one expression or more.
 #[cycle(expression)]
-#[derive(Debug, Drop)]
+#[derive(Drop)]
 pub enum Items {
     First(Box<Expression>),
     Later(Box<Items>, Box<Expression>),
@@ -75,7 +75,7 @@ pub enum Items {
 pub type Filter = Expression;
 
 /// One change that an action makes.
-#[derive(Debug, Drop)]
+#[derive(Drop)]
 pub enum Statement {
     Set(PropertyName, Expression),
     Remove(PropertyName),

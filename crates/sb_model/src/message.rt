@@ -11,7 +11,7 @@ pub type Name = Text;
 
 /// The eight texts of a message that the service itself knows
 /// (Microsoft Learn, Service Bus, "Messages, payloads, and serialization").
-#[derive(Clone, Copy, Debug, PartialEq, Eq, Drop)]
+#[derive(Clone, Copy, PartialEq, Eq, Drop)]
 pub enum SystemName {
     MessageId,
     Label,
@@ -90,14 +90,14 @@ pub fn is_same_word(text: &str, word: &str) -> bool
 }
 
 /// One system text; an empty one counts as absent and never stands here.
-#[derive(Clone, Debug, Drop)]
+#[derive(Clone, Drop)]
 pub struct SystemText {
     pub name: SystemName,
     pub text: Text,
 }
 
 /// What a user property holds.
-#[derive(Clone, Debug, Drop)]
+#[derive(Clone, Drop)]
 pub enum PropertyValue {
     Int(i64),
     Text(Text),
@@ -105,14 +105,14 @@ pub enum PropertyValue {
 }
 
 /// A user property: a folded name and its value.
-#[derive(Clone, Debug, Drop)]
+#[derive(Clone, Drop)]
 pub struct Property {
     pub name: Name,
     pub value: PropertyValue,
 }
 
 /// A message as it is sent.
-#[derive(Clone, Debug, Drop)]
+#[derive(Clone, Drop)]
 pub struct Message {
     /// At most 262,144 bytes where a send is accepted.
     pub body: Rows<u8>,

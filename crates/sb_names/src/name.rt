@@ -8,7 +8,7 @@ ghost use Rattle.sb_names.specs.Kinds.{is_name_of};
 use sb_model::Name;
 
 /// What is named: the lengths differ.
-#[derive(Clone, Copy, Debug, PartialEq, Eq)]
+#[derive(Clone, Copy, PartialEq, Eq)]
 pub enum NameKind {
     /// A queue or a topic: 1 to 260 bytes.
     Entity,
@@ -19,7 +19,7 @@ pub enum NameKind {
 }
 
 /// The name has another length, or another byte than `a` to `z`, `0` to `9`, `.`, `-` and `_`.
-#[derive(Clone, Copy, Debug, PartialEq, Eq)]
+#[derive(Clone, Copy, PartialEq, Eq)]
 pub struct BadName;
 
 fn is_name_byte(b: u8) -> bool

@@ -22,7 +22,7 @@ use std::collections::VecDeque;
 pub const MAX_MOMENT: u64 = 253_402_214_400_000;
 
 /// Why a journal wasn't carried out again.
-#[derive(Clone, Copy, Debug, PartialEq, Eq)]
+#[derive(Clone, Copy, PartialEq, Eq)]
 pub enum ReplayFault {
     /// The record behind the gate at this place is no changing event of the state so far.
     NoEvent(u64),
@@ -44,8 +44,11 @@ fn carry_out(engine: &mut Engine, moment: u64, plan: Plan) -> Result<(), AllocEr
     requires { IsSound (engine_state engine.old) moment plan }
     ensures { OnOk result (engine_state engine.new ≡ carried_out moment plan (engine_state engine.old)) }
 {
-    engine.reserve(&plan)?;
-    let _answered = engine.commit(moment, plan);
+    let Ok(()) = engine.reserve(&plan) else {
+        drop(plan);
+        return Err(AllocError);
+    };
+    drop(engine.commit(moment, plan));
     Ok(())
 }
 
@@ -85,6 +88,7 @@ fn take_call(engine: &mut Engine, moment: u64, call: &Call) -> Result<bool, Allo
         Err(refusal) => return untaken(&refusal),
     };
     if !plan.is_changing() {
+        drop(plan);
         return Ok(false);
     }
     carry_out(engine, moment, plan)?;
@@ -110,7 +114,11 @@ fn take_payload(alloc: Global, engine: &mut Engine, payload: &[u8]) -> Result<bo
         (next_state (engine_state engine.old) (read_event payload.now) ≡ None)) }
 {
     match decode_event(alloc, payload)? {
-        Some(event) => take_event(engine, &event),
+        Some(event) => {
+            let taken = take_event(engine, &event);
+            drop(event);
+            taken
+        }
         None => Ok(false),
     }
 }

@@ -7,7 +7,7 @@ use std::marker::Model;
 /// Bytes that are owned and no longer change.
 ///
 /// In a contract a value is its list of bytes, also as a part of a struct, a variant or a `Vec`.
-#[derive(Debug, Drop)]
+#[derive(Drop)]
 pub struct Bytes {
     items: Vec<u8>,
 }

@@ -43,7 +43,7 @@ pub trait Conn {
 
 /// A connection to nobody: there is nothing to read, and each write of a piece that isn't empty is a
 /// fault.
-#[derive(Clone, Copy, Debug, Default)]
+#[derive(Clone, Copy, Default)]
 pub struct NoConn {
     faults: u64,
 }

@@ -4,7 +4,7 @@ ghost use Rattle.sb_outside.specs.Causes.{HasCause};
 ghost use Rattle.sb_outside.specs.Held.{Held, IsImage, Moves, MayMove, touched, shortened, at_rest, overwritten};
 
 /// A disk call failed.
-#[derive(Clone, Copy, Debug, PartialEq, Eq)]
+#[derive(Clone, Copy, PartialEq, Eq)]
 pub struct DiskFault;
 
 /// The most bytes that a disk holds.

@@ -22,8 +22,6 @@ mod memory_streams;
 mod network;
 mod step_clock;
 mod streams;
-#[cfg(test)]
-mod tests;
 
 pub use adapters::{
     Connected, FileDisk, HeldStreams, Reading, SystemClock, Writing, hold_streams, open_disk,

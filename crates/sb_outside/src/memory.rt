@@ -13,7 +13,7 @@ use crate::{Disk, DiskFault, LONGEST_DISK};
 use std::alloc::{AllocError, Global};
 
 // A call that changed what a crash may leave.
-#[derive(Clone, Copy, Debug)]
+#[derive(Clone, Copy)]
 pub(crate) enum DiskCall {
     // A place, and how many bytes.
     Write(u64, u64),
@@ -32,7 +32,7 @@ pub(crate) enum DiskCall {
 ///
 /// It keeps all its calls, and so tells what a crash could have left at each moment. Where its memory
 /// can't grow, that is a counted fault too.
-#[derive(Debug, Drop)]
+#[derive(Drop)]
 pub struct MemDisk {
     first: Vec<u8>,
     bytes: Vec<u8>,

@@ -4,7 +4,7 @@ ghost use Rattle.std.specs.Prelude.{◌≡◌, ℕ, List, Option, Some};
 use crate::{Conn, MemSink, MemSource, ReadFault, Sink, Source, WriteFault};
 
 /// A connection in memory: what the other side sends is a source, and what it is given is a sink.
-#[derive(Debug, Drop)]
+#[derive(Drop)]
 pub struct MemConn {
     source: MemSource,
     sink: MemSink,

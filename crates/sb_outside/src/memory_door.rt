@@ -7,7 +7,7 @@ use std::alloc::{AllocError, Global};
 
 /// A door in memory: it gives the connections of a list, ends behind the last of them, and fails at the
 /// calls of another list, which are numbered from 0. It keeps the connections that it takes back.
-#[derive(Debug, Drop)]
+#[derive(Drop)]
 pub struct MemDoor {
     conns: Vec<MemConn>,
     taken: Vec<MemConn>,

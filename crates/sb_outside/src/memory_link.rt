@@ -6,7 +6,7 @@ use crate::{Bytes, Link, LinkFault};
 use std::alloc::{AllocError, Global};
 
 // A request and the reply to it.
-#[derive(Debug, Drop)]
+#[derive(Drop)]
 struct Exchanged {
     request: Bytes,
     reply: Bytes,
@@ -14,7 +14,7 @@ struct Exchanged {
 
 /// A link in memory: it gives the replies of a list, one an exchange, and fails at the calls of another
 /// list, which are numbered from 0. Where no reply is left, that is a counted fault too.
-#[derive(Debug, Drop)]
+#[derive(Drop)]
 pub struct MemLink {
     alloc: Global,
     replies: Vec<Bytes>,

@@ -26,7 +26,7 @@ pub(crate) fn read_at(from: &[u8], place: usize, most: usize, into: &mut [u8]) -
 /// A source in memory that never fails.
 ///
 /// It gives at most `most` bytes a read, so that a reader meets its input cut anywhere.
-#[derive(Debug, Drop)]
+#[derive(Drop)]
 pub struct SureSource {
     bytes: Vec<u8>,
     at: usize,
@@ -58,7 +58,7 @@ impl Source for SureSource {
 }
 
 /// A source in memory that fails at the calls of a list, which are numbered from 0.
-#[derive(Debug, Drop)]
+#[derive(Drop)]
 pub struct MemSource {
     inner: SureSource,
     faults: CallFaults,
@@ -108,7 +108,7 @@ impl Source for MemSource {
 
 /// A sink in memory, which keeps all that it is given, and fails at the calls of a list, which are
 /// numbered from 0. Where its memory can't grow, that is a counted fault too.
-#[derive(Debug, Drop)]
+#[derive(Drop)]
 pub struct MemSink {
     given: Vec<u8>,
     faults: CallFaults,

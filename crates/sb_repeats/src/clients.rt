@@ -12,6 +12,7 @@ ghost use Rattle.sb_machine.specs.Repeats.{is_client, kept_for};
 use sb_machine::Kept;
 use std::alloc::{AllocError, Global};
 use std::marker::Model;
+use std::mem;
 
 /// What is kept of each client of a namespace.
 #[derive(Drop)]
@@ -126,7 +127,7 @@ fn insert_row(rows: &mut Vec<Kept>, kept: Kept)
     ensures capacity { vec_capacity rows.new ≡ vec_capacity rows.old }
 {
     let place = entry_of(rows, kept.client.as_str());
-    let _ = rows.insert(place, kept);
+    drop(rows.insert(place, kept));
 }
 
 fn replace_at(rows: &mut Vec<Kept>, place: usize, kept: Kept)
@@ -135,7 +136,8 @@ fn replace_at(rows: &mut Vec<Kept>, place: usize, kept: Kept)
     ensures len { vec_len rows.new ≡ vec_len rows.old }
     ensures capacity { vec_capacity rows.new ≡ vec_capacity rows.old }
 {
-    rows[place] = kept;
+    let old = mem::replace(&mut rows[place], kept);
+    drop(old);
 }
 
 fn keep_row(rows: &mut Vec<Kept>, kept: Kept)

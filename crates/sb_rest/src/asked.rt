@@ -6,7 +6,7 @@ use sb_machine::Mode;
 use sb_routes::Address;
 
 /// What is asked for.
-#[derive(Clone, Copy, Debug, PartialEq, Eq, Drop)]
+#[derive(Clone, Copy, PartialEq, Eq, Drop)]
 pub enum Asked {
     Send,
     /// To receive the first message, under a lock or with deletion.

@@ -22,7 +22,7 @@ use sb_routes::{Address, Route, Routes, cut};
 use std::alloc::Global;
 
 /// Why a request is no call.
-#[derive(Debug, Drop)]
+#[derive(Drop)]
 pub enum RestFault {
     /// There is no such path.
     NoRoute,
@@ -37,7 +37,7 @@ pub enum RestFault {
 }
 
 /// A call, and how long it may wait.
-#[derive(Debug, Drop)]
+#[derive(Drop)]
 pub struct Wanted {
     pub call: Call,
     /// For how long a receive may wait for a message, in s: 0 to 3,600.
@@ -106,8 +106,13 @@ fn take(
     ensures { Answers result (calls.with_timeout query.now (calls.taken address mode path.now)) }
 {
     let act = taken(alloc, address, mode, path)?;
-    let timeout = timeout_in(alloc, query)?;
-    Ok(in_time(act, timeout))
+    match timeout_in(alloc, query) {
+        Ok(timeout) => Ok(in_time(act, timeout)),
+        Err(fault) => {
+            drop(act);
+            Err(fault)
+        }
+    }
 }
 
 fn settle(
@@ -120,16 +125,26 @@ fn settle(
     ensures { Answers result (calls.with_timeout query.now (calls.with_locked address path.now (calls.settled how))) }
 {
     let act = settled(alloc, address, path, how)?;
-    let timeout = timeout_in(alloc, query)?;
-    Ok(in_time(act, timeout))
+    match timeout_in(alloc, query) {
+        Ok(timeout) => Ok(in_time(act, timeout)),
+        Err(fault) => {
+            drop(act);
+            Err(fault)
+        }
+    }
 }
 
 fn renew(alloc: Global, address: Address, path: &[u8], query: &[u8]) -> Result<Wanted, LineFault>
     ensures { Answers result (calls.with_timeout query.now (calls.with_locked address path.now calls.renewed)) }
 {
     let act = renewed(alloc, address, path)?;
-    let timeout = timeout_in(alloc, query)?;
-    Ok(in_time(act, timeout))
+    match timeout_in(alloc, query) {
+        Ok(timeout) => Ok(in_time(act, timeout)),
+        Err(fault) => {
+            drop(act);
+            Err(fault)
+        }
+    }
 }
 
 // A method and a path that go together, before the query, the headers and the body.

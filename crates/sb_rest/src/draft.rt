@@ -9,7 +9,7 @@ use sb_model::{Message, Property, Rows, SystemName, SystemText, Text};
 use std::alloc::{AllocError, Global};
 
 /// What BrokerProperties say.
-#[derive(Debug, Drop)]
+#[derive(Drop)]
 pub struct Broker {
     /// By code of the name, none twice, without ContentType.
     pub texts: Rows<SystemText>,
@@ -20,7 +20,7 @@ pub struct Broker {
 }
 
 /// What is said so far.
-#[derive(Debug, Drop)]
+#[derive(Drop)]
 pub struct Draft {
     pub broker: Broker,
     /// Empty where there is none.

@@ -9,7 +9,7 @@ use sb_machine::Part;
 use std::alloc::{AllocError, Global};
 
 /// Whose messages a path names.
-#[derive(Clone, Copy, Debug, PartialEq, Eq, Drop)]
+#[derive(Clone, Copy, PartialEq, Eq, Drop)]
 pub enum Address {
     /// A part of a queue or topic.
     Entity(Part),
@@ -18,7 +18,7 @@ pub enum Address {
 }
 
 /// What a path names.
-#[derive(Clone, Copy, Debug, PartialEq, Eq, Drop)]
+#[derive(Clone, Copy, PartialEq, Eq, Drop)]
 pub enum Route {
     /// The messages of a queue or topic, to which one is sent.
     Messages,

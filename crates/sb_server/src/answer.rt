@@ -19,7 +19,7 @@ use std::alloc::{AllocError, Global};
 use std::sync::Wait;
 
 /// What comes after a response.
-#[derive(Clone, Copy, Debug, PartialEq, Eq)]
+#[derive(Clone, Copy, PartialEq, Eq)]
 pub enum Turn {
     /// The next request.
     Goes,
@@ -30,7 +30,7 @@ pub enum Turn {
 }
 
 /// The bytes of a response, where there was memory for them, and what comes after it.
-#[derive(Debug, Drop)]
+#[derive(Drop)]
 pub struct Written {
     pub bytes: Result<Vec<u8>, AllocError>,
     pub turn: Turn,
@@ -85,6 +85,8 @@ fn answer_once<V: Served, R: Wait, C: Clock>(
     let (pass, answer) = call_once(rt, desk, pass, clock.now(), &wanted.call);
     let bytes = call_bytes(alloc, &wanted.call, &answer, &host, closes);
     let turn = turn_of(closes, stops(&answer));
+    drop(wanted);
+    drop(answer);
     (pass, Written { bytes, turn })
 }
 
@@ -108,6 +110,8 @@ fn answer_patient<V: Served, R: Wait, C: Clock>(
     let (pass, answer) = receive_waiting(rt, desk, pass, clock, limit_ms, &wanted.call);
     let bytes = call_bytes(alloc, &wanted.call, &answer, &host, closes);
     let turn = turn_of(closes, stops(&answer));
+    drop(wanted);
+    drop(answer);
     (pass, Written { bytes, turn })
 }
 
@@ -127,6 +131,7 @@ fn answer_line<V: Served, R: Wait, C: Clock>(
     ensures desk { IsOf desk.now result.0 }
 {
     let (pass, answer) = call_once(rt, desk, pass, clock.now(), &timed.call);
+    drop(timed);
     (pass, write_line(alloc, answer, closes))
 }
 

@@ -17,7 +17,7 @@ use sb_routes::Routes;
 use std::alloc::Global;
 
 /// What a request asks for. A host is the one that the request names, or `localhost`.
-#[derive(Debug, Drop)]
+#[derive(Drop)]
 pub enum Ask {
     /// A call that is answered at once.
     Once {
@@ -86,6 +86,7 @@ fn called(alloc: Global, request: &Request, wanted: Wanted) -> Ask
     ensures { asks.AsksFor (said_by request.now) result }
 {
     let Ok(host) = Bytes::of(alloc, host_of(request)) else {
+        drop(wanted);
         return Ask::Fault {
             fault: RestFault::OutOfMemory,
         };

@@ -10,7 +10,7 @@ use std::alloc::Global;
 
 /// What was taken of the bytes that came: what a request asks for and whether the connection ends
 /// with its response, or no request yet, or why there is none.
-#[derive(Debug, Drop)]
+#[derive(Drop)]
 pub(crate) enum Took {
     One(Ask, bool),
     NoneYet,
@@ -18,7 +18,7 @@ pub(crate) enum Took {
 }
 
 /// What came of a connection: the same, or how it ended.
-#[derive(Debug, Drop)]
+#[derive(Drop)]
 pub(crate) enum Came {
     Asked(Ask, bool),
     Refused(HttpFault),

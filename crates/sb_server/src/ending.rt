@@ -2,7 +2,7 @@
 
 /// How a connection ended, for its server. Each response but that of a fault of the connection or of
 /// want of memory was written in full.
-#[derive(Clone, Copy, Debug, PartialEq, Eq)]
+#[derive(Clone, Copy, PartialEq, Eq)]
 pub enum Ending {
     /// The other side ended between two requests, or a response ended the connection.
     Closed,
@@ -24,7 +24,7 @@ pub enum Ending {
 }
 
 /// How the workers of several doors ended.
-#[derive(Clone, Copy, Debug, PartialEq, Eq)]
+#[derive(Clone, Copy, PartialEq, Eq)]
 pub enum ServeEnding {
     /// Each worker served as many connections as were asked for, or its door ended, or the namespace
     /// acts no more.

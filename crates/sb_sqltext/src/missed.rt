@@ -2,7 +2,7 @@ use sb_model::Kind;
 use std::alloc::AllocError;
 
 /// Why no tree was read: the tokens from the one on that fits nowhere, or want of memory.
-#[derive(Debug, Drop)]
+#[derive(Drop)]
 pub(crate) enum Missed<'a> {
     Here(&'a [Kind]),
     OutOfMemory,

@@ -2,7 +2,7 @@
 use std::alloc::AllocError;
 
 /// Why a text gave no tree.
-#[derive(Clone, Copy, Debug, PartialEq, Eq, Drop)]
+#[derive(Clone, Copy, PartialEq, Eq, Drop)]
 pub enum ParseFault {
     /// The text spells none. The place, in bytes, is where the longest sequence of whole tokens
     /// ends that some text of the grammar continues, or that of character 1,025.

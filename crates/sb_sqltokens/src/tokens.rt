@@ -11,7 +11,7 @@ use sb_model::{Kind, PropertyValue, Role};
 use std::alloc::{AllocError, Global};
 
 /// The tokens of a text in order, and beside each the place in bytes at which it ends.
-#[derive(Debug, Drop)]
+#[derive(Drop)]
 pub struct Tokens {
     pub kinds: Vec<Kind>,
     pub ends: Vec<usize>,

@@ -1,6 +1,6 @@
 // The commands, what a form of the words names, and what is wrong with words.
 /// What a call of the program is to do.
-#[derive(Clone, Copy, Debug, PartialEq, Eq)]
+#[derive(Clone, Copy, PartialEq, Eq)]
 pub enum Command {
     /// Answer the script lines of the input.
     Run,
@@ -30,7 +30,7 @@ pub struct Form<'w> {
 }
 
 /// What a command needs of the outside: a form with its own folder.
-#[derive(Debug, Drop)]
+#[derive(Drop)]
 pub struct Needs {
     /// What is to be done.
     pub command: Command,
@@ -45,7 +45,7 @@ pub struct Needs {
 }
 
 /// Why there is no form.
-#[derive(Clone, Copy, Debug, Drop, PartialEq, Eq)]
+#[derive(Clone, Copy, Drop, PartialEq, Eq)]
 pub enum WordsFault {
     /// The words name no command.
     BadWords,

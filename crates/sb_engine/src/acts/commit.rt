@@ -120,6 +120,7 @@ fn acted(
         moment,
         operations,
     ) else {
+        drop(sending);
         return Err(Refusal::OutOfMemory);
     };
     let Sending { changes, .. } = sending;
@@ -128,7 +129,10 @@ fn acted(
             reply: Reply::Committed,
             changes,
         }),
-        Err(refusal) => Err(refusal),
+        Err(refusal) => {
+            drop(changes);
+            Err(refusal)
+        }
     }
 }
 

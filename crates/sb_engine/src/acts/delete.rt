@@ -59,7 +59,10 @@ fn remove(alloc: Global, space: &SpaceStore, about: &Listed) -> Result<Draft, Re
     let mut draft = Draft::changing(alloc, Reply::Done, Change::Removes { entity });
     match remove_with(&mut draft.changes, space, about) {
         Ok(()) => Ok(draft),
-        Err(_) => Err(Refusal::OutOfMemory),
+        Err(_) => {
+            drop(draft);
+            Err(Refusal::OutOfMemory)
+        }
     }
 }
 

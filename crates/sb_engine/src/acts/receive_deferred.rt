@@ -55,7 +55,10 @@ fn expired_deferred(
 {
     let mut lasts = Lasts::new(alloc);
     let mut changes = Changes::new(alloc);
-    expired(alloc, space, &mut lasts, &mut changes, entity, copy, false)?;
+    let Ok(()) = expired(alloc, space, &mut lasts, &mut changes, entity, copy, false) else {
+        drop(changes);
+        return Err(AllocError);
+    };
     let reply = Reply::Expired {
         number: copy.number,
     };

@@ -114,6 +114,7 @@ fn sent(
 {
     let mut sending = Sending::behind(alloc, Changes::new(alloc));
     let Ok(()) = send_all(alloc, space, &mut sending, entity, moment, messages) else {
+        drop(sending);
         return Err(Refusal::OutOfMemory);
     };
     let Sending {
@@ -121,7 +122,10 @@ fn sent(
         receipts,
         ..
     } = sending;
-    judge_quota(space, moment, &changes)?;
+    if let Err(refusal) = judge_quota(space, moment, &changes) {
+        drop(changes);
+        return Err(refusal);
+    }
     Ok(Draft {
         reply: Reply::Sent(Rows::from_vec(receipts)),
         changes,

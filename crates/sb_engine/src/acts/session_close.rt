@@ -109,7 +109,7 @@ fn close(
 {
     let mut lasts = Lasts::new(alloc);
     let mut changes = Changes::new(alloc);
-    closed(
+    let Ok(()) = closed(
         alloc,
         space,
         &mut lasts,
@@ -118,7 +118,10 @@ fn close(
         entity,
         part,
         lock,
-    )?;
+    ) else {
+        drop(changes);
+        return Err(AllocError);
+    };
     Ok(Draft {
         reply: Reply::Done,
         changes,

@@ -41,7 +41,7 @@ fn settled_now(
 {
     let mut lasts = Lasts::new(alloc);
     let mut changes = Changes::new(alloc);
-    settled(
+    let Ok(()) = settled(
         alloc,
         space,
         &mut lasts,
@@ -51,7 +51,10 @@ fn settled_now(
         part,
         copy,
         how,
-    )?;
+    ) else {
+        drop(changes);
+        return Err(AllocError);
+    };
     Ok(Draft {
         reply: Reply::Done,
         changes,
