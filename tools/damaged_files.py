@@ -18,10 +18,11 @@ import collections
 import json
 import os
 import shutil
-import subprocess
 import sys
 import tempfile
 from concurrent.futures import ProcessPoolExecutor
+
+import lib
 
 MAGIC = b"SBNSJRNL"
 MAX_COUNT = 1 << 62
@@ -31,12 +32,12 @@ MAX_BODIES = 262_144
 NAME_BYTES = set(b"abcdefghijklmnopqrstuvwxyz0123456789.-_")
 DEFAULT = {"lock": 60, "ttl": None, "most": 10, "window": None, "flags": (0, 0, 1), "to": (None, None)}
 
-SCRIPT = (
-    '{"at":1000,"do":"create-queue","name":"orders"}\n'
-    '{"at":2000,"do":"send","to":"orders","messages":[{"body":"two lamps"},{"body":"one chair"}]}\n'
-    '{"at":4000,"do":"receive","from":"orders","mode":"delete"}\n'
-)
-PEEK = '{"do":"peek","from":"orders","start":1,"count":100}\n'
+SCRIPT = [
+    '{"at":1000,"do":"create-queue","name":"orders"}',
+    '{"at":2000,"do":"send","to":"orders","messages":[{"body":"two lamps"},{"body":"one chair"}]}',
+    '{"at":4000,"do":"receive","from":"orders","mode":"delete"}',
+]
+PEEK = ['{"do":"peek","from":"orders","start":1,"count":100}']
 NOT_FOUND = '{"refused":"EntityNotFound"}\n'
 
 
@@ -312,7 +313,7 @@ def is_new_file(data):
 
 
 def run(program, folder, lines):
-    done = subprocess.run([program, "run", "--data", folder], input=lines.encode(), capture_output=True, timeout=60, check=False)
+    done = lib.run(program, folder, lines)
     return done.stdout.decode("utf-8", "surrogateescape"), done.returncode
 
 

@@ -18,6 +18,8 @@ import subprocess
 import sys
 import tempfile
 
+import lib
+
 SHIM = r"""
 #define _GNU_SOURCE
 #include <dlfcn.h>
@@ -135,10 +137,9 @@ def behind_head(folder):
 
 
 def main():
-    if len(sys.argv) != 2:
-        sys.exit(__doc__)
+    program, _ = lib.given_words(__doc__)
     with tempfile.TemporaryDirectory() as work:
-        trial = Trial(os.path.realpath(sys.argv[1]), work)
+        trial = Trial(program, work)
         wrong = trial.sweep("first run", None, FIRST)
         base = f"{work}/base"
         os.mkdir(base)

@@ -9,15 +9,14 @@ pipelined and cut after each byte. Two connections are open at once where a rece
 of a server is free again once its caller has said nothing for 60 seconds. The exit status is 1 where something is
 answered otherwise.
 """
-import os
 import re
-import signal
 import socket
 import subprocess
-import sys
 import tempfile
 import threading
 import time
+
+from lib import free_port, given_words, serving, start, tell, wants
 
 SEND = b"POST /Q/messages HTTP/1.1\r\nHost: h\r\nContent-Length: 2\r\n\r\nhi"
 RECEIVE = b"POST /q/messages/head?timeout=0 HTTP/1.1\r\nHost: h\r\n\r\n"
@@ -33,35 +32,6 @@ RECEIVED = re.compile(
     )
     % (TIME, TOKEN, TIME)
 )
-
-
-class Failed(Exception):
-    """Something was answered otherwise."""
-
-
-def wants(is_so, what):
-    if not is_so:
-        raise Failed(what)
-
-
-def free_port():
-    with socket.socket() as probe:
-        probe.bind(("127.0.0.1", 0))
-        return probe.getsockname()[1]
-
-
-def start(program, folder, port, *words):
-    server = subprocess.Popen(
-        [program, "serve", "--data", folder, "--port", str(port), *words], stdout=subprocess.PIPE, text=True
-    )
-    for _ in range(600):
-        if server.poll() is not None:
-            raise Failed(f"the server ended with status {server.returncode}")
-        with open("/proc/net/tcp", encoding="ascii") as sockets:
-            if f"0100007F:{port:04X} 00000000:0000 0A" in sockets.read():
-                return server
-        time.sleep(0.05)
-    raise Failed("the server doesn't listen")
 
 
 def client(program, port, lines, status):
@@ -145,9 +115,8 @@ def two_at_once(port):
 
 
 def all_rows(program):
-    folder, port = tempfile.mkdtemp(), free_port()
-    server = start(program, folder, port)
-    try:
+    port = free_port()
+    with tempfile.TemporaryDirectory() as folder, serving(program, folder, port):
         told = client(program, port, ['{"do":"create-queue","name":"q"}', '{"do":"counts","entity":"q"}'], 0)
         wants(
             told == ['{"ok":"done"}', '{"counts":{"dead":0,"main":0,"transfer":0},"ok":"counts"}'],
@@ -156,41 +125,39 @@ def all_rows(program):
         two_requests(port)
         by_curl(port)
         two_at_once(port)
-        busy = subprocess.run(
-            [program, "serve", "--data", tempfile.mkdtemp(), "--port", str(port)], capture_output=True, text=True, check=False
-        )
-        wants(
-            busy.returncode == 11 and busy.stderr.count("\n") == 1 and not busy.stdout,
-            f"a port in use: status {busy.returncode}, {busy.stderr}",
-        )
-    finally:
-        server.send_signal(signal.SIGTERM)
-        server.wait()
+        port_in_use(program, port)
     two_workers_end(program)
     silent_caller(program)
+
+
+def port_in_use(program, port):
+    with tempfile.TemporaryDirectory() as folder:
+        words = [program, "serve", "--data", folder, "--port", str(port)]
+        busy = subprocess.run(words, capture_output=True, text=True, check=False)
+    wants(
+        busy.returncode == 11 and busy.stderr.count("\n") == 1 and not busy.stdout,
+        f"a port in use: status {busy.returncode}, {busy.stderr}",
+    )
 
 
 def silent_caller(program):
     """One worker, whose caller says nothing: another is served once a minute has passed."""
     port = free_port()
-    server = start(program, tempfile.mkdtemp(), port, "--workers", "1")
-    try:
+    with tempfile.TemporaryDirectory() as folder, serving(program, folder, port, "--workers", "1"):
         with socket.create_connection(("127.0.0.1", port)):
             begun = time.monotonic()
             code, _ = curl(port, "-X", "POST", "--data-binary", "hi", "/q/messages")
             waited = time.monotonic() - begun
         wants(code == 410 and 55 < waited < 75, f"{code} after {waited:.1f} seconds beside a silent caller")
-    finally:
-        server.send_signal(signal.SIGTERM)
-        server.wait()
 
 
 def two_workers_end(program):
     """Each worker ends after one connection, and the numbers of the history are told."""
-    folder, port = tempfile.mkdtemp(), free_port()
-    server = start(program, folder, port, "--workers", "2", "--connections", "1")
-    client(program, port, ['{"do":"create-queue","name":"q"}', '{"do":"delete","entity":"r"}'], 1)
-    told, _ = server.communicate(timeout=20)
+    port = free_port()
+    with tempfile.TemporaryDirectory() as folder:
+        server = start(program, folder, port, "--workers", "2", "--connections", "1")
+        client(program, port, ['{"do":"create-queue","name":"q"}', '{"do":"delete","entity":"r"}'], 1)
+        told, _ = server.communicate(timeout=20)
     wants(
         told == '{"changing":1,"entries":2,"ok":"report","refused":1}\n' and server.returncode == 0,
         f"status {server.returncode}, {told!r}",
@@ -198,13 +165,9 @@ def two_workers_end(program):
 
 
 def main():
-    if len(sys.argv) != 2:
-        sys.exit(__doc__)
-    try:
-        all_rows(os.path.realpath(sys.argv[1]))
-    except Failed as failed:
-        sys.exit(f"failed: {failed}")
-    print("ok")
+    program, _ = given_words(__doc__)
+    tell(lambda: all_rows(program))
 
 
-main()
+if __name__ == "__main__":
+    main()

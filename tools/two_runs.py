@@ -10,10 +10,11 @@ that the first one acknowledged. So it is also where the first run ends by itsel
 where something else happens.
 """
 import json
-import os
 import subprocess
 import sys
 import tempfile
+
+import lib
 
 CREATE = '{"do":"create-queue","name":"q"}'
 PEEK = '{"do":"peek","from":"q","start":1,"count":100}'
@@ -24,9 +25,7 @@ def send(body):
 
 
 def main():
-    if len(sys.argv) != 2:
-        sys.exit(__doc__)
-    program = os.path.realpath(sys.argv[1])
+    program, _ = lib.given_words(__doc__)
     failed = []
 
     def expect(what, holds):
@@ -42,25 +41,21 @@ def main():
         run.stdin.write(line + "\n")
         return json.loads(run.stdout.readline())
 
-    def once(folder, line):
-        words = [program, "run", "--data", folder]
-        return subprocess.run(words, input=line + "\n", capture_output=True, text=True)
-
     def journal(folder):
         with open(f"{folder}/a.journal", "rb") as file:
             return file.read()
 
     def is_kept_out(name, folder):
         before = journal(folder)
-        second = once(folder, send("of the second run"))
-        print(second.stderr, end="")
+        second = lib.run(program, folder, [send("of the second run")])
+        print(second.stderr.decode(), end="")
         expect(f"{name}: a second run ends with 11", second.returncode == 11)
-        expect(f"{name}: it says so in one line", second.stderr.count("\n") == 1)
-        expect(f"{name}: it answers nothing", second.stdout == "")
+        expect(f"{name}: it says so in one line", second.stderr.count(b"\n") == 1)
+        expect(f"{name}: it answers nothing", second.stdout == b"")
         expect(f"{name}: it writes nothing", journal(folder) == before)
 
     def finds(name, folder, bodies):
-        third = once(folder, PEEK)
+        third = lib.run(program, folder, [PEEK])
         expect(f"{name}: a third run ends with 0", third.returncode == 0)
         found = [copy["body"] for copy in json.loads(third.stdout or "{}").get("copies", [])]
         expect(f"{name}: it finds what was acknowledged", found == bodies)

@@ -15,9 +15,11 @@ import sys
 import tempfile
 import uuid
 
+import lib
+
 SALT = "a1b2c3d4-e5f6-0718"
 AFTER = {"LATER_RUN": "TIME_GOES_ON", "REPEATED": "NUMBERED"}
-ROWS = os.path.join(os.path.dirname(__file__), "..", "crates", "sb_bus", "src", "rows.rt")
+ROWS = os.path.join(lib.TOP, "crates", "sb_bus", "src", "rows.rt")
 
 
 def salt_of(folder):
@@ -48,9 +50,7 @@ def run(program, folder, pairs):
 
 
 def main():
-    if len(sys.argv) != 2:
-        sys.exit(__doc__)
-    program = os.path.realpath(sys.argv[1])
+    program, _ = lib.given_words(__doc__)
     with open(ROWS, encoding="utf-8") as rows:
         scripts = re.findall(r'const ([A-Z_]+): &str = r#"\n(.*?)"#;', rows.read(), re.S)
     folders = {}

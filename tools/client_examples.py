@@ -1,0 +1,110 @@
+#!/usr/bin/env python3
+"""Runs the client programs of examples/ against a server.
+
+usage: tools/client_examples.py PROGRAM
+
+PROGRAM is the built program (crates/sb_bus/out/sb_bus). The numbered sends go on through a server that is killed
+and started again, and through a second call with the same lines; the worker gets an order that takes longer than
+its lock and one that is none; the sessions are worked off in order. It needs node and curl. The exit status is
+1 where something else happens.
+"""
+import os
+import signal
+import subprocess
+import tempfile
+import time
+
+import lib
+
+EXAMPLES = os.path.join(lib.TOP, "examples")
+LINES = [f"order {number}" for number in range(1, 1001)]
+
+
+def made_queue(port, name, **fields):
+    with lib.Caller(port) as caller:
+        reply = caller.line({"do": "create-queue", "name": name, **fields})
+        lib.wants(reply == {"ok": "done"}, f"{name} was answered {reply}")
+
+
+def sent(port, queue, bodies, **fields):
+    with lib.Caller(port) as caller:
+        reply = caller.line({"do": "send", "to": queue, "messages": [{"body": body, **fields} for body in bodies]})
+        lib.wants(reply.get("ok") == "sent", f"a send was answered {reply}")
+
+
+def example(name, *words, **how):
+    """An example's process, whose input and output are pipes."""
+    pipe = subprocess.PIPE
+    return subprocess.Popen([os.path.join(EXAMPLES, name), *words], stdin=pipe, stdout=pipe, stderr=pipe, text=True, **how)
+
+
+def output(process, given=""):
+    told, faults = process.communicate(given, timeout=120)
+    lib.wants(process.returncode == 0, f"{process.args[0]} ended with status {process.returncode}: {faults}")
+    return told
+
+
+def numbered_sends(program, folder, port):
+    words = [str(port), "sends", "desk 1"]
+    server = lib.start(program, folder, port)
+    try:
+        made_queue(port, "sends")
+        sender = example("numbered_sends.py", *words)
+        sender.stdin.write("".join(f"{line}\n" for line in LINES))
+        sender.stdin.flush()
+        for _ in range(3):
+            time.sleep(0.4)
+            lib.stop(server, signal.SIGKILL)
+            server = lib.start(program, folder, port)
+        output(sender)
+        told = output(example("numbered_sends.py", *words), "".join(f"{line}\n" for line in LINES))
+        lib.wants(told == "0 sent\n", f"the same lines again were told as {told}")
+        lib.wants(lib.taken(port, "sends") == LINES, "a line was lost, doubled or came out of turn")
+    finally:
+        lib.stop(server)
+
+
+def worker(port):
+    made_queue(port, "orders", lock=5)
+    sent(port, "orders", ['{"seconds":0}', '{"seconds":7}', "a lamp", '{"seconds":0}'])
+    told = output(example("worker.mjs", str(port), "orders", "2"))
+    wanted = ["1 done", "2 done", "3 is no order: the order is no JSON", "4 done"]
+    lib.wants(told.splitlines() == wanted, f"the worker wrote {told}")
+    with lib.Caller(port) as caller:
+        counts = caller.line({"do": "counts", "entity": "orders"})["counts"]
+        dead = caller.line({"do": "receive", "from": "orders/$deadletterqueue", "mode": "delete"})["message"]
+    lib.wants(counts == {"dead": 1, "main": 0, "transfer": 0}, f"behind the worker stand {counts}")
+    reasons = {"deadletterreason": "BadOrder", "deadlettererrordescription": "the order is no JSON"}
+    lib.wants(dead["body"] == "a lamp" and dead["props"] == reasons, f"the dead letter is {dead}")
+
+
+def sessions(port):
+    made_queue(port, "jobs", requires_session=True)
+    for number in (1, 2, 3):
+        for id in ("a", "b"):
+            sent(port, "jobs", [f'{id} "{number}"'], sys={"SessionId": id})
+    told = output(example("sessions.sh", str(port), "jobs"))
+    wanted = [f'{id} "{id} \\"{number}\\""' for id in ("a", "b") for number in (1, 2, 3)]
+    lib.wants(told.splitlines() == wanted, f"the sessions were told as {told}")
+    with lib.Caller(port) as caller:
+        held = caller.line({"do": "accept", "from": "jobs", "id": "a"})
+        state = caller.line({"do": "session-state", "from": "jobs", "session": held["session"]})
+    lib.wants(state == {"ok": "state", "state": "3"}, f"the session remembers {state}")
+
+
+def tried(program):
+    with tempfile.TemporaryDirectory() as folder:
+        numbered_sends(program, folder, lib.free_port())
+    port = lib.free_port()
+    with tempfile.TemporaryDirectory() as folder, lib.serving(program, folder, port):
+        worker(port)
+        sessions(port)
+
+
+def main():
+    program, _ = lib.given_words(__doc__)
+    lib.tell(lambda: tried(program))
+
+
+if __name__ == "__main__":
+    main()
