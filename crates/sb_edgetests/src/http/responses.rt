@@ -1,0 +1,68 @@
+use sb_http::{Header, Response, Status, write_response};
+use std::alloc::Global;
+use std::test::Fail;
+
+fn header(alloc: Global, name: &str, value: &str) -> Result<Header, Fail> {
+    Ok(Header {
+        name: name.as_bytes().to_vec(alloc)?,
+        value: value.as_bytes().to_vec(alloc)?,
+    })
+}
+
+// RFC 9110, section 15: each status line.
+#[test]
+fn status_lines(rt: HostRuntime) -> Result<(), Fail> {
+    let rows = [
+        (Status::Ok, "200 OK"),
+        (Status::Created, "201 Created"),
+        (Status::NoContent, "204 No Content"),
+        (Status::BadRequest, "400 Bad Request"),
+        (Status::Forbidden, "403 Forbidden"),
+        (Status::NotFound, "404 Not Found"),
+        (Status::MethodNotAllowed, "405 Method Not Allowed"),
+        (Status::Conflict, "409 Conflict"),
+        (Status::Gone, "410 Gone"),
+        (Status::PayloadTooLarge, "413 Payload Too Large"),
+        (
+            Status::HeaderFieldsTooLarge,
+            "431 Request Header Fields Too Large",
+        ),
+        (Status::InternalServerError, "500 Internal Server Error"),
+        (Status::ServiceUnavailable, "503 Service Unavailable"),
+    ];
+    let alloc = rt.alloc();
+    for (status, line) in rows {
+        let response = Response {
+            status,
+            headers: Vec::new(alloc),
+            body: Vec::new(alloc),
+            closes: false,
+        };
+        let bytes = write_response(alloc, &response)?;
+        let mut wanted = b"HTTP/1.1 ".to_vec(alloc)?;
+        wanted.extend_from_slice(line.as_bytes())?;
+        wanted.extend_from_slice(b"\r\n")?;
+        assert!(rt; bytes.starts_with(&wanted), "{line}");
+    }
+    Ok(())
+}
+
+// RFC 9112, sections 6.2 and 9.6: headers in order, the length, the end of the connection, the body.
+#[test]
+fn whole_response(rt: HostRuntime) -> Result<(), Fail> {
+    let alloc = rt.alloc();
+    let mut headers = Vec::new(alloc);
+    headers.push(header(alloc, "Location", "http://h/q")?)?;
+    headers.push(header(alloc, "Content-Type", "application/json")?)?;
+    let response = Response {
+        status: Status::Created,
+        headers,
+        body: b"0123456789".to_vec(alloc)?,
+        closes: true,
+    };
+    let bytes = write_response(alloc, &response)?;
+    let wanted =
+        b"HTTP/1.1 201 Created\r\nLocation: http://h/q\r\nContent-Type: application/json\r\nContent-Length: 10\r\nConnection: close\r\n\r\n0123456789";
+    assert_eq!(rt; bytes.as_slice(), wanted.as_slice());
+    Ok(())
+}

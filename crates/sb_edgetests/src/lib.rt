@@ -1,0 +1,12 @@
+//! The outside, the journal, requests and responses of HTTP and the client, run: what no contract says is
+//! that memory is there, what a real file does, and that the definitions mean what the standards say.
+#![tactic(auto)]
+
+#[cfg(test)]
+mod client;
+#[cfg(test)]
+mod http;
+#[cfg(test)]
+mod journal;
+#[cfg(test)]
+mod outside;
