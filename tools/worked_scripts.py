@@ -1,5 +1,5 @@
 #!/usr/bin/env python3
-"""Runs the scripts of crates/sb_bus/src/rows.rt with the built program over real files.
+"""Runs the scripts of crates/sb_apptests/src/rows.rt with the built program over real files.
 
 usage: tools/worked_scripts.py PROGRAM
 
@@ -17,7 +17,7 @@ import uuid
 
 SALT = "a1b2c3d4-e5f6-0718"
 AFTER = {"LATER_RUN": "TIME_GOES_ON", "REPEATED": "NUMBERED"}
-ROWS = os.path.join(os.path.dirname(__file__), "..", "crates", "sb_bus", "src", "rows.rt")
+ROWS = os.path.join(os.path.dirname(__file__), "..", "crates", "sb_apptests", "src", "rows.rt")
 
 
 def salt_of(folder):
