@@ -1,8 +1,12 @@
 // The kinds of tables, each with a folder of its own under `data/`.
 use crate::actions::Actions;
+use crate::conversations::try_conversation;
 use crate::filters::Filters;
+use crate::journals::Journals;
 use crate::operators::Operators;
 use crate::outcome::{Outcome, try_rows};
+use crate::refusals::Refusals;
+use crate::requests::Requests;
 use crate::table::Case;
 use crate::texts::Texts;
 use anyhow::Result;
@@ -14,11 +18,22 @@ pub enum Kind {
     Filters,
     Operators,
     Actions,
+    Requests,
+    Refusals,
+    Conversations,
 }
 
 impl Kind {
     /// All kinds, in the order in which they are tried.
-    pub const ALL: [Kind; 4] = [Kind::Texts, Kind::Filters, Kind::Operators, Kind::Actions];
+    pub const ALL: [Kind; 7] = [
+        Kind::Texts,
+        Kind::Filters,
+        Kind::Operators,
+        Kind::Actions,
+        Kind::Requests,
+        Kind::Refusals,
+        Kind::Conversations,
+    ];
 
     /// The folder of its tables.
     pub fn folder(self) -> &'static str {
@@ -27,16 +42,27 @@ impl Kind {
             Kind::Filters => "filters",
             Kind::Operators => "operators",
             Kind::Actions => "actions",
+            Kind::Requests => "requests",
+            Kind::Refusals => "refusals",
+            Kind::Conversations => "conversations",
         }
     }
 
-    /// Tries a case of one of its tables.
-    pub fn try_case(self, alloc: Global, case: &Case<'_>) -> Result<Outcome> {
+    /// Tries a case of one of its tables; the journals are what the cases before it left.
+    pub fn try_case(
+        self,
+        alloc: Global,
+        case: &Case<'_>,
+        journals: &mut Journals,
+    ) -> Result<Outcome> {
         match self {
             Kind::Texts => try_rows(alloc, case, Texts::new()),
             Kind::Filters => try_rows(alloc, case, Filters::new(alloc)?),
             Kind::Operators => try_rows(alloc, case, Operators::new(alloc)?),
             Kind::Actions => try_rows(alloc, case, Actions::new(alloc)),
+            Kind::Requests => try_rows(alloc, case, Requests::new(alloc)?),
+            Kind::Refusals => try_rows(alloc, case, Refusals::new(alloc)?),
+            Kind::Conversations => try_conversation(alloc, case, journals),
         }
     }
 }

@@ -12,14 +12,21 @@
 #![tactic(auto)]
 
 mod actions;
+mod bytes;
+mod conversations;
 mod filters;
+mod http;
+mod journals;
 mod kind;
 mod operators;
 mod outcome;
+mod refusals;
+mod requests;
 mod table;
 mod texts;
 
 use anyhow::{Context, Result, bail};
+use journals::Journals;
 use kind::Kind;
 use outcome::Outcome;
 use std::fs;
@@ -57,10 +64,11 @@ fn try_table<R: Files + Print + AllocGlobal>(rt: &R, kind: Kind, name: &str) -> 
     let folder = kind.folder();
     let path = format!(in rt.alloc(); "{folder}/{name}.rows")?;
     let text = fs::read_to_string(rt, path.as_str()).context(folder)?;
+    let mut journals = Journals::new(rt.alloc());
     let mut differing: u64 = 0;
     for case in &cases_of(rt.alloc(), text.as_str()).context(format_args!("{folder}/{name}"))? {
         let outcome = kind
-            .try_case(rt.alloc(), case)
+            .try_case(rt.alloc(), case, &mut journals)
             .context(format_args!("{folder}/{name}: {}", case.name))?;
         match outcome {
             Outcome::Holds(rows) => println!(rt; "{folder}/{name}: {} ok ({rows})", case.name)?,
