@@ -1,6 +1,6 @@
-// Whole runs over memory. A run's cases are rows of two lines: one that is read, and the one that
-// answers it.
-use sb_app::{top, top_alone};
+// Runs over memory whose disk, input or output fails. What is read and what answers it are rows of two
+// lines.
+use sb_app::top;
 use sb_outside::{MemDisk, MemSink, MemSource, NoDoor, NoLink, StepClock};
 use std::sync::Wait;
 use std::test::Fail;
@@ -50,75 +50,6 @@ const PEEK: &str = r#"
 {"do":"peek","from":"q","start":2,"count":2}
 {"copies":[{"body_hex":"ff","delivery":0,"enqueued":5,"enqueued_seq":2,"props":{},"seq":2,"state":"ready","sys":{}}],"ok":"copies"}
 "#;
-
-const RECEIVE: &str = r#"
-{"at":9,"do":"receive","from":"q","mode":"delete"}
-{"message":{"body":"a","delivery":1,"enqueued":5,"enqueued_seq":1,"props":{},"seq":1,"sys":{}},"ok":"message"}
-"#;
-
-const RECEIVE_AGAIN: &str = r#"
-{"at":9,"do":"receive","from":"q","mode":"delete"}
-{"message":{"body_hex":"ff","delivery":1,"enqueued":5,"enqueued_seq":2,"props":{},"seq":2,"sys":{}},"ok":"message"}
-"#;
-
-const RECEIVE_NONE: &str = r#"
-{"at":9,"do":"receive","from":"q","mode":"delete"}
-{"ok":"empty"}
-"#;
-
-const RECEIVE_LOST: &str = r#"
-{"at":9,"do":"receive","from":"x","mode":"delete"}
-{"refused":"EntityNotFound"}
-"#;
-
-const RECEIVE_LOCKED: &str = r#"
-{"at":9,"do":"receive","from":"q","mode":"lock"}
-{"message":{"body":"a","delivery":1,"enqueued":5,"enqueued_seq":1,"props":{},"seq":1,"sys":{},"token":"a1b2c3d4-e5f6-0718-0000-000000000001","until":60009},"ok":"message"}
-"#;
-
-// The lock lives for a minute.
-const PEEK_HELD: &str = r#"
-{"at":60008,"do":"peek","from":"q","start":1,"count":1}
-{"copies":[{"body":"a","delivery":0,"enqueued":5,"enqueued_seq":1,"props":{},"seq":1,"state":"held","sys":{}}],"ok":"copies"}
-"#;
-
-const PEEK_FREED: &str = r#"
-{"at":60009,"do":"peek","from":"q","start":1,"count":1}
-{"copies":[{"body":"a","delivery":1,"enqueued":5,"enqueued_seq":1,"props":{},"seq":1,"state":"ready","sys":{}}],"ok":"copies"}
-"#;
-
-// Behind the end gate of three records: the fourth one, a tick at 60,009, and a closed gate.
-const TICK_RECORD: [u8; 23] = [
-    0x01, 0, 0, 0, 9, 0, 0, 0, 0, 0, 0, 0, 4, 0, 0, 0, 0, 0, 0, 0, 0xea, 0x69, 0,
-];
-
-// A queue with one message, deleted, and made and sent to again.
-const MADE_AGAIN: &str = r#"
-{"at":0,"do":"create-queue","name":"q"}
-{"ok":"done"}
-{"at":0,"do":"send","to":"q","messages":[{"body":"a"}]}
-{"numbers":[1],"ok":"sent"}
-{"at":0,"do":"delete","entity":"q"}
-{"ok":"done"}
-{"at":0,"do":"create-queue","name":"q"}
-{"ok":"done"}
-{"at":0,"do":"send","to":"q","messages":[{"body":"a"}]}
-{"numbers":[1],"ok":"sent"}
-"#;
-
-// Lines that are refused.
-const BAD_LINES: &str = r#"
-[
-{"key":"","refused":"BadCall"}
-{"do":"peek","from":"q","start":1,"count":0}
-{"key":"count","refused":"BadCall"}
-{"do":"create-queue","name":"q"}
-{"refused":"EntityExists"}
-{"do":"create-queue","name":"q b"}
-{"refused":"BadName"}
-"#;
-
-const USAGE: &str = "usage: bus COMMAND (run, serve, client, check, drill)\n";
 
 // Which calls of each fail.
 #[derive(Clone, Copy)]
@@ -268,7 +199,7 @@ fn ran_failing<T: Threads + Wait + Sync>(
 }
 
 // The bytes that a run over these rows leaves, each line of which is answered.
-pub(crate) fn left_by<T: Threads + Wait + Sync>(
+fn left_by<T: Threads + Wait + Sync>(
     rt: &HostRuntime,
     threads: &T,
     disk: &[u8],
@@ -285,292 +216,6 @@ pub(crate) fn left_by<T: Threads + Wait + Sync>(
         status,
     };
     leaves(rt, threads, case)
-}
-
-#[test]
-fn later_runs_go_on(rt: HostRuntime) -> Result<(), Fail> {
-    let made = left_by(&rt, &rt, &[], &[], 0)?;
-    assert_eq!(rt;
-        made.as_slice(),
-        [&ONE_EVENT[..42], &[0]].concat(rt.alloc())?.as_slice()
-    );
-    let setup = left_by(&rt, &rt, &[], &[SETUP], 0)?;
-    assert_eq!(rt; setup.as_slice(), &ONE_EVENT[..]);
-    let first = [CREATE, SEND, PEEK, RECEIVE];
-    let left = left_by(&rt, &rt, &made, &first, 0)?;
-    assert_eq!(rt; left.len(), 186);
-    let again = left_by(&rt, &rt, &[], &first, 0)?;
-    assert_eq!(rt; left.as_slice(), again.as_slice());
-    let taken = left_by(&rt, &rt, &left, &[RECEIVE_AGAIN, RECEIVE_NONE], 0)?;
-    let after = left_by(&rt, &rt, &taken, &[RECEIVE_LOST], 1)?;
-    assert_eq!(rt; after.as_slice(), taken.as_slice());
-    Ok(())
-}
-
-// Where a lock has ended by the time of a call, that is journaled before the call, once, and stays so in a later run.
-#[test]
-fn time_goes_on_first(rt: HostRuntime) -> Result<(), Fail> {
-    let held = left_by(&rt, &rt, &[], &[CREATE, SEND, RECEIVE_LOCKED], 0)?;
-    let same = left_by(&rt, &rt, &held, &[PEEK_HELD], 0)?;
-    assert_eq!(rt; same.as_slice(), held.as_slice());
-    let freed = left_by(&rt, &rt, &held, &[PEEK_FREED], 0)?;
-    let (front, end) = freed
-        .split_at_checked(held.len().saturating_sub(1))
-        .ok_or("the file goes on")?;
-    assert_eq!(rt; end, &TICK_RECORD[..]);
-    assert!(rt; held.starts_with(front));
-    let after = left_by(&rt, &rt, &freed, &[PEEK_FREED], 0)?;
-    assert_eq!(rt; after.as_slice(), freed.as_slice());
-    Ok(())
-}
-
-// The case of a check that reads nothing of its input, over these bytes.
-fn checking<'a>(disk: &'a [u8], told: &'a str, status: u8) -> Case<'a> {
-    Case {
-        words: &CHECK,
-        disk,
-        failing: Failing {
-            input: Some(0),
-            ..NOTHING
-        },
-        script: b"[",
-        told: told.as_bytes(),
-        status,
-    }
-}
-
-#[test]
-fn a_check_tells_the_numbers(rt: HostRuntime) -> Result<(), Fail> {
-    let again = left_by(&rt, &rt, &[], &[MADE_AGAIN], 0)?;
-    let freed = left_by(
-        &rt,
-        &rt,
-        &[],
-        &[CREATE, SEND, RECEIVE_LOCKED, PEEK_FREED],
-        0,
-    )?;
-    let rows: [(&[u8], &str); 4] = [
-        (
-            &[],
-            "{\"copies\":0,\"entities\":0,\"events\":0,\"made\":0,\"now\":0,\"ok\":\"check\"}\n",
-        ),
-        (
-            &ONE_EVENT,
-            "{\"copies\":0,\"entities\":1,\"events\":1,\"made\":0,\"now\":0,\"ok\":\"check\"}\n",
-        ),
-        (
-            &again,
-            "{\"copies\":1,\"entities\":1,\"events\":5,\"made\":2,\"now\":0,\"ok\":\"check\"}\n",
-        ),
-        (
-            &freed,
-            "{\"copies\":2,\"entities\":1,\"events\":4,\"made\":2,\"now\":60009,\"ok\":\"check\"}\n",
-        ),
-    ];
-    for row in &rows {
-        let (disk, told) = *row;
-        let after = leaves(&rt, &rt, checking(disk, told, 0))?;
-        assert!(rt; disk.is_empty() || after.as_slice() == disk);
-    }
-    let damaged = changed(&rt, &ONE_EVENT, 9, 2)?;
-    let told = damaged_at(&rt, 9)?;
-    leaves(&rt, &rt, checking(&damaged, told.as_str(), 6))?;
-    let failing = Failing {
-        output: Some(0),
-        ..NOTHING
-    };
-    leaves(
-        &rt,
-        &rt,
-        Case {
-            failing,
-            ..checking(&ONE_EVENT, "", 4)
-        },
-    )?;
-    Ok(())
-}
-
-#[test]
-fn refused_lines_change_nothing(rt: HostRuntime) -> Result<(), Fail> {
-    let made = left_by(&rt, &rt, &[], &[CREATE], 0)?;
-    assert_eq!(rt; made.len(), 87);
-    let after = left_by(&rt, &rt, &made, &[BAD_LINES], 1)?;
-    assert_eq!(rt; after.as_slice(), made.as_slice());
-    Ok(())
-}
-
-// The bytes that a run over these, answered so, leaves.
-pub(crate) fn left_by_bytes<T: Threads + Wait + Sync>(
-    rt: &HostRuntime,
-    threads: &T,
-    disk: &[u8],
-    script: &[u8],
-    told: &[u8],
-    status: u8,
-) -> Result<Vec<u8>, Fail> {
-    let case = Case {
-        words: &RUN,
-        disk,
-        failing: NOTHING,
-        script,
-        told,
-        status,
-    };
-    leaves(rt, threads, case)
-}
-
-// The same of texts.
-fn left_by_text<T: Threads + Wait + Sync>(
-    rt: &HostRuntime,
-    threads: &T,
-    disk: &[u8],
-    script: &str,
-    told: &str,
-    status: u8,
-) -> Result<Vec<u8>, Fail> {
-    left_by_bytes(
-        rt,
-        threads,
-        disk,
-        script.as_bytes(),
-        told.as_bytes(),
-        status,
-    )
-}
-
-// The first bytes with one of them changed.
-fn changed(rt: &HostRuntime, bytes: &[u8], place: usize, byte: u8) -> Result<Vec<u8>, Fail> {
-    let mut all = bytes.to_vec(rt.alloc())?;
-    let Some(there) = all.get_mut(place) else {
-        return Err(Fail::from("the place is one of theirs"));
-    };
-    *there = byte;
-    Ok(all)
-}
-
-// The line that says where disk a is damaged.
-fn damaged_at(rt: &HostRuntime, place: u64) -> Result<String, Fail> {
-    Ok(format!(in rt.alloc(); "{{\"disk\":\"a\",\"place\":{place},\"refused\":\"Damaged\"}}\n")?)
-}
-
-// The file of three records with one byte changed is damaged at this place, and stays as it is.
-fn is_damaged<T: Threads + Wait + Sync>(
-    rt: &HostRuntime,
-    threads: &T,
-    file: &[u8],
-    change: (usize, u8, u64),
-) -> Result<(), Fail> {
-    let (place, byte, damage) = change;
-    let bytes = changed(rt, file, place, byte)?;
-    let told = damaged_at(rt, damage)?;
-    let after = left_by_text(rt, threads, &bytes, RECEIVE, told.as_str(), 6)?;
-    if after.as_slice() != bytes.as_slice() {
-        return Err(Fail::from("a damaged file was written"));
-    }
-    Ok(())
-}
-
-// Three records: gates at 42, 86 and 152, the end gate at 185.
-#[test]
-fn damage_has_its_place(rt: HostRuntime) -> Result<(), Fail> {
-    let file = left_by(&rt, &rt, &[], &[CREATE, SEND, RECEIVE], 0)?;
-    assert_eq!(rt; file.len(), 186);
-    let rows = [
-        // The head: magic, version, generation 0 and above 2^62, first number the same, base.
-        (1, 84, 1),
-        (8, 75, 1),
-        (9, 2, 9),
-        (25, 0, 18),
-        (18, 64, 18),
-        (33, 0, 26),
-        (26, 64, 26),
-        (41, 1, 42),
-        // A record that is too long, one that is cut, and numbers out of order.
-        (43, 1, 42),
-        (156, 21, 152),
-        (54, 2, 42),
-        (164, 2, 152),
-        // No event: another kind, and bytes behind the last field.
-        (55, 2, 42),
-        (165, 0, 152),
-        // Not a changing event: no such queue, time going back, past the last moment.
-        (114, 114, 86),
-        (173, 4, 152),
-        (166, 1, 152),
-    ];
-    for row in &rows {
-        is_damaged(&rt, &rt, &file, *row)?;
-    }
-    let told = damaged_at(&rt, 152)?;
-    let cut = file.get(..170).ok_or("a front of the file")?;
-    left_by_text(&rt, &rt, cut, RECEIVE, told.as_str(), 6)?;
-    let without_gate = file.get(..185).ok_or("a front of the file")?;
-    left_by(&rt, &rt, without_gate, &[RECEIVE_AGAIN], 0)?;
-    Ok(())
-}
-
-// Lines of blanks and line feeds alone, a last line without a line feed, and one behind a carriage
-// return.
-#[test]
-fn line_ends(rt: HostRuntime) -> Result<(), Fail> {
-    let rows = [
-        (" \t\r\n\n  ", "", 0),
-        ("[", "{\"key\":\"\",\"refused\":\"BadCall\"}\n", 1),
-        (
-            "{\"do\":\"create-queue\",\"name\":\"q\"}\r\n",
-            "{\"ok\":\"done\"}\n",
-            0,
-        ),
-    ];
-    for row in &rows {
-        let (script, told, status) = *row;
-        left_by_text(&rt, &rt, &[], script, told, status)?;
-    }
-    Ok(())
-}
-
-// A line above the limit, one that is no UTF-8 text, and a blank one above the limit.
-#[test]
-fn lines_that_are_no_text(rt: HostRuntime) -> Result<(), Fail> {
-    let alloc = rt.alloc();
-    let rows = [
-        (
-            b'x',
-            2_097_153,
-            "{\"key\":\"line\",\"refused\":\"BadCall\"}\n",
-            1,
-        ),
-        (
-            b'x',
-            2_097_152,
-            "{\"key\":\"\",\"refused\":\"BadCall\"}\n",
-            1,
-        ),
-        (b' ', 2_097_153, "", 0),
-        (255, 1, "{\"key\":\"\",\"refused\":\"BadCall\"}\n", 1),
-    ];
-    for row in &rows {
-        let (byte, count, told, status) = *row;
-        let line = vec![in alloc; byte; count]?;
-        let disk_a = MemDisk::new(alloc, Vec::new(alloc), Vec::new(alloc))?;
-        let disk_b = MemDisk::new(alloc, Vec::new(alloc), Vec::new(alloc))?;
-        let mut input = MemSource::new(line, 65_536, Vec::new(alloc));
-        let mut output = MemSink::new(alloc, 4096, Vec::new(alloc))?;
-        let (ended, _a, _b) = top_alone(
-            alloc,
-            &RUN,
-            disk_a,
-            disk_b,
-            SALT,
-            &StepClock::new(0, 1),
-            &mut input,
-            &mut output,
-            &mut NoLink::new(),
-        );
-        assert_eq!(rt; ended, status, "{count}");
-        assert_eq!(rt; output.bytes(), told.as_bytes(), "{count}");
-    }
-    Ok(())
 }
 
 // The bytes that a run over one row leaves whose disk fails at a call.
@@ -751,24 +396,14 @@ fn each_status_has_its_cause(rt: HostRuntime) -> Result<(), Fail> {
         };
         leaves(&rt, &rt, case)?;
     }
-    let no_forms: [&[&str]; 6] = [
-        &["serve"],
-        &["run", "--data"],
-        &["--help"],
-        &["check", "-h"],
-        &["run", "--data=.", "--data", "."],
-        &["--data=.", "run"],
-    ];
-    for words in &no_forms {
-        let case = Case {
-            words: *words,
-            disk: &[],
-            failing: NOTHING,
-            script: &one.script,
-            told: USAGE.as_bytes(),
-            status: 2,
-        };
-        leaves(&rt, &rt, case)?;
-    }
+    let checked = Case {
+        words: &CHECK,
+        disk: &ONE_EVENT,
+        failing: no_output,
+        script: b"[",
+        told: &[],
+        status: 4,
+    };
+    leaves(&rt, &rt, checked)?;
     Ok(())
 }

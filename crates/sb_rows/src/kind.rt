@@ -7,6 +7,7 @@ use crate::operators::Operators;
 use crate::outcome::{Outcome, try_rows};
 use crate::refusals::Refusals;
 use crate::requests::Requests;
+use crate::scripts::try_script;
 use crate::table::Case;
 use crate::texts::Texts;
 use anyhow::Result;
@@ -21,11 +22,12 @@ pub enum Kind {
     Requests,
     Refusals,
     Conversations,
+    Scripts,
 }
 
 impl Kind {
     /// All kinds, in the order in which they are tried.
-    pub const ALL: [Kind; 7] = [
+    pub const ALL: [Kind; 8] = [
         Kind::Texts,
         Kind::Filters,
         Kind::Operators,
@@ -33,6 +35,7 @@ impl Kind {
         Kind::Requests,
         Kind::Refusals,
         Kind::Conversations,
+        Kind::Scripts,
     ];
 
     /// The folder of its tables.
@@ -45,6 +48,7 @@ impl Kind {
             Kind::Requests => "requests",
             Kind::Refusals => "refusals",
             Kind::Conversations => "conversations",
+            Kind::Scripts => "scripts",
         }
     }
 
@@ -63,6 +67,7 @@ impl Kind {
             Kind::Requests => try_rows(alloc, case, Requests::new(alloc)?),
             Kind::Refusals => try_rows(alloc, case, Refusals::new(alloc)?),
             Kind::Conversations => try_conversation(alloc, case, journals),
+            Kind::Scripts => try_script(alloc, case, journals),
         }
     }
 }

@@ -22,6 +22,7 @@ mod operators;
 mod outcome;
 mod refusals;
 mod requests;
+mod scripts;
 mod table;
 mod texts;
 
