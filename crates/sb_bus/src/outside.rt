@@ -1,5 +1,5 @@
 // Makes the real disks, streams and clock, and calls the top.
-use crate::top::top;
+use sb_app::top;
 use sb_outside::{
     Dialing, Door, Link, Listening, MemDisk, NoDoor, NoLink, Reading, SystemClock, Writing,
     hold_streams, open_disk, sync_folder,
