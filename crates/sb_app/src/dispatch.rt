@@ -44,12 +44,14 @@ fn kind_of_answer(answer: &Answer) -> AnswerKind
 }
 
 // Writes the line of an answer.
-fn write_answer<K: Sink>(alloc: Global, answer: &Answer, output: &mut K) -> Result<(), RunEnd>
-    ensures ok { OnOk result (Gains (K.given output.old) (K.given output.new) (answer_line answer.now)) }
-    ensures err { IfErr result (λ e. IsReplyCut (answer_line answer.now) (output_of K.Sink output.old) (output_of K.Sink output.new) e) }
+fn write_answer<K: Sink>(alloc: Global, answer: Answer, output: &mut K) -> Result<(), RunEnd>
+    ensures ok { OnOk result (Gains (K.given output.old) (K.given output.new) (answer_line answer)) }
+    ensures err { IfErr result (λ e. IsReplyCut (answer_line answer) (output_of K.Sink output.old) (output_of K.Sink output.new) e) }
     ensures passed { OnOk result (K.count output.new ≡ K.count output.old) }
 {
-    let Ok(line) = reply_line(alloc, answer) else {
+    let spelled = reply_line(alloc, &answer);
+    drop(answer);
+    let Ok(line) = spelled else {
         return Err(RunEnd::OutOfMemory);
     };
     match write_all(output, line.as_bytes()) {
@@ -86,19 +88,21 @@ fn dispatch_call<D: Disk, K: Sink>(
     let answer = node.step(asked.reading, &asked.call);
     match kind_of_answer(&answer) {
         AnswerKind::Failed => {
+            drop(answer);
             write_final_line(output, disk_fault_line());
             Err(RunEnd::DiskFault)
         }
         AnswerKind::Wanting => {
+            drop(answer);
             write_final_line(output, out_of_memory_line());
             Err(RunEnd::OutOfMemory)
         }
         AnswerKind::Accepted => {
-            write_answer(alloc, &answer, output)?;
+            write_answer(alloc, answer, output)?;
             Ok(false)
         }
         AnswerKind::Refused => {
-            write_answer(alloc, &answer, output)?;
+            write_answer(alloc, answer, output)?;
             Ok(true)
         }
     }
@@ -133,9 +137,13 @@ pub fn dispatch_line<D: Disk, K: Sink>(
         ScriptLine::Blank => Ok(false),
         ScriptLine::Malformed(key) => {
             let answer = Err(Refusal::BadCall { key });
-            write_answer(alloc, &answer, output)?;
+            write_answer(alloc, answer, output)?;
             Ok(true)
         }
-        ScriptLine::Request(asked) => dispatch_call(alloc, node, &asked, output),
+        ScriptLine::Request(asked) => {
+            let answered = dispatch_call(alloc, node, &asked, output);
+            drop(asked);
+            answered
+        }
     }
 }

@@ -21,12 +21,12 @@ mod dispatch;
 mod ending;
 mod final_line;
 mod opening;
+mod program;
 mod running;
 mod script_line;
 mod serving;
 mod task;
-mod top;
 mod worked;
 
-pub use top::{top, top_alone};
+pub use program::{top, top_alone};
 pub use worked::worked_commits;

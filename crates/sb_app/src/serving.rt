@@ -53,16 +53,21 @@ where
     };
     let node = match open_node(alloc, disk_a, disk_b, salt, output) {
         Ok(node) => node,
-        Err(failed) => return failed,
+        Err(failed) => {
+            drop(routes);
+            return failed;
+        }
     };
     let (desk, mut passes) = match Desk::new(alloc, node, at_least_one(doors.len())) {
         Ok(opened) => opened,
         Err(fault) => {
+            drop(routes);
             let (disk_a, disk_b) = node_back(fault).close();
             return (7, disk_a, disk_b);
         }
     };
     let ending = serve(rt, alloc, &routes, &desk, &mut passes, doors, clock, most);
+    drop(routes);
     let (node, report) = match desk.close(passes) {
         Ok(closed) => closed,
         Err(_fault) => unreachable!(),

@@ -13,36 +13,36 @@ use Rattle.sb_input.proofs.Errors.{passed_on}
 use Rattle.sb_app.proofs.Faults.{present_one}
 use Rattle.sb_app.proofs.dispatch.dispatch_call.Goals as goal
 
-pub returns-in-Accepted-clause-done : goal.returns-in-Accepted-clause-done
-returns-in-Accepted-clause-done g c =
+pub returns-in_ok-write_answer-in-Accepted-clause-done : goal.returns-in_ok-write_answer-in-Accepted-clause-done
+returns-in_ok-write_answer-in-Accepted-clause-done g c =
     let kind = accepted_answer c.step-answer.result (sym c.in-Accepted.ensures) in
     let step = stepped (node_state c.args.node.now) _ (node_stopped c.args.node.now) (node_stopped c.step-answer.new.self) (node_ticked c.step-answer.new.self) c.args.asked.now.reading c.args.asked.now.call c.step-answer.result c.requires.consistent c.requires.running c.step-answer.ensures.ticked (c.step-answer.ensures.step 0) kind.0 in
     answered_call (node_state c.args.node.now) _ c.args.asked.now c.step-answer.result (node_stopped c.step-answer.new.self) (output_of g.K.Sink c.args.output.now) (output_of g.K.Sink c.write_answer.new.output) _ step c.in_ok-write_answer-in-Accepted.ensures.ok kind.1
 
-pub returns-in-Accepted-clause-running : goal.returns-in-Accepted-clause-running
-returns-in-Accepted-clause-running g c =
+pub returns-in_ok-write_answer-in-Accepted-clause-running : goal.returns-in_ok-write_answer-in-Accepted-clause-running
+returns-in_ok-write_answer-in-Accepted-clause-running g c =
     let kind = accepted_answer c.step-answer.result (sym c.in-Accepted.ensures) in
     (stepped (node_state c.args.node.now) _ (node_stopped c.args.node.now) (node_stopped c.step-answer.new.self) (node_ticked c.step-answer.new.self) c.args.asked.now.reading c.args.asked.now.call c.step-answer.result c.requires.consistent c.requires.running c.step-answer.ensures.ticked (c.step-answer.ensures.step 0) kind.0).runs
 
-pub returns-in-Accepted-clause-kept : goal.returns-in-Accepted-clause-kept
-returns-in-Accepted-clause-kept g c safe sound =
+pub returns-in_ok-write_answer-in-Accepted-clause-kept : goal.returns-in_ok-write_answer-in-Accepted-clause-kept
+returns-in_ok-write_answer-in-Accepted-clause-kept g c safe sound =
     let kind = accepted_answer c.step-answer.result (sym c.in-Accepted.ensures) in
     let step = stepped (node_state c.args.node.now) _ (node_stopped c.args.node.now) (node_stopped c.step-answer.new.self) (node_ticked c.step-answer.new.self) c.args.asked.now.reading c.args.asked.now.call c.step-answer.result c.requires.consistent c.requires.running c.step-answer.ensures.ticked (c.step-answer.ensures.step 0) kind.0 in
     c.step-answer.ensures.kept safe step.runs
 
-pub returns-clause-done : goal.returns-clause-done
-returns-clause-done g c =
+pub returns-in_ok-write_answer-in-Refused-clause-done : goal.returns-in_ok-write_answer-in-Refused-clause-done
+returns-in_ok-write_answer-in-Refused-clause-done g c =
     let kind = refused_answer c.step-answer.result (sym c.in-Refused.ensures) in
     let step = stepped (node_state c.args.node.now) _ (node_stopped c.args.node.now) (node_stopped c.step-answer.new.self) (node_ticked c.step-answer.new.self) c.args.asked.now.reading c.args.asked.now.call c.step-answer.result c.requires.consistent c.requires.running c.step-answer.ensures.ticked (c.step-answer.ensures.step 0) kind.0 in
     answered_call (node_state c.args.node.now) _ c.args.asked.now c.step-answer.result (node_stopped c.step-answer.new.self) (output_of g.K.Sink c.args.output.now) (output_of g.K.Sink c.write_answer-in-Refused.new.output) _ step c.in_ok-write_answer-in-Refused.ensures.ok kind.1
 
-pub returns-clause-running : goal.returns-clause-running
-returns-clause-running g c =
+pub returns-in_ok-write_answer-in-Refused-clause-running : goal.returns-in_ok-write_answer-in-Refused-clause-running
+returns-in_ok-write_answer-in-Refused-clause-running g c =
     let kind = refused_answer c.step-answer.result (sym c.in-Refused.ensures) in
     (stepped (node_state c.args.node.now) _ (node_stopped c.args.node.now) (node_stopped c.step-answer.new.self) (node_ticked c.step-answer.new.self) c.args.asked.now.reading c.args.asked.now.call c.step-answer.result c.requires.consistent c.requires.running c.step-answer.ensures.ticked (c.step-answer.ensures.step 0) kind.0).runs
 
-pub returns-clause-kept : goal.returns-clause-kept
-returns-clause-kept g c safe sound =
+pub returns-in_ok-write_answer-in-Refused-clause-kept : goal.returns-in_ok-write_answer-in-Refused-clause-kept
+returns-in_ok-write_answer-in-Refused-clause-kept g c safe sound =
     let kind = refused_answer c.step-answer.result (sym c.in-Refused.ensures) in
     let step = stepped (node_state c.args.node.now) _ (node_stopped c.args.node.now) (node_stopped c.step-answer.new.self) (node_ticked c.step-answer.new.self) c.args.asked.now.reading c.args.asked.now.call c.step-answer.result c.requires.consistent c.requires.running c.step-answer.ensures.ticked (c.step-answer.ensures.step 0) kind.0 in
     c.step-answer.ensures.kept safe step.runs
@@ -116,11 +116,11 @@ returns-in_err-write_answer-in-Refused-clause-undecided g c safe is =
     let s = node_state c.args.node.now in
     present_one was now (states_of s (Request c.args.asked.now)) (called_moments s c.args.asked.now was now (c.step-answer.ensures.any_moment safe))
 
-pub returns-in-Accepted-clause-any_moment : goal.returns-in-Accepted-clause-any_moment
-returns-in-Accepted-clause-any_moment g c safe = called_moments (node_state c.args.node.now) c.args.asked.now (node_disks c.args.node.now) (node_disks c.step-answer.new.self) (c.step-answer.ensures.any_moment safe)
+pub returns-in_ok-write_answer-in-Accepted-clause-any_moment : goal.returns-in_ok-write_answer-in-Accepted-clause-any_moment
+returns-in_ok-write_answer-in-Accepted-clause-any_moment g c safe = called_moments (node_state c.args.node.now) c.args.asked.now (node_disks c.args.node.now) (node_disks c.step-answer.new.self) (c.step-answer.ensures.any_moment safe)
 
-pub returns-clause-any_moment : goal.returns-clause-any_moment
-returns-clause-any_moment g c safe = called_moments (node_state c.args.node.now) c.args.asked.now (node_disks c.args.node.now) (node_disks c.step-answer.new.self) (c.step-answer.ensures.any_moment safe)
+pub returns-in_ok-write_answer-in-Refused-clause-any_moment : goal.returns-in_ok-write_answer-in-Refused-clause-any_moment
+returns-in_ok-write_answer-in-Refused-clause-any_moment g c safe = called_moments (node_state c.args.node.now) c.args.asked.now (node_disks c.args.node.now) (node_disks c.step-answer.new.self) (c.step-answer.ensures.any_moment safe)
 
 pub returns-in-Failed-clause-any_moment : goal.returns-in-Failed-clause-any_moment
 returns-in-Failed-clause-any_moment g c safe = called_moments (node_state c.args.node.now) c.args.asked.now (node_disks c.args.node.now) (node_disks c.step-answer.new.self) (c.step-answer.ensures.any_moment safe)
@@ -133,12 +133,6 @@ returns-in_err-write_answer-in-Accepted-clause-any_moment g c safe = called_mome
 
 pub returns-in_err-write_answer-in-Refused-clause-any_moment : goal.returns-in_err-write_answer-in-Refused-clause-any_moment
 returns-in_err-write_answer-in-Refused-clause-any_moment g c safe = called_moments (node_state c.args.node.now) c.args.asked.now (node_disks c.args.node.now) (node_disks c.step-answer.new.self) (c.step-answer.ensures.any_moment safe)
-
-pub returns-in-Accepted-clause-passed : goal.returns-in-Accepted-clause-passed
-returns-in-Accepted-clause-passed g c = (c.step-answer.ensures.quiet (not_failed c.step-answer.result Accepted (sym c.in-Accepted.ensures) (λ e. absurd cc)), c.in_ok-write_answer-in-Accepted.ensures.passed)
-
-pub returns-clause-passed : goal.returns-clause-passed
-returns-clause-passed g c = (c.step-answer.ensures.quiet (not_failed c.step-answer.result Refused (sym c.in-Refused.ensures) (λ e. absurd cc)), c.in_ok-write_answer-in-Refused.ensures.passed)
 
 pub returns-in-Wanting-clause-disk_quiet : goal.returns-in-Wanting-clause-disk_quiet
 returns-in-Wanting-clause-disk_quiet g c other = c.step-answer.ensures.quiet (not_failed c.step-answer.result Wanting (sym c.in-Wanting.ensures) (λ e. absurd cc))

@@ -16,12 +16,12 @@ returns-in_err-write_answer-in-Malformed-clause-cut g c =
 pub returns-in-Request-clause-undecided : goal.returns-in-Request-clause-undecided
 returns-in-Request-clause-undecided g c safe failed =
     let s = node_state c.args.node.now in
-    subst (λ (x : ScriptLine). IsOneOf (node_disks c.dispatch_call.new.node) (states_of s x)) (sym c.in-Request.is) (c.dispatch_call.ensures.undecided safe failed)
+    subst (λ (x : ScriptLine). IsOneOf (node_disks c.dispatch_call-answered.new.node) (states_of s x)) (sym c.in-Request.is) (c.dispatch_call-answered.ensures.undecided safe failed)
 
 pub returns-in-Request-clause-any_moment : goal.returns-in-Request-clause-any_moment
 returns-in-Request-clause-any_moment g c safe =
     let s = node_state c.args.node.now in
-    subst (λ (x : ScriptLine). StayOneOf (node_disks c.args.node.now) (node_disks c.dispatch_call.new.node) (states_of s x)) (sym c.in-Request.is) (c.dispatch_call.ensures.any_moment safe)
+    subst (λ (x : ScriptLine). StayOneOf (node_disks c.args.node.now) (node_disks c.dispatch_call-answered.new.node) (states_of s x)) (sym c.in-Request.is) (c.dispatch_call-answered.ensures.any_moment safe)
 
 pub returns-in-Blank-clause-any_moment : goal.returns-in-Blank-clause-any_moment
 returns-in-Blank-clause-any_moment g c safe =

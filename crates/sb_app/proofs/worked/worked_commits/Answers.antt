@@ -1,5 +1,5 @@
-use Rattle.std.proofs.Common.{◌≡◌, ◌-◌, ℕ, if◌then◌else◌, ap₂}
-use Rattle.sb_machine.specs.Rows.{Row, refuses, answers, is_beyond}
+use Rattle.std.proofs.Common.{◌-◌, ℕ, if◌then◌else◌, ap₂}
+use Rattle.sb_machine.specs.Rows.{refuses, answers, is_beyond}
 use Rattle.sb_machine.specs.Transactions.{commit_changes}
 use Rattle.sb_machine.specs.declared.reply.Refusal.TheVariants.{QuotaExceeded}
 use Rattle.sb_machine.specs.declared.reply.Reply.TheVariants.{Committed}

@@ -7,7 +7,7 @@ use Rattle.sb_app.specs.Outside.{input_of, outside_of}
 use Rattle.sb_app.specs.Servings.{IsServeCall}
 use Rattle.sb_app.proofs.Calls.{most_in, other_task, unnamed}
 use Rattle.sb_app.proofs.Servings.{no_two_serve, unread_serve}
-use Rattle.sb_app.proofs.top.top.Goals as goal
+use Rattle.sb_app.proofs.program.top.Goals as goal
 
 pub returns-in-Err-clause-serves : goal.returns-in-Err-clause-serves
 returns-in-Err-clause-serves g c serves =

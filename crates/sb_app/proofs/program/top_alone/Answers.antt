@@ -1,7 +1,7 @@
 use Rattle.std.proofs.Common.{List, ℕ, map}
 use Rattle.sb_app.specs.Calls.{task_in}
 use Rattle.sb_app.proofs.Calls.{other_task}
-use Rattle.sb_app.proofs.top.top_alone.Goals as goal
+use Rattle.sb_app.proofs.program.top_alone.Goals as goal
 
 pub returns-clause-link : goal.returns-clause-link
 returns-clause-link g c other =
