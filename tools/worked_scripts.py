@@ -1,15 +1,14 @@
 #!/usr/bin/env python3
-"""Runs the scripts of crates/sb_bus/src/rows.rt with the built program over real files.
+"""Runs the scripts of crates/sb_rows/data/scripts/acts.rows with the built program over real files.
 
 usage: tools/worked_scripts.py PROGRAM
 
-PROGRAM is the built program (crates/sb_bus/out/sb_bus). Each script is rows of two lines, one that is
-read and the one that answers it; each is run over a folder of its own, but LATER_RUN and REPEATED, which
-go on over the folders of TIME_GOES_ON and NUMBERED. Tokens stand there under one salt, which is put in
-the place of the folder's own. The exit status is 1 where a line is answered otherwise.
+PROGRAM is the built program (crates/sb_bus/out/sb_bus). Each case of the table (docs/ROWS.md) is a script of
+lines that are read, each with the line that answers it, and is run over a folder of its own, or over that of
+the case that it goes on over. Tokens stand there under one salt, which is put in the place of the folder's
+own. The exit status is 1 where a line is answered otherwise.
 """
 import os
-import re
 import subprocess
 import sys
 import tempfile
@@ -18,8 +17,37 @@ import uuid
 import lib
 
 SALT = "a1b2c3d4-e5f6-0718"
-AFTER = {"LATER_RUN": "TIME_GOES_ON", "REPEATED": "NUMBERED"}
-ROWS = os.path.join(lib.TOP, "crates", "sb_bus", "src", "rows.rt")
+ROWS = os.path.join(lib.TOP, "crates", "sb_rows", "data", "scripts", "acts.rows")
+
+
+class Case:
+    """A script: its name, the case that it goes on over, its lines with their answers, and its status."""
+
+    def __init__(self, name):
+        self.name, self.over, self.asked, self.told, self.status = name, None, [], [], 0
+
+    def take(self, key, value):
+        if key == ">":
+            self.asked.append(value)
+        elif key == "<":
+            self.told.append(value)
+        elif key == "over":
+            self.over = value
+        elif key == "status":
+            self.status = int(value)
+        else:
+            sys.exit(f"{self.name}: no key {key} here")
+
+
+def cases_of(text):
+    cases = []
+    for line in text.splitlines():
+        key, _, value = line.partition(" ")
+        if key == "case":
+            cases.append(Case(value))
+        elif line and not line.startswith("#"):
+            cases[-1].take(key, value)
+    return cases
 
 
 def salt_of(folder):
@@ -29,12 +57,12 @@ def salt_of(folder):
     return str(uuid.UUID(bytes=head[10:18] + bytes(8)))[:18]
 
 
-def run(program, folder, pairs):
+def run(program, folder, case):
     """What is wrong with the answers to the lines, if something is."""
     words = [program, "run", "--data", folder]
     with subprocess.Popen(words, stdin=subprocess.PIPE, stdout=subprocess.PIPE, text=True) as bus:
         wrong = None
-        for line, answer in pairs:
+        for line, answer in zip(case.asked, case.told, strict=True):
             salt = salt_of(folder) if SALT in line + answer else SALT
             bus.stdin.write(line.replace(SALT, salt) + "\n")
             bus.stdin.flush()
@@ -43,8 +71,7 @@ def run(program, folder, pairs):
                 wrong = f"{line}\n  was answered {told}\n  and not      {answer}"
                 break
         bus.stdin.close()
-    refused = any('"refused"' in answer for _, answer in pairs)
-    if wrong is None and bus.returncode != (1 if refused else 0):
+    if wrong is None and bus.returncode != case.status:
         wrong = f"status {bus.returncode}"
     return wrong
 
@@ -52,15 +79,14 @@ def run(program, folder, pairs):
 def main():
     program, _ = lib.given_words(__doc__)
     with open(ROWS, encoding="utf-8") as rows:
-        scripts = re.findall(r'const ([A-Z_]+): &str = r#"\n(.*?)"#;', rows.read(), re.S)
+        cases = cases_of(rows.read())
     folders = {}
     failed = False
-    for name, text in scripts:
-        lines = text.splitlines()
-        folder = folders.get(AFTER.get(name)) or tempfile.mkdtemp()
-        folders[name] = folder
-        wrong = run(program, folder, list(zip(lines[::2], lines[1::2])))
-        print(f"{'ok' if wrong is None else 'WRONG'}: {name}")
+    for case in cases:
+        folder = folders.get(case.over) or tempfile.mkdtemp()
+        folders[case.name] = folder
+        wrong = run(program, folder, case)
+        print(f"{'ok' if wrong is None else 'WRONG'}: {case.name}")
         if wrong is not None:
             failed = True
             print(wrong)

@@ -1,11 +1,10 @@
 // Makes the real disks, streams and clock, and calls the top.
-use crate::top::top;
+use sb_app::top;
 use sb_outside::{
-    Dialing, Door, Link, Listening, MemDisk, NoDoor, NoLink, Reading, SystemClock, Writing,
-    hold_streams, open_disk, sync_folder,
+    Dialing, Disk, Door, FileDisk, Link, Listening, MemDisk, NoDoor, NoLink, Reading, SystemClock,
+    Writing, hold_streams, open_disk, sync_folder,
 };
 use sb_words::{Command, Needs, WordsFault, asked_text, needs};
-use std::alloc::Global;
 use std::fs::{File, TryLockError};
 use std::io::{Error, ErrorKind};
 use std::net::{Ipv4Addr, OpenListener, TcpListener};
@@ -56,7 +55,52 @@ fn lock_folder(rt: &HostRuntime, folder: &str) -> io::Result<File> {
     }
 }
 
-// Calls the top over the files of a folder, and these doors.
+// The disk of the journal with this name in a folder.
+fn journal_in(rt: &HostRuntime, folder: &str, name: &str) -> io::Result<FileDisk<File>> {
+    let path = format!(in rt.alloc(); "{folder}/{name}.journal")?;
+    open_disk(rt, path.as_str())
+}
+
+// The disks of a folder.
+fn disks_in(rt: &HostRuntime, folder: &str) -> io::Result<(FileDisk<File>, FileDisk<File>)> {
+    let disk_a = journal_in(rt, folder, "a")?;
+    let disk_b = journal_in(rt, folder, "b")?;
+    sync_folder(rt, folder)?;
+    Ok((disk_a, disk_b))
+}
+
+// Calls the top over these disks, doors and link, and the real clock and streams.
+fn over_disks<T: Threads + Wait + Sync, D: Disk + Send + Drop, R: Door + Send, N: Link>(
+    rt: &HostRuntime,
+    threads: &T,
+    words: &[&str],
+    disk_a: D,
+    disk_b: D,
+    salt: u64,
+    doors: &mut Vec<R>,
+    link: &mut N,
+) -> u8
+where
+    R::Conn: Send,
+{
+    let (status, disks) = top(
+        threads,
+        rt.alloc(),
+        words,
+        disk_a,
+        disk_b,
+        salt,
+        &SystemClock::new(rt),
+        &mut Reading::new(rt.stdin()),
+        &mut Writing::new(rt.stdout()),
+        doors,
+        link,
+    );
+    drop(disks);
+    status
+}
+
+// Calls the top over the files of a folder, which is locked meanwhile, and these doors.
 fn over_folder<T: Threads + Wait + Sync, R: Door + Send>(
     rt: &HostRuntime,
     threads: &T,
@@ -67,28 +111,14 @@ fn over_folder<T: Threads + Wait + Sync, R: Door + Send>(
 where
     R::Conn: Send,
 {
-    let alloc = rt.alloc();
-    let _streams = hold_streams(rt, folder)?;
-    let _lock = lock_folder(rt, folder)?;
-    let path_a = format!(in alloc; "{folder}/a.journal")?;
-    let path_b = format!(in alloc; "{folder}/b.journal")?;
-    let disk_a = open_disk(rt, path_a.as_str())?;
-    let disk_b = open_disk(rt, path_b.as_str())?;
-    sync_folder(rt, folder)?;
     let salt = salt_of(std::rt::Clock::since_1970(rt)?);
-    let (status, _disks) = top(
-        threads,
-        alloc,
-        words,
-        disk_a,
-        disk_b,
-        salt,
-        &SystemClock::new(rt),
-        &mut Reading::new(rt.stdin()),
-        &mut Writing::new(rt.stdout()),
-        doors,
-        &mut NoLink::new(),
-    );
+    let streams = hold_streams(rt, folder)?;
+    let lock = lock_folder(rt, folder)?;
+    let (disk_a, disk_b) = disks_in(rt, folder)?;
+    let mut link = NoLink::new();
+    let status = over_disks(rt, threads, words, disk_a, disk_b, salt, doors, &mut link);
+    drop(lock);
+    drop(streams);
     Ok(status)
 }
 
@@ -135,20 +165,7 @@ fn over_nothing<T: Threads + Wait + Sync, N: Link>(
     let disk_a = MemDisk::new(alloc, Vec::new(alloc), Vec::new(alloc))?;
     let disk_b = MemDisk::new(alloc, Vec::new(alloc), Vec::new(alloc))?;
     let mut doors: Vec<NoDoor> = Vec::new(alloc);
-    let (status, _disks) = top(
-        threads,
-        alloc,
-        words,
-        disk_a,
-        disk_b,
-        0,
-        &SystemClock::new(rt),
-        &mut Reading::new(rt.stdin()),
-        &mut Writing::new(rt.stdout()),
-        &mut doors,
-        link,
-    );
-    Ok(status)
+    Ok(over_disks(rt, threads, words, disk_a, disk_b, 0, &mut doors, link))
 }
 
 // Writes what was asked for to the standard output.

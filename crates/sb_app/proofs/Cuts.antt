@@ -1,0 +1,282 @@
+-- A run that ends before its input does.
+use Rattle.std.proofs.Common.{◌≡◌, ◌⊎◌, inl, inr, ℕ, List, [], ◌∷◌, ◌++◌, take, drop, map, Bool, true, false, Option, Some, None, Result, Ok, Err, refl, sym, ◌∙◌, ap, subst, append_assoc, arith}
+use Rattle.std.specs.Prelude.{IfSome, OnOk, OnErr}
+use Rattle.std.proofs.lemmas.List.{append-nil, map-append, take-append-drop}
+use Rattle.sb_outside.specs.Causes.{RoseByOne}
+use Rattle.sb_outside.specs.Streams.{Gains, GainsPart}
+use Rattle.sb_outside.proofs.Gains.{gains-gains, gains-none}
+use Rattle.sb_machine.specs.Answers.{moment_of}
+use Rattle.sb_machine.specs.History.{Log, is_fault, fresh_log, state_after}
+use Rattle.sb_machine.specs.declared.call.TimedCall.{TimedCall}
+use Rattle.sb_machine.specs.declared.reply.Answered.{Answered}
+use Rattle.sb_machine.specs.declared.reply.Refusal.{Refusal}
+use Rattle.sb_machine.specs.declared.reply.Refusal.TheVariants.{BadCall, DiskFault as FailedDisk, Stopped, OutOfMemory as WantsMemory}
+use Rattle.sb_machine.specs.declared.state.State.{State}
+use Rattle.sb_node.specs.Nodes.{IsOneOf, StayOneOf}
+use Rattle.sb_node.specs.Steps.{IsStep, entries_with, log_of}
+use Rattle.sb_app.specs.Outside.{Input, Output, Outside}
+use Rattle.sb_lines.specs.Replies.{answer_line}
+use Rattle.sb_input.specs.declared.partial_line.PartialLine.{PartialLine}
+use Rattle.sb_input.specs.declared.reader.Reader.{Reader}
+use Rattle.sb_input.specs.declared.reader.ReadEnd.{ReadEnd}
+use Rattle.sb_input.specs.declared.reader.ReadEnd.TheVariants.{Fault, OutOfMemory as NoMemory, TooMuch}
+use Rattle.sb_app.specs.declared.script_line.ScriptLine.{ScriptLine}
+use Rattle.sb_app.specs.declared.script_line.ScriptLine.TheVariants.{Malformed, Request}
+use Rattle.sb_app.specs.declared.dispatch.AnswerKind.{AnswerKind}
+use Rattle.sb_app.specs.declared.dispatch.AnswerKind.TheVariants.{Failed, Wanting}
+use Rattle.sb_app.specs.declared.ending.RunEnd.{RunEnd}
+use Rattle.sb_app.specs.declared.ending.RunEnd.TheVariants.{ReadFault, WriteFault, DiskFault, OutOfMemory, LongInput}
+use Rattle.sb_input.specs.Lines.{lines_of, AreWhole}
+use Rattle.sb_app.specs.Lines.{script_line, script_lines}
+use Rattle.sb_input.specs.Taking.{Took, IsLong, AreFirst as AreFirstTaken, IsAhead as IsReadAhead}
+use Rattle.sb_app.specs.Taking.{IsAhead, IsTaken, end_of_reading}
+use Rattle.sb_input.specs.Readers.{pending_of, IsAt, ReadsLine}
+use Rattle.sb_app.specs.Runs.{kind_of, states_of, replies_to, RunsSoFar, FollowLines}
+use Rattle.sb_app.specs.Endings.{IsWritten, IsLineWritten, IsReplyCut, IsUndecided, IsAnswer, IsCause, IsBetween, IsCutAt, AreFirst, IsCutRun, entries_by}
+use Rattle.sb_input.proofs.Splits.{took-none}
+use Rattle.sb_input.proofs.Readings.{pending_fits}
+use Rattle.sb_app.proofs.Follows.{followed_more, followed_says}
+use Rattle.sb_input.proofs.Advances.{advances, first_lines as are_first}
+use Rattle.sb_app.proofs.Advances.{said_push}
+
+-- ---- what is written of a line
+
+-- a whole line, or a front of it, by what the output took
+pub line_written : {E : Type 0} (line bytes : List ℕ) (was now : Output) (r : Result (Unit {0}) E) → bytes ≡ line → OnOk r (Gains was.given now.given bytes) → OnErr r (GainsPart was.given now.given bytes) → OnOk r (now.faults ≡ was.faults) → OnErr r (RoseByOne was.faults now.faults) → IsLineWritten line was now
+line_written line bytes was now (Ok u) is gains part same rose = record { part = line; is = inl (refl, same); written = subst (Gains was.given now.given) is gains }
+line_written line bytes was now (Err e) is gains part same rose = front_written was.given (subst (GainsPart was.given now.given) is part)
+  where
+    front_written : (given : Option (List ℕ)) → GainsPart given now.given line → IsLineWritten line (record was { given = given }) now
+    front_written None part = record { part = []; is = inr ((line, refl), rose); written = tt }
+    front_written (Some before) part = record {
+      part = take part.0 line;
+      is = inr ((drop part.0 line, sym (take-append-drop part.0 line)), rose);
+      written = part.1;
+    }
+
+pub reply_cut : (line : List ℕ) (was now : Output) → GainsPart was.given now.given line → RoseByOne was.faults now.faults → IsReplyCut line was now WriteFault
+reply_cut line was now part rose = by_given was.given part
+  where
+    by_given : (given : Option (List ℕ)) → GainsPart given now.given line → IsReplyCut line (record was { given = given }) now WriteFault
+    by_given None part = ([], (line, refl), tt, rose)
+    by_given (Some before) part = (take part.0 line, (drop part.0 line, sym (take-append-drop part.0 line)), part.1, rose)
+
+-- ---- at a line
+
+-- its answer's line wasn't written, or in part
+pub reply_cut_at : (s after : State) (x : ScriptLine) (tick : Option ℕ) (answer : Result Answered Refusal) (was now : Output) (end : RunEnd) → IsAnswer s x tick answer → is_fault answer ≡ false → after ≡ state_after s (entries_by x tick answer) → IsReplyCut (answer_line answer) was now end → IsCutAt s x was now after end
+reply_cut_at s after x tick answer was now WriteFault is sound leads cut = record {
+  tick = tick;
+  answer = answer;
+  is = is;
+  part = cut.0;
+  cause = (sound, cut.1, cut.3);
+  written = cut.2;
+  leads = leads;
+}
+reply_cut_at s after x tick answer was now OutOfMemory is sound leads cut = record {
+  tick = tick;
+  answer = answer;
+  is = is;
+  part = [];
+  cause = inr (sound, refl, cut.1);
+  written = cut.0;
+  leads = leads;
+}
+reply_cut_at s after x tick answer was now ReadFault is sound leads cut = absurd cut
+reply_cut_at s after x tick answer was now DiskFault is sound leads cut = absurd cut
+reply_cut_at s after x tick answer was now LongInput is sound leads cut = absurd cut
+
+-- the same of a line that is no call
+pub malformed_cut : (s : State) (x : ScriptLine) (key : List ℕ) (was now : Output) (end : RunEnd) → x ≡ Malformed key → IsReplyCut (answer_line (Err (BadCall key))) was now end → IsCutAt s x was now s end
+malformed_cut s x key was now end is cut = subst (λ (y : ScriptLine). IsCutAt s y was now s end) (sym is) (reply_cut_at s s (Malformed key) None (Err (BadCall key)) was now end (refl, refl) refl refl cut)
+
+-- a step of a running node
+pub step_at : (s after : State) (before stopped tick : Option ℕ) (asked : TimedCall) (a : Result Answered Refusal) → before ≡ None → IfSome tick (λ t. t ≡ moment_of s asked.reading) → IsStep (log_of s before) (entries_with tick 0 asked.reading asked.call a) (log_of after stopped)
+    → IsAnswer s (Request asked) tick a × (after ≡ state_after s (entries_by (Request asked) tick a))
+step_at s after before stopped tick asked a running at step =
+    let step' : IsStep (fresh_log s) (entries_with tick 0 asked.reading asked.call a) (log_of after stopped) = subst (λ (o : Option ℕ). IsStep (log_of s o) (entries_with tick 0 asked.reading asked.call a) (log_of after stopped)) running step in
+    ((at, step'.legal), ap (λ (l : Log). l.state) step'.leads)
+
+-- an answer of another kind is no failed disk
+pub not_failed : (a : Result Answered Refusal) (kind : AnswerKind) → kind_of a ≡ kind → (kind ≡ Failed → ⊥) → a ≡ Err FailedDisk → ⊥
+not_failed a kind is other failed = other (sym is ∙ ap kind_of failed)
+
+pub wanting_answer : (a : Result Answered Refusal) → kind_of a ≡ Wanting → a ≡ Err WantsMemory
+wanting_answer (Ok reply) is = absurd cc
+wanting_answer (Err r) is = ap Err (by_refusal r is)
+  where
+    by_refusal : (r : Refusal) → kind_of (Err r) ≡ Wanting → r ≡ WantsMemory
+    by_refusal WantsMemory is = refl
+    by_refusal FailedDisk is = absurd cc
+    by_refusal (Stopped n) is = absurd cc
+    by_refusal _ is = absurd cc
+
+-- a running node doesn't answer that it has stopped
+pub failed_answer : (a : Result Answered Refusal) (stopped : Option ℕ) → stopped ≡ None → ((n : ℕ) → a ≡ Err (Stopped n) → stopped ≡ Some n) → kind_of a ≡ Failed → a ≡ Err FailedDisk
+failed_answer (Ok reply) stopped running only is = absurd cc
+failed_answer (Err r) stopped running only is = ap Err (by_refusal r (λ n e. only n (ap Err e)) is)
+  where
+    by_refusal : (r : Refusal) → ((n : ℕ) → r ≡ Stopped n → stopped ≡ Some n) → kind_of (Err r) ≡ Failed → r ≡ FailedDisk
+    by_refusal FailedDisk only is = refl
+    by_refusal (Stopped n) only is = let other : None ≡ Some n = sym running ∙ only n refl in absurd cc
+    by_refusal WantsMemory only is = absurd cc
+    by_refusal _ only is = absurd cc
+
+pub disk_cut : (s after : State) (asked : TimedCall) (tick : Option ℕ) (a : Result Answered Refusal) (line : List ℕ) (was now : Output) → a ≡ Err FailedDisk → line ≡ answer_line (Err FailedDisk) → IsLineWritten line was now → IsAnswer s (Request asked) tick a → after ≡ state_after s (entries_by (Request asked) tick a)
+    → IsCutAt s (Request asked) was now after DiskFault
+disk_cut s after asked tick a line was now failed is written allowed leads = record {
+  tick = tick;
+  answer = a;
+  is = allowed;
+  part = written.part;
+  cause = (failed, subst (λ (l : List ℕ). IsWritten l written.part was.faults now.faults) (is ∙ ap answer_line (sym failed)) written.is);
+  written = written.written;
+  leads = leads;
+}
+
+pub memory_cut : (s after : State) (asked : TimedCall) (tick : Option ℕ) (a : Result Answered Refusal) (line : List ℕ) (was now : Output) → a ≡ Err WantsMemory → line ≡ answer_line (Err WantsMemory) → IsLineWritten line was now → IsAnswer s (Request asked) tick a → after ≡ state_after s (entries_by (Request asked) tick a)
+    → IsCutAt s (Request asked) was now after OutOfMemory
+memory_cut s after asked tick a line was now wants is written allowed leads = record {
+  tick = tick;
+  answer = a;
+  is = allowed;
+  part = written.part;
+  cause = inl (wants, subst (λ (l : List ℕ). IsWritten l written.part was.faults now.faults) (is ∙ ap answer_line (sym wants)) written.is);
+  written = written.written;
+  leads = leads;
+}
+
+-- ---- the first lines of an input
+
+said_first : (start : Option (List ℕ)) (next : List ℕ) → AreFirstTaken start (lines_of next) → AreFirst start (script_lines next)
+said_first None next first = tt
+said_first (Some all) next first = (map script_line first.0, ap (map script_line) first.1 ∙ map-append script_line (lines_of next) first.0)
+
+-- whole lines, or all of an input, are its first
+pub first_lines : (start left : Option (List ℕ)) (input next : List ℕ) (r : Reader) → IsAt start input left r → input ≡ next ++ pending_of r → AreWhole next ⊎ ((r.ended ≡ true) × (pending_of r ≡ [])) → AreFirst start (script_lines next)
+first_lines start left input next r at split goes = said_first start next (are_first start left input next r at split goes)
+
+-- ---- what was taken
+
+-- behind whole lines
+pub taken_behind : (was now : Input) (done pending input more : List ℕ) (end : RunEnd) → input ≡ done ++ pending → Took was.left now.left (input ++ more) → IsAhead end (pending ++ more) → IsTaken was now (script_lines done) end
+taken_behind was now done pending input more end split took is_ahead = record {
+  answered = done;
+  ahead = pending ++ more;
+  took = subst (Took was.left now.left) (ap (λ (l : List ℕ). l ++ more) split ∙ append_assoc done pending more) took;
+  says = refl;
+  is_ahead = is_ahead;
+}
+
+-- nothing
+nothing_taken : (input : Input) → IsTaken input input [] OutOfMemory
+nothing_taken input = record {
+  answered = [];
+  ahead = [];
+  took = took-none input.left;
+  says = refl;
+  is_ahead = record { line = []; rest = []; split = refl; no_feed = tt; fits = omega arith };
+}
+
+ahead_at : (end : RunEnd) (answer : Result Answered Refusal) (part : List ℕ) (before now : ℕ) (r : Reader) → IsCause end answer part before now → IsAhead end (pending_of r)
+ahead_at ReadFault answer part before now r cause = absurd cause
+ahead_at WriteFault answer part before now r cause = pending_fits r
+ahead_at DiskFault answer part before now r cause = pending_fits r
+ahead_at OutOfMemory answer part before now r cause = record {
+  line = [];
+  rest = pending_of r;
+  split = refl;
+  no_feed = tt;
+  fits = omega (arith, pending_fits r);
+}
+ahead_at LongInput answer part before now r cause = absurd cause
+
+-- ---- the run
+
+-- between two lines
+pub cut_between : (Safe : Type 0) (s state : State) (was now : Outside) (left : Option (List ℕ)) (r : Reader) (refused : Bool) (end : RunEnd) (so_far : RunsSoFar s was.input.left left was.output.given now.output.given r state refused) → (Safe → FollowLines s (script_lines so_far.done) was.disks now.disks) → IsBetween end
+    → now.output.faults ≡ was.output.faults → IsTaken was.input now.input (script_lines so_far.done) end → (end ≡ LongInput → IsLong was.input.left now.input.left) → IsCutRun Safe s was now state end
+cut_between Safe s state was now left r refused end so_far moments between same taken long = record {
+  lines = script_lines so_far.done;
+  last = None;
+  first = subst (AreFirst was.input.left) (sym (append-nil (script_lines so_far.done))) (first_lines was.input.left left so_far.input so_far.done r so_far.at so_far.split (inl so_far.whole));
+  taken = subst (λ (l : List ScriptLine). IsTaken was.input now.input l end) (sym (append-nil (script_lines so_far.done))) taken;
+  long = long;
+  part = [];
+  ends = (between, refl, same);
+  written = subst (Gains was.output.given now.output.given) (sym (append-nil (replies_to s (script_lines so_far.done)))) so_far.written;
+  leads = so_far.leads;
+  undecided = λ safe failed. tt;
+  moments = λ safe. followed_says s _ _ was.disks now.disks (sym (append-nil (script_lines so_far.done))) (moments safe);
+}
+
+-- before any line
+pub cut_at_once : (Safe : Type 0) (s : State) (was : Outside) → IsCutRun Safe s was was s OutOfMemory
+cut_at_once Safe s was = record {
+  lines = [];
+  last = None;
+  first = no_lines was.input.left;
+  taken = nothing_taken was.input;
+  long = λ e. absurd cc;
+  part = [];
+  ends = (tt, refl, refl);
+  written = gains-none was.output.given;
+  leads = refl;
+  undecided = λ safe failed. tt;
+  moments = λ safe. refl;
+}
+  where
+    no_lines : (left : Option (List ℕ)) → AreFirst left []
+    no_lines None = tt
+    no_lines (Some all) = (script_lines all, refl)
+
+not_long : (end : RunEnd) (answer : Result Answered Refusal) (part : List ℕ) (before now : ℕ) (P : Type 0) → IsCause end answer part before now → end ≡ LongInput → P
+not_long LongInput answer part before now P cause e = absurd cause
+not_long ReadFault answer part before now P cause e = absurd cause
+not_long WriteFault answer part before now P cause e = absurd cc
+not_long DiskFault answer part before now P cause e = absurd cc
+not_long OutOfMemory answer part before now P cause e = absurd cc
+
+-- at one line more
+pub cut_at_line : (Safe : Type 0) (s state after : State) (was on now : Outside) (r next : Reader) (refused : Bool) (end : RunEnd) (partial : PartialLine) (x : ScriptLine) (so_far : RunsSoFar s was.input.left on.input.left was.output.given on.output.given r state refused)
+    → (reads : ReadsLine was.input.left so_far.input (pending_of r) now.input.left next partial) → x ≡ script_line reads.line → IsCutAt state x on.output now.output after end → on.output.faults ≡ was.output.faults → (Safe → end ≡ DiskFault → IsOneOf now.disks (states_of state x))
+    → (Safe → FollowLines s (script_lines so_far.done) was.disks on.disks) → (Safe → StayOneOf on.disks now.disks (states_of state x)) → IsCutRun Safe s was now after end
+cut_at_line Safe s state after was on now r next refused end partial x so_far reads says cut same undecided moments more =
+    let adv = advances so_far.input so_far.done (pending_of r) reads.more reads.line next so_far.split so_far.whole reads.no_feed reads.next in
+    let all : script_lines adv.next ≡ script_lines so_far.done ++ x ∷ [] = said_push so_far.done adv.next reads.line adv.says ∙ ap (λ y. script_lines so_far.done ++ y ∷ []) (sym says) in
+    record {
+      lines = script_lines so_far.done;
+      last = Some (record { line = x; tick = cut.tick; answer = cut.answer });
+      first = subst (AreFirst was.input.left) all (first_lines was.input.left now.input.left (so_far.input ++ reads.more) adv.next next reads.at adv.split adv.goes);
+      taken = record {
+        answered = adv.next;
+        ahead = pending_of next;
+        took = subst (Took was.input.left now.input.left) adv.split reads.at.took;
+        says = all;
+        is_ahead = ahead_at end cut.answer cut.part on.output.faults now.output.faults next cut.cause;
+      };
+      long = not_long end cut.answer cut.part on.output.faults now.output.faults (IsLong was.input.left now.input.left) cut.cause;
+      part = cut.part;
+      ends = (subst (λ (y : State). IsAnswer y x cut.tick cut.answer) so_far.leads cut.is, subst (λ n. IsCause end cut.answer cut.part n now.output.faults) same cut.cause);
+      written = gains-gains was.output.given on.output.given now.output.given (replies_to s (script_lines so_far.done)) cut.part so_far.written cut.written;
+      leads = cut.leads ∙ ap (λ (y : State). state_after y (entries_by x cut.tick cut.answer)) so_far.leads;
+      undecided = λ safe failed. subst (λ (y : State). IsUndecided now.disks y (Some (record { line = x; tick = cut.tick; answer = cut.answer }))) so_far.leads (undecided safe failed);
+      moments = λ safe. followed_more s state (script_lines so_far.done) x was.disks on.disks now.disks so_far.leads (moments safe) (more safe);
+    }
+
+pub reading_between : (e : ReadEnd) → IsBetween (end_of_reading e)
+reading_between Fault = tt
+reading_between NoMemory = tt
+reading_between TooMuch = tt
+
+pub reading_long : (e : ReadEnd) → end_of_reading e ≡ LongInput → e ≡ TooMuch
+reading_long Fault is = absurd cc
+reading_long NoMemory is = absurd cc
+reading_long TooMuch is = refl
+
+-- how far was read ahead of a line that didn't come
+pub reading_ahead : (e : ReadEnd) (ahead : List ℕ) → IsReadAhead e ahead → IsAhead (end_of_reading e) ahead
+reading_ahead Fault ahead is = is
+reading_ahead NoMemory ahead is = is
+reading_ahead TooMuch ahead is = is

@@ -1,0 +1,159 @@
+-- What a step of a running node says of the machine.
+use Rattle.std.proofs.Common.{◌≡◌, ℕ, [], ◌∷◌, Bool, true, false, Option, Some, None, Result, Ok, Err, refl, sym, ◌∙◌, ap, subst, arith, max, min}
+use Rattle.std.specs.Prelude.{is_some, is_err, IfSome}
+use Rattle.std.specs.Bool.{MatchBool}
+use Rattle.sb_outside.specs.Streams.{Gains}
+use Rattle.sb_machine.specs.Answers.{answer_of, moment_of, max_moment}
+use Rattle.sb_machine.specs.Consistent.{IsConsistent}
+use Rattle.sb_machine.specs.Due.{is_due}
+use Rattle.sb_machine.specs.History.{Log, IsAnswer, IsLegal, advanced, after_entries, entries_at, fresh_log, is_fault, is_spent, state_after, stops}
+use Rattle.sb_machine.specs.declared.call.Call.{Call}
+use Rattle.sb_machine.specs.declared.call.TimedCall.{TimedCall}
+use Rattle.sb_machine.specs.declared.history.Entry.TheVariants.{Ticked, Answered as Replied}
+use Rattle.sb_machine.specs.declared.reply.Answered.{Answered}
+use Rattle.sb_machine.specs.declared.reply.Refusal.{Refusal}
+use Rattle.sb_machine.specs.declared.reply.Refusal.TheVariants.{DiskFault, Stopped, OutOfMemory, Exhausted}
+use Rattle.sb_machine.specs.declared.state.State.{State}
+use Rattle.sb_laws.proofs.Consistency.{consistent_is_sweepable}
+use Rattle.sb_laws.proofs.Outcomes.{answers_no_fault}
+use Rattle.sb_laws.proofs.Sweeps.{nothing_due_after}
+use Rattle.sb_journal.specs.Disks.{Disks}
+use Rattle.sb_node.specs.Nodes.{StayOneOf}
+use Rattle.sb_node.specs.Steps.{IsStep, called_at, entries_with, log_of, time_to}
+use Rattle.sb_app.specs.Outside.{Output}
+use Rattle.sb_lines.specs.Replies.{answer_line}
+use Rattle.sb_app.specs.declared.script_line.ScriptLine.TheVariants.{Request}
+use Rattle.sb_app.specs.declared.dispatch.AnswerKind.TheVariants.{Accepted, Refused}
+use Rattle.sb_app.specs.Runs.{answer_at, kind_of, state_by, states_of, IsAnswered}
+
+refused_kind : (r : Refusal) → kind_of (Err r) ≡ Refused → is_fault (Err r) ≡ false
+refused_kind DiskFault is = absurd cc
+refused_kind (Stopped n) is = absurd cc
+refused_kind OutOfMemory is = absurd cc
+refused_kind _ is = refl
+
+not_accepted : (r : Refusal) → kind_of (Err r) ≡ Accepted → ⊥
+not_accepted DiskFault is = absurd cc
+not_accepted (Stopped n) is = absurd cc
+not_accepted OutOfMemory is = absurd cc
+not_accepted _ is = absurd cc
+
+pub accepted_answer : (a : Result Answered Refusal) → kind_of a ≡ Accepted → (is_fault a ≡ false) × (is_err a ≡ false)
+accepted_answer (Ok reply) is = (refl, refl)
+accepted_answer (Err r) is = absurd (not_accepted r is)
+
+pub refused_answer : (a : Result Answered Refusal) → kind_of a ≡ Refused → (is_fault a ≡ false) × (is_err a ≡ true)
+refused_answer (Ok reply) is = absurd cc
+refused_answer (Err r) is = (refused_kind r is, refl)
+
+pub going_on : (a : Result Answered Refusal) → is_fault a ≡ false → stops a ≡ false
+going_on (Ok reply) e = refl
+going_on (Err r) e = by_refusal r e
+  where
+    by_refusal : (r : Refusal) → is_fault (Err r) ≡ false → stops (Err r) ≡ false
+    by_refusal DiskFault e = absurd cc
+    by_refusal (Stopped n) e = absurd cc
+    by_refusal _ e = refl
+
+none_of : (o : Option ℕ) → is_some o ≡ false → o ≡ None
+none_of None e = refl
+none_of (Some n) e = absurd cc
+
+-- ---- the entries of a step
+
+-- time that has come up to the moment of a reading stays there
+there : (a now t : ℕ) → t ≡ max a now → max a t ≡ t
+there a now t is = omega (arith, is)
+
+-- with no tick
+called_entries : (s : State) (reading : ℕ) (call : Call) (a : Result Answered Refusal) → IsAnswer s (moment_of s reading) call a → (a ≡ answer_at s reading call) × (entries_with None 0 reading call a ≡ entries_at 0 s reading call)
+called_entries s reading call a is = by_due (is_due (moment_of s reading) s.space) refl is
+  where
+    by_due : (b : Bool) → is_due (moment_of s reading) s.space ≡ b → MatchBool b ((is_spent s (moment_of s reading) ≡ true) × (a ≡ Err Exhausted)) (a ≡ answer_of s (moment_of s reading) call) → (a ≡ answer_at s reading call) × (entries_with None 0 reading call a ≡ entries_at 0 s reading call)
+    by_due true due is = (rw (due, is.0) is.1, rw (due, is.0) (ap (λ (x : Result Answered Refusal). Replied 0 reading call x ∷ []) is.1))
+    by_due false calm is = (rw calm is, rw calm (ap (λ (x : Result Answered Refusal). Replied 0 reading call x ∷ []) is))
+
+-- behind a tick
+ticked_entries : (s : State) (reading : ℕ) (call : Call) (a : Result Answered Refusal) → is_due (moment_of s reading) s.space ≡ true → is_spent s (moment_of s reading) ≡ false → a ≡ answer_of (advanced s (moment_of s reading)) (moment_of s reading) call
+    → (a ≡ answer_at s reading call) × (entries_with (Some (moment_of s reading)) 0 reading call a ≡ entries_at 0 s reading call)
+ticked_entries s reading call a due goes is = (rw (due, goes) is, rw (due, goes) (ap (λ (x : Result Answered Refusal). Ticked 0 (moment_of s reading) ∷ Replied 0 reading call x ∷ []) is))
+
+-- behind a tick nothing is due
+calm_answer : (s : State) (m t : ℕ) (call : Call) (a : Result Answered Refusal) → m ≡ t → is_due t s.space ≡ false → IsAnswer s m call a → a ≡ answer_of s t call
+calm_answer s m t call a same calm is =
+    let is' : IsAnswer s t call a = subst (λ (n : ℕ). IsAnswer s n call a) same is in
+    subst (λ (b : Bool). MatchBool b ((is_spent s t ≡ true) × (a ≡ Err Exhausted)) (a ≡ answer_of s t call)) calm is'
+
+-- what a step adds is what the machine adds
+step_entries : (s : State) (tick : Option ℕ) (reading : ℕ) (call : Call) (a : Result Answered Refusal) → IsConsistent s → IfSome tick (λ t. t ≡ moment_of s reading) → IsLegal s (entries_with tick 0 reading call a) → is_fault a ≡ false
+    → (a ≡ answer_at s reading call) × (entries_with tick 0 reading call a ≡ entries_at 0 s reading call)
+step_entries s None reading call a consistent at legal sound = called_entries s reading call a (legal.0.1 sound)
+step_entries s (Some m) reading call a consistent at legal sound =
+    subst (λ (n : ℕ). (a ≡ answer_at s reading call) × (entries_with (Some n) 0 reading call a ≡ entries_at 0 s reading call)) (sym at) (at_moment (subst (λ (n : ℕ). IsLegal s (entries_with (Some n) 0 reading call a)) at legal))
+  where
+    t : ℕ
+    t = moment_of s reading
+
+    at_moment : IsLegal s (entries_with (Some t) 0 reading call a) → (a ≡ answer_at s reading call) × (entries_with (Some t) 0 reading call a ≡ entries_at 0 s reading call)
+    at_moment legal' =
+        let calm : is_due t (advanced s t).space ≡ false = nothing_due_after s t (consistent_is_sweepable s consistent) in
+        ticked_entries s reading call a legal'.0.2.2 legal'.0.2.3 (calm_answer (advanced s t) (moment_of (advanced s t) reading) t call a legal'.1.0.0.1 calm (legal'.1.0.1 sound))
+
+-- ---- the step
+
+pub record Stepped (s : State) (reading : ℕ) (call : Call) (answer : Result Answered Refusal) (stopped : Option ℕ) (after : State) : Type 0 where
+  pub says : answer ≡ answer_at s reading call
+  pub leads : after ≡ state_after s (entries_at 0 s reading call)
+  pub runs : stopped ≡ None
+
+stops_by : (s : State) (tick : Option ℕ) (reading : ℕ) (call : Call) (a : Result Answered Refusal) → (after_entries (fresh_log s) (entries_with tick 0 reading call a)).stopped ≡ stops a
+stops_by s None reading call a = refl
+stops_by s (Some t) reading call a = refl
+
+running_step : (s after : State) (before stopped tick : Option ℕ) (reading : ℕ) (call : Call) (a : Result Answered Refusal) → before ≡ None → IsStep (log_of s before) (entries_with tick 0 reading call a) (log_of after stopped) → IsStep (fresh_log s) (entries_with tick 0 reading call a) (log_of after stopped)
+running_step s after before stopped tick reading call a running step = subst (λ (o : Option ℕ). IsStep (log_of s o) (entries_with tick 0 reading call a) (log_of after stopped)) running step
+
+pub stepped : (s after : State) (before stopped tick : Option ℕ) (reading : ℕ) (call : Call) (a : Result Answered Refusal) → IsConsistent s → before ≡ None → IfSome tick (λ t. t ≡ moment_of s reading)
+    → IsStep (log_of s before) (entries_with tick 0 reading call a) (log_of after stopped) → is_fault a ≡ false → Stepped s reading call a stopped after
+stepped s after before stopped tick reading call a consistent running at step sound =
+    let step' = running_step s after before stopped tick reading call a running step in
+    let is = step_entries s tick reading call a consistent at step'.legal sound in
+    record {
+      says = is.0;
+      leads = ap (λ (l : Log). l.state) step'.leads ∙ ap (state_after s) is.1;
+      runs = none_of stopped (ap (λ (l : Log). l.stopped) step'.leads ∙ stops_by s tick reading call a ∙ going_on a sound);
+    }
+
+pub answered_call : (s after : State) (asked : TimedCall) (a : Result Answered Refusal) (stopped : Option ℕ) (was now : Output) (refused : Bool) → Stepped s asked.reading asked.call a stopped after → Gains was.given now.given (answer_line a) → is_err a ≡ refused
+    → IsAnswered s (Request asked) was now after refused
+answered_call s after asked a stopped was now refused step gains is = record {
+  written = subst (λ (x : Result Answered Refusal). Gains was.given now.given (answer_line x)) step.says gains;
+  leads = step.leads;
+  says = sym is ∙ ap is_err step.says;
+}
+
+-- want of memory doesn't stop a node
+pub still_runs_wanting : (s after : State) (before stopped tick : Option ℕ) (reading : ℕ) (call : Call) (a : Result Answered Refusal) → before ≡ None → IsStep (log_of s before) (entries_with tick 0 reading call a) (log_of after stopped) → a ≡ Err OutOfMemory → stopped ≡ None
+still_runs_wanting s after before stopped tick reading call a running step wants =
+    let step' = running_step s after before stopped tick reading call a running step in
+    none_of stopped (ap (λ (l : Log). l.stopped) step'.leads ∙ stops_by s tick reading call a ∙ ap stops wants)
+
+-- ---- what a crash leaves
+
+-- the last of the states of a step is the one after its line
+called_after : (s : State) (asked : TimedCall) → called_at (moment_of s asked.reading) asked.call (time_to (moment_of s asked.reading) s) ≡ state_by s (Request asked)
+called_after s asked = by_tests (is_due t s.space) (is_spent s t) refl refl
+  where
+    t : ℕ
+    t = moment_of s asked.reading
+
+    by_tests : (b c : Bool) → is_due t s.space ≡ b → is_spent s t ≡ c → called_at t asked.call (time_to t s) ≡ state_by s (Request asked)
+    by_tests false c calm any = rw (calm, answers_no_fault s t asked.call) refl
+    by_tests true true due spent = rw (due, spent) refl
+    by_tests true false due goes =
+        let same : moment_of (advanced s t) asked.reading ≡ t = there (min asked.reading max_moment) s.now t refl in
+        rw (due, goes, answers_no_fault (advanced s t) t asked.call, same) refl
+
+pub called_moments : (s : State) (asked : TimedCall) (was now : Disks) → StayOneOf was now (s ∷ time_to (moment_of s asked.reading) s ∷ called_at (moment_of s asked.reading) asked.call (time_to (moment_of s asked.reading) s) ∷ [])
+    → StayOneOf was now (states_of s (Request asked))
+called_moments s asked was now run = subst (λ (x : State). StayOneOf was now (s ∷ time_to (moment_of s asked.reading) s ∷ x ∷ [])) (called_after s asked) run

@@ -1,0 +1,113 @@
+-- What a whole run leads to.
+use Rattle.std.proofs.Common.{◌≡◌, ℕ, List, [], ◌∷◌, ◌++◌, Bool, true, false, refl, sym, ◌∙◌, ap, subst}
+use Rattle.sb_outside.specs.declared.disk.Disk.{Ghosts as Disk}
+use Rattle.sb_machine.specs.Answers.{answer_of, moment_of}
+use Rattle.sb_machine.specs.Consistent.{IsConsistent}
+use Rattle.sb_machine.specs.Due.{is_due}
+use Rattle.sb_machine.specs.History.{Log, IsFaultless, IsLegal, advanced, after_entries, after_entry, entries_at, fresh_log, is_spent, state_after, stops}
+use Rattle.sb_machine.specs.declared.call.Call.{Call}
+use Rattle.sb_machine.specs.declared.history.Entry.{Entry}
+use Rattle.sb_machine.specs.declared.state.State.{State}
+use Rattle.sb_laws.proofs.Orders.{answers_legally, consistent_is_orderly}
+use Rattle.sb_laws.proofs.Outcomes.{answers_no_fault}
+use Rattle.sb_node.specs.declared.node.Node.{Node}
+use Rattle.sb_journal.specs.Disks.{Disks, AreHonest}
+use Rattle.sb_node.specs.Recovery.{Recovers, recovers, recovered_on}
+use Rattle.sb_node.proofs.Keeping.{kept_recovers as last_recovers}
+use Rattle.sb_node.specs.Nodes.{node_state, node_journal, node_last, node_disks, IsKept, IsDurable}
+use Rattle.sb_app.specs.Outside.{Outside}
+use Rattle.sb_node.proofs.Crashes.{found_leads, kept_leads}
+use Rattle.sb_app.specs.declared.script_line.ScriptLine.{ScriptLine}
+use Rattle.sb_app.specs.declared.script_line.ScriptLine.TheVariants.{Blank, Malformed, Request}
+use Rattle.sb_app.specs.Lines.{script_lines}
+use Rattle.sb_app.specs.Runs.{IsScriptRun, FollowLines, state_after_all, calls_in, history_of, status_by}
+use Rattle.sb_app.specs.Tops.{HasMoments, IsWholeRun}
+use Rattle.sb_app.specs.Openings.{IsOpened}
+use Rattle.sb_app.proofs.Lawful.{lawful}
+use Rattle.sb_app.proofs.Steps.{going_on}
+
+-- ---- the history of lines
+
+pub after_append : (l : Log) (h more : List Entry) → after_entries l (h ++ more) ≡ after_entries (after_entries l h) more
+after_append l [] more = refl
+after_append l (e ∷ h) more = after_append (after_entry l e) h more
+
+-- what the machine answers leaves the namespace running, with no tick left over
+machine_goes : (s : State) (reading : ℕ) (call : Call) → after_entries (fresh_log s) (entries_at 0 s reading call) ≡ fresh_log (state_after s (entries_at 0 s reading call))
+machine_goes s reading call = by_tests (is_due t s.space) (is_spent s t) refl refl
+  where
+    t : ℕ
+    t = moment_of s reading
+
+    goes : (y : State) → stops (answer_of y t call) ≡ false
+    goes y = going_on (answer_of y t call) (answers_no_fault y t call)
+
+    by_tests : (b c : Bool) → is_due t s.space ≡ b → is_spent s t ≡ c → after_entries (fresh_log s) (entries_at 0 s reading call) ≡ fresh_log (state_after s (entries_at 0 s reading call))
+    by_tests false c calm any = rw (calm, goes s) refl
+    by_tests true true due spent = rw (due, spent) refl
+    by_tests true false due room = rw (due, room, goes (advanced s t)) refl
+
+-- the history of lines leads to the state after them
+pub led_log : (s : State) (ls : List ScriptLine) → after_entries (fresh_log s) (history_of s ls) ≡ fresh_log (state_after_all s ls)
+led_log s [] = refl
+led_log s (Blank ∷ ls) = led_log s ls
+led_log s (Malformed key ∷ ls) = led_log s ls
+led_log s (Request a ∷ ls) =
+    let here = entries_at 0 s a.reading a.call in
+    let after = state_after s here in
+    after_append (fresh_log s) here (history_of after ls) ∙ ap (λ (l : Log). after_entries l (history_of after ls)) (machine_goes s a.reading a.call) ∙ led_log after ls
+
+pub led_to : (s : State) (ls : List ScriptLine) → state_after_all s ls ≡ state_after s (history_of s ls)
+led_to s ls = sym (ap (λ (l : Log). l.state) (led_log s ls))
+
+pub legal_history : (s : State) (ls : List ScriptLine) → IsConsistent s → IsLegal s (history_of s ls) × IsFaultless (history_of s ls)
+legal_history s ls consistent = answers_legally 0 s (calls_in ls) (consistent_is_orderly s consistent)
+
+-- ---- a node that is kept
+
+-- what holds a state recovers it
+pub kept_recovers : {D : Type 0} {disk : Disk D} (node : Node D disk) (salt : ℕ) → IsKept node → Recovers (recovered_on (node_disks node) salt) (node_state node)
+kept_recovers node salt kept = found_leads kept.file (node_state node) (node_disks node).a.held.seen (node_disks node).b.held.seen kept.holds.reads kept.leads salt
+
+pub kept_numbers : {D : Type 0} {disk : Disk D} (node : Node D disk) (salt : ℕ) → IsKept node → recovered_on (node_disks node) salt ≡ recovers (node_state node) (node_last node)
+kept_numbers node salt kept = last_recovers (node_journal node) (node_last node) (node_state node) salt kept
+
+-- and so does what a crash leaves of its disks
+pub kept_durable : {D : Type 0} {disk : Disk D} (node : Node D disk) → IsKept node → IsDurable (node_disks node) (node_state node)
+kept_durable node kept = kept_leads (node_journal node) (node_last node) (node_state node) kept
+
+-- ---- a whole run
+
+-- the outside where the journal is open
+abbrev pub opened : Outside → Disks → Outside
+opened was ready = record was { disks = ready }
+
+pub moments_of : (Safe : Type 0) (salt : ℕ) (start : State) (lines : List ScriptLine) (was ready now : Disks) → IsOpened Safe salt was ready start → (Safe → FollowLines start lines ready now) → AreHonest was → HasMoments salt start lines was now
+moments_of Safe salt start lines was ready now opening follows honest = record {
+  ready = ready;
+  opens = opening.opens honest;
+  holds = opening.holds honest;
+  follows = follows (opening.safe honest);
+}
+
+pub whole_run : (Safe : Type 0) (salt : ℕ) (was now : Outside) (ready : Disks) (start state : State) (refused : Bool) (status : ℕ) → IsOpened Safe salt was.disks ready start → IsScriptRun Safe start (opened was ready) now state refused
+    → (AreHonest was.disks → Recovers (recovered_on now.disks salt) state) → (AreHonest was.disks → IsDurable now.disks state) → status ≡ status_by refused → IsWholeRun salt was now status
+whole_run Safe salt was now ready start state refused status opening run kept durable is =
+    let leads : state ≡ state_after start (history_of start (script_lines run.input)) = run.leads ∙ led_to start (script_lines run.input) in
+    let legal = legal_history start (script_lines run.input) opening.consistent in
+    record {
+      start = start;
+      found = opening.found;
+      consistent = opening.consistent;
+      input = run.input;
+      took = run.took;
+      ended = run.ended;
+      written = run.written;
+      legal = legal.0;
+      laws = lawful start (history_of start (script_lines run.input)) opening.consistent legal.0;
+      faultless = legal.1;
+      kept = λ honest. subst (Recovers (recovered_on now.disks salt)) leads (kept honest);
+      durable = λ honest. subst (IsDurable now.disks) leads (durable honest);
+      says = is ∙ ap status_by run.says;
+      moments = moments_of Safe salt start (script_lines run.input) was.disks ready now.disks opening run.moments;
+    }

@@ -1,0 +1,39 @@
+use Rattle.std.proofs.Common.{[], sym, subst}
+use Rattle.sb_node.specs.Nodes.{node_state, node_journal, node_last, node_disks, IsOneOf, StayOneOf}
+use Rattle.sb_app.specs.Outside.{output_of}
+use Rattle.sb_node.proofs.Crashes.{untouched_moments}
+use Rattle.sb_app.specs.declared.script_line.ScriptLine.{ScriptLine}
+use Rattle.sb_app.specs.Runs.{states_of}
+use Rattle.sb_app.proofs.Cuts.{malformed_cut}
+use Rattle.sb_input.proofs.Errors.{passed_on}
+use Rattle.sb_app.proofs.dispatch.dispatch_line.Goals as goal
+
+pub returns-in_err-write_answer-in-Malformed-clause-cut : goal.returns-in_err-write_answer-in-Malformed-clause-cut
+returns-in_err-write_answer-in-Malformed-clause-cut g c =
+    passed_on _ c.in_err-write_answer-in-Malformed.field-0.0 c.from_residual.result c.from_residual.ensures
+    (malformed_cut _ c.args.line c.in-Malformed.key (output_of g.K.Sink c.args.output.now) (output_of g.K.Sink c.write_answer.new.output) _ c.in-Malformed.is c.in_err-write_answer-in-Malformed.ensures.err)
+
+pub returns-in-Request-clause-undecided : goal.returns-in-Request-clause-undecided
+returns-in-Request-clause-undecided g c safe failed =
+    let s = node_state c.args.node.now in
+    subst (λ (x : ScriptLine). IsOneOf (node_disks c.dispatch_call-answered.new.node) (states_of s x)) (sym c.in-Request.is) (c.dispatch_call-answered.ensures.undecided safe failed)
+
+pub returns-in-Request-clause-any_moment : goal.returns-in-Request-clause-any_moment
+returns-in-Request-clause-any_moment g c safe =
+    let s = node_state c.args.node.now in
+    subst (λ (x : ScriptLine). StayOneOf (node_disks c.args.node.now) (node_disks c.dispatch_call-answered.new.node) (states_of s x)) (sym c.in-Request.is) (c.dispatch_call-answered.ensures.any_moment safe)
+
+pub returns-in-Blank-clause-any_moment : goal.returns-in-Blank-clause-any_moment
+returns-in-Blank-clause-any_moment g c safe =
+    let n = c.args.node.now in
+    subst (λ (x : ScriptLine). StayOneOf (node_disks n) (node_disks n) (states_of (node_state n) x)) (sym c.in-Blank.is) (untouched_moments (node_journal n) (node_last n) (node_state n) [] safe)
+
+pub returns-in_ok-write_answer-in-Malformed-clause-any_moment : goal.returns-in_ok-write_answer-in-Malformed-clause-any_moment
+returns-in_ok-write_answer-in-Malformed-clause-any_moment g c safe =
+    let n = c.args.node.now in
+    subst (λ (x : ScriptLine). StayOneOf (node_disks n) (node_disks n) (states_of (node_state n) x)) (sym c.in-Malformed.is) (untouched_moments (node_journal n) (node_last n) (node_state n) [] safe)
+
+pub returns-in_err-write_answer-in-Malformed-clause-any_moment : goal.returns-in_err-write_answer-in-Malformed-clause-any_moment
+returns-in_err-write_answer-in-Malformed-clause-any_moment g c safe =
+    let n = c.args.node.now in
+    subst (λ (x : ScriptLine). StayOneOf (node_disks n) (node_disks n) (states_of (node_state n) x)) (sym c.in-Malformed.is) (untouched_moments (node_journal n) (node_last n) (node_state n) [] safe)

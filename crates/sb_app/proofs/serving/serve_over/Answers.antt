@@ -1,0 +1,85 @@
+use denote.Exit as exit
+use denote.Param.Send.{arg_send, param_send}
+use Rattle.std.proofs.Common.{ap, refl, subst, sym, ◌∙◌}
+use Rattle.std.specs.Prelude.{is_some}
+use Rattle.sb_journal.specs.Disks.{disks_of}
+use Rattle.sb_node.specs.Nodes.{node_disk_a, node_disk_b, node_disks, node_state, node_stopped, IsKept}
+use Rattle.sb_node.specs.Serving.{opened_disks, origin_of}
+use Rattle.sb_node.proofs.Standing.{same_found}
+use Rattle.sb_desk.specs.Desks.{Open, below}
+use Rattle.sb_server.specs.Serves.{Worker, Working}
+use Rattle.sb_server.specs.Works.{ServesBy}
+use Rattle.sb_app.specs.Checks.{IsLineTold}
+use Rattle.sb_app.specs.Openings.{IsOpened}
+use Rattle.sb_app.specs.Outside.{Outside, output_of}
+use Rattle.sb_app.specs.Servings.{IsServeCall, passes_for, report_line, serve_status}
+use Rattle.sb_node.proofs.Crossing.{node_send}
+use Rattle.sb_app.proofs.Servings.{IsClosed, IsWorked, closed_node, each_of, failed_call, served_call, unserved_call}
+use Rattle.sb_app.proofs.Whole.{kept_recovers}
+use Rattle.sb_app.proofs.serving.serve_over.Goals as goal
+
+pub returns-in-Err : goal.returns-in-Err
+returns-in-Err g c input =
+    let was : Outside = record { input = input; output = output_of g.K.Sink c.args.output.now; disks = disks_of g.D.Disk c.args.disk_a c.args.disk_b } in
+    let failed = c.in-Err.failed in
+    let fails = c.in-Err.ensures.failed in
+    failed_call _ g.R.Door.count c.args.salt was (disks_of g.D.Disk failed.1 failed.2) (output_of g.K.Sink c.open_node.new.output) c.args.doors.now.items fails.0 failed.0 fails.1
+
+pub returns-in-Err-new : goal.returns-in-Err-new
+returns-in-Err-new g c input =
+    let was : Outside = record { input = input; output = output_of g.K.Sink c.args.output.now; disks = disks_of g.D.Disk c.args.disk_a c.args.disk_b } in
+    let works : Open → Worker g.row.R.Denot → Type 0 = λ desk. Working (ServesBy g.R.Conn.Conn.left g.R.Conn.Conn.given g.R.Conn.Conn.reads g.R.Conn.Conn.writes) g.R.Door.left g.R.Door.taken g.R.Door.ended g.R.Door.count g.R.Door.out desk c.args.most in
+    let doors = c.args.doors.now.items in
+    let node = c.in-Ok-open_node.node in
+    let back = c.node_back.ensures ∙ c.in-Err-new.ensures.value in
+    let over = unserved_call works g.R.Door.count (IsKept node) c.args.salt was (node_disks node) doors (node_state node) c.in-Ok-open_node.ensures.opened (kept_recovers node c.args.salt) in
+    let unsaid = subst (λ o. IsServeCall works g.R.Door.count c.args.salt was (record was { output = output_of g.K.Sink o; disks = node_disks node }) doors doors 7) (sym c.in-Ok-open_node.ensures.unsaid) over in
+    subst (λ a. IsServeCall works g.R.Door.count c.args.salt was (record was { output = output_of g.K.Sink c.open_node.new.output; disks = disks_of g.D.Disk a c.close-disk_a.result.1 }) doors doors 7) (sym (c.close-disk_a.ensures.disk_a ∙ ap node_disk_a back))
+    (subst (λ b. IsServeCall works g.R.Door.count c.args.salt was (record was { output = output_of g.K.Sink c.open_node.new.output; disks = disks_of g.D.Disk (node_disk_a node) b }) doors doors 7) (sym (c.close-disk_a.ensures.disk_b ∙ ap node_disk_b back)) unsaid)
+
+pub serve-ending-requires-send-V : goal.serve-ending-requires-send-V
+serve-ending-requires-send-V g c κs within = param_send 0 _ (arg_send _ exit.no _ (node_send _ g.D.Disk c.type_bounds.send-D))
+
+pub serve-ending-requires-clause-desk : goal.serve-ending-requires-clause-desk
+serve-ending-requires-clause-desk g c κs within = each_of c.in-Ok-new.opened.0 _ c.in-Ok-new.ensures.passes.1
+
+pub returns : goal.returns
+returns g c input =
+    let was : Outside = record { input = input; output = output_of g.K.Sink c.args.output.now; disks = disks_of g.D.Disk c.args.disk_a c.args.disk_b } in
+    let works : Open → Worker g.row.R.Denot → Type 0 = λ desk. Working (ServesBy g.R.Conn.Conn.left g.R.Conn.Conn.given g.R.Conn.Conn.reads g.R.Conn.Conn.writes) g.R.Door.left g.R.Door.taken g.R.Door.ended g.R.Door.count g.R.Door.out desk c.args.most in
+    let doors = c.args.doors.now.items in
+    let doors_now = c.serve-ending.new.doors.items in
+    let first = c.in-Ok-open_node.node in
+    let opened = c.in-Ok-open_node.ensures in
+    let desk = c.in-Ok-new.opened.0 in
+    let new = c.in-Ok-new.ensures in
+    let passes = c.in-Ok-new.opened.1.items in
+    let passes_now = c.serve-ending.new.passes.items in
+    let ending = c.serve-ending.result in
+    let last = c.in-Ok-close.closed.0 in
+    let report = c.in-Ok-close.closed.1 in
+    let ok = c.in-Ok-close.ensures.ok in
+    let stopped = is_some (node_stopped last) in
+    let told = c.tell_report-told.result in
+    let output = c.tell_report-told.new.output in
+    let now : Outside = record { input = input; output = output_of g.K.Sink output; disks = node_disks last } in
+    let from_here = same_found (opened_disks first) (opened_disks last) (ok.2 ∙ new.desk.1) ∙ opened.origin in
+    let opening = subst (IsOpened (IsKept first) c.args.salt was.disks (node_disks first)) (sym new.desk.0) opened.opened in
+    let closed = subst (λ d. IsClosed c.args.salt desk.start ok.0 d (node_disks last) stopped) from_here (closed_node last c.args.salt desk.start ok.0 ok.1) in
+    let origin = new.desk.1 ∙ ap origin_of opened.origin in
+    let worked : IsWorked works ok.0 desk passes passes_now doors doors_now ending =
+    record {
+      many = new.desk.2 ∙ c.at_least_one.ensures ∙ ap passes_for (c.len.ensures ∙ c.args.doors.now.ok.0);
+      fresh = new.passes.1;
+      seats = new.seats ∙ ap below (sym new.desk.2);
+      seen = ok.4;
+      seated = ok.5;
+      serves = c.serve-ending.ensures.serves;
+    }
+    in
+    let line = subst (λ o. IsLineTold (report_line report) (output_of g.K.Sink o) (output_of g.K.Sink output) told) opened.unsaid c.tell_report-told.ensures in
+    let over = served_call works g.R.Door.count (IsKept first) c.args.salt was now (node_disks first) doors doors_now ok.0 desk passes passes_now ending report stopped told (λ w does. does.stops.faults) opening origin worked ok.3 closed line refl in
+    let status = c.status_of-status.ensures ∙ ap (λ b. serve_status b ending told) c.stopped.ensures in
+    let told_so = subst (IsServeCall works g.R.Door.count c.args.salt was now doors doors_now) (sym status) over in
+    subst (λ a. IsServeCall works g.R.Door.count c.args.salt was (record now { disks = disks_of g.D.Disk a c.close-disk_a-2.result.1 }) doors doors_now c.status_of-status.result) (sym c.close-disk_a-2.ensures.disk_a)
+    (subst (λ b. IsServeCall works g.R.Door.count c.args.salt was (record now { disks = disks_of g.D.Disk (node_disk_a last) b }) doors doors_now c.status_of-status.result) (sym c.close-disk_a-2.ensures.disk_b) told_so)

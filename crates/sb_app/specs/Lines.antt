@@ -1,0 +1,28 @@
+-- What the lines of a text say.
+use Rattle.std.specs.Prelude.{ℕ, List, [], length, map, nat_lt, if◌then◌else◌, codes, Result, Ok, Err}
+use Rattle.std.specs.Str.{is_utf8}
+use Rattle.sb_machine.specs.Ordered.{IsActInOrder}
+use Rattle.sb_machine.specs.declared.call.TimedCall.{TimedCall}
+use Rattle.sb_app.specs.declared.script_line.ScriptLine.{ScriptLine}
+use Rattle.sb_app.specs.declared.script_line.ScriptLine.TheVariants.{Blank, Malformed, Request}
+use Rattle.sb_lines.specs.Lines.{line_of}
+use Rattle.sb_input.specs.Limits.{max_line}
+use Rattle.sb_input.specs.Lines.{lines_of, is_blank}
+
+abbrev pub script_line_of : Result TimedCall (List ℕ) → ScriptLine
+script_line_of (Ok call) = Request call
+script_line_of (Err key) = Malformed key
+
+-- What a line asks for: blank first, then the length, then whether it is text, then what the text says.
+abbrev pub script_line : List ℕ → ScriptLine
+script_line line = if is_blank line then Blank else (if nat_lt max_line (length line) then Malformed (codes "line") else (if is_utf8 line then script_line_of (line_of line) else Malformed []))
+
+-- the lists of its call, if it has one, stand in order
+abbrev pub IsLineInOrder : ScriptLine → Type 0
+IsLineInOrder Blank = Unit {0}
+IsLineInOrder (Malformed key) = Unit {0}
+IsLineInOrder (Request a) = IsActInOrder a.call.act
+
+-- what the lines of an input ask for
+abbrev pub script_lines : List ℕ → List ScriptLine
+script_lines input = map script_line (lines_of input)

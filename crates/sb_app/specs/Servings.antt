@@ -1,0 +1,155 @@
+-- What a server's call does: the connections of its doors are served over one history, whose numbers are told at the end.
+use Rattle.std.specs.Prelude.{◌≡◌, ◌≢◌, ◌⊎◌, ℕ, List, [], ◌∷◌, ◌++◌, codes, length, map, max, Bool, true, false}
+use Rattle.std.specs.Fmt.{decimal}
+use Rattle.sb_outside.specs.Causes.{Rose, RoseByOne}
+use Rattle.sb_machine.specs.Consistent.{IsConsistent}
+use Rattle.sb_machine.specs.History.{IsLegal, after_entries, fresh_log, state_after, stops}
+use Rattle.sb_machine.specs.declared.history.Entry.{Entry}
+use Rattle.sb_machine.specs.declared.history.Entry.TheVariants.{Ticked, Answered as Replied}
+use Rattle.sb_machine.specs.declared.state.State.{State}
+use Rattle.sb_journal.specs.Disks.{Disks, AreHonest, KeepFound, AreQuiet, SameHonesty}
+use Rattle.sb_node.specs.Nodes.{IsDurable, IsOneOf}
+use Rattle.sb_node.specs.Recovery.{Recovers, recovered_on}
+use Rattle.sb_node.specs.Serving.{origin_of, states_left, FollowHistory, HasDiskRisen}
+use Rattle.sb_desk.specs.Desks.{IsKeptIn, IsNew, Open, Sitting, below}
+use Rattle.sb_desk.specs.Entries.{IsReport}
+use Rattle.sb_desk.specs.Lists.{Each, HaveSeatsBelow}
+use Rattle.sb_desk.specs.declared.report.Report.{Report}
+use Rattle.sb_server.specs.Serves.{Serving, Worker}
+use Rattle.sb_server.specs.declared.ending.ServeEnding.{ServeEnding}
+use Rattle.sb_server.specs.declared.ending.ServeEnding.TheVariants.{Done, DoorFault, OutOfMemory}
+use Rattle.sb_app.specs.Checks.{IsLineTold}
+use Rattle.sb_app.specs.Endings.{status_of_end}
+use Rattle.sb_app.specs.Lawful.{HasLaws}
+use Rattle.sb_app.specs.Outside.{Outside}
+use Rattle.sb_app.specs.Tops.{IsBroken, IsQuiet, IsRefused, IsUnopened}
+use Rattle.sb_app.specs.declared.ending.RunEnd.{RunEnd}
+
+-- ---- the report and the status
+
+-- the numbers of a history, keys in byte order
+abbrev pub report_line : Report → List ℕ
+report_line r =
+    codes "{\"changing\":" ++ (decimal r.changing
+    ++ (codes ",\"entries\":" ++ (decimal r.entries
+    ++ (codes ",\"ok\":\"report\",\"refused\":" ++ (decimal r.refused ++ codes "}\n")))))
+
+-- The first that came: a disk failed, a door failed, a worker wanted memory; else what became of the report: 0, 4 or 7.
+abbrev pub serve_status : (has_stopped : Bool) → ServeEnding → (told : ℕ) → ℕ
+serve_status true ending told = 5
+serve_status false DoorFault told = 8
+serve_status false OutOfMemory told = 7
+serve_status false Done told = told
+
+-- a pass for each door, and one at least
+abbrev pub passes_for : ℕ → ℕ
+passes_for doors = max doors 1
+
+-- ---- causes
+
+-- behind this history the namespace acts no more
+abbrev pub has_stopped : State → List Entry → Bool
+has_stopped start h = (after_entries (fresh_log start) h).stopped
+
+-- no answer of it says so
+abbrev pub NoneStops : List Entry → Type 0
+NoneStops [] = Unit {0}
+NoneStops (Ticked seat t ∷ es) = NoneStops es
+NoneStops (Replied seat reading call answer ∷ es) = (stops answer ≡ false) × NoneStops es
+
+-- the count of faults of one of these doors rose
+abbrev pub HasDoorRisen : {R : Type 0} → (R → ℕ) → (doors doors_now : List R) → Type 0
+HasDoorRisen count [] doors_now = ⊥
+HasDoorRisen count (d ∷ ds) [] = ⊥
+HasDoorRisen count (d ∷ ds) (e ∷ es) = Rose (count d) (count e) ⊎ HasDoorRisen count ds es
+
+-- ---- the call
+
+-- The doors were served over one history, from the state that the disks stood for, a consistent one: each door by a worker with a pass
+-- of its own (`serves` says what was read and written). What a pass has seen is a front of that history with all entries of its seat,
+-- and no other seat has any. The history is legal, so it has the laws; its numbers were told; and what a crash leaves of the disks leads to
+-- the state behind it, or to that after the event which a failed disk left undecided.
+pub record IsServed {R : Type 0} (Works : Open → Worker R → Type 0) (salt : ℕ) (was now : Outside) (doors doors_now : List R) (status : ℕ) : Type 0 where
+  pub start : State
+  pub found : AreHonest was.disks → Recovers (recovered_on was.disks salt) start
+  pub consistent : IsConsistent start
+  pub history : List Entry
+  pub legal : IsLegal start history
+  pub laws : HasLaws start history
+  pub desk : Open
+  pub begins : desk.start ≡ start
+  pub many : desk.passes ≡ passes_for (length doors)
+  pub passes : List Sitting
+  pub passes_now : List Sitting
+  pub fresh : Each (IsNew desk) passes
+  pub seats : map (λ p. p.seat) passes ≡ below desk.passes
+  pub seen : Each (IsKeptIn history) passes_now
+  pub seated : HaveSeatsBelow desk.passes history
+  pub ending : ServeEnding
+  pub serves : Serving (Works desk) passes passes_now doors doors_now ending
+  pub report : Report
+  pub counts : IsReport start history report
+  pub told : ℕ
+  pub line : IsLineTold (report_line report) was.output now.output told
+  pub says : status ≡ serve_status (has_stopped start history) ending told
+  -- at 0 no answer of it is that of a failed disk
+  pub running : status ≡ 0 → NoneStops history
+  -- What stood there when the journal was open, which leads to the first state; a crash before that leaves what was found. No call of a
+  -- disk had failed.
+  pub ready : Disks
+  pub origin : desk.origin ≡ origin_of ready
+  pub opens : AreHonest was.disks → KeepFound salt was.disks ready
+  pub holds : AreHonest was.disks → IsDurable ready start
+  pub unfailed : AreQuiet was.disks ready
+  pub as_honest : SameHonesty was.disks ready
+  -- a crash at any moment since leads to the state after a front of the history, which has all that was answered by then
+  pub follows : AreHonest was.disks → FollowHistory start history ready now.disks
+  -- unless a disk failed, the disks stand for the state behind the history, also after a crash
+  pub kept : AreHonest was.disks → status ≢ 5 → Recovers (recovered_on now.disks salt) (state_after start history)
+  pub durable : AreHonest was.disks → status ≢ 5 → IsDurable now.disks (state_after start history)
+  -- whatever the status
+  pub left : AreHonest was.disks → IsOneOf now.disks (states_left start history)
+
+-- The namespace was opened and, for want of memory, not served.
+pub record IsUnserved (salt : ℕ) (was now : Outside) : Type 0 where
+  pub start : State
+  pub found : AreHonest was.disks → Recovers (recovered_on was.disks salt) start
+  pub consistent : IsConsistent start
+  pub unsaid : now.output ≡ was.output
+  pub kept : AreHonest was.disks → Recovers (recovered_on now.disks salt) start
+  pub durable : AreHonest was.disks → IsDurable now.disks start
+  pub opens : AreHonest was.disks → KeepFound salt was.disks now.disks
+  pub quiet : AreQuiet was.disks now.disks
+
+-- the journal wasn't opened, or is damaged, or memory was wanting to serve it, and no door was used; or the doors were served
+abbrev pub IsServing : {R : Type 0} → (Open → Worker R → Type 0) → (salt : ℕ) → (was now : Outside) → (doors doors_now : List R) → (status : ℕ) → Type 0
+IsServing Works salt was now doors doors_now status =
+    ((doors_now ≡ doors) × (end : RunEnd) × (status ≡ status_of_end end) × IsUnopened salt was now end)
+    ⊎ ((doors_now ≡ doors) × (status ≡ 6) × IsRefused salt was now)
+    ⊎ ((doors_now ≡ doors) × (status ≡ 7) × IsUnserved salt was now)
+    ⊎ IsServed Works salt was now doors doors_now status
+
+-- all that makes a server end well once its workers have ended, but for memory
+pub record IsFreeServing {R : Type 0} (count : R → ℕ) (salt : ℕ) (was now : Outside) (doors doors_now : List R) : Type 0 where
+  pub sound : IsBroken (recovered_on was.disks salt) → ⊥
+  pub disk_quiet : HasDiskRisen was.disks now.disks → ⊥
+  pub door_quiet : HasDoorRisen count doors doors_now → ⊥
+  pub output_quiet : IsQuiet was.output.faults now.output.faults
+
+abbrev pub IsServeStatus : ℕ → Type 0
+IsServeStatus status = (status ≡ 0) ⊎ (status ≡ 4) ⊎ (status ≡ 5) ⊎ (status ≡ 6) ⊎ (status ≡ 7) ⊎ (status ≡ 8)
+
+-- A server's call, with this status. Each status other than 0 and 7 has its cause; the input isn't read.
+pub record IsServeCall {R : Type 0} (Works : Open → Worker R → Type 0) (count : R → ℕ) (salt : ℕ) (was now : Outside) (doors doors_now : List R) (status : ℕ) : Type 0 where
+  pub serving : IsServing Works salt was now doors doors_now status
+  pub known : IsServeStatus status
+  pub write_fault : status ≡ 4 → RoseByOne was.output.faults now.output.faults
+  pub write_quiet : status ≡ 0 → now.output.faults ≡ was.output.faults
+  pub disk_fault : status ≡ 5 → HasDiskRisen was.disks now.disks
+  pub disk_quiet : status ≢ 5 → AreQuiet was.disks now.disks
+  pub broken : status ≡ 6 → IsRefused salt was now
+  pub door_fault : status ≡ 8 → HasDoorRisen count doors doors_now
+  pub door_quiet : status ≢ 5 → status ≢ 8 → map count doors_now ≡ map count doors
+  pub complete : AreHonest was.disks → IsFreeServing count salt was now doors doors_now → (status ≡ 0) ⊎ (status ≡ 7)
+  pub unread : now.input ≡ was.input
+  pub honesty : SameHonesty was.disks now.disks

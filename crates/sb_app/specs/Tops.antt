@@ -1,0 +1,190 @@
+-- What a whole call of the program does, by its words and the status that it gives.
+use Rattle.std.specs.Prelude.{◌≡◌, ◌≢◌, ◌⊎◌, ◌<◌, ℕ, List, ◌++◌, length, Bool, codes, Option, Some, None, IsSome}
+use Rattle.std.specs.Fmt.{decimal}
+use Rattle.sb_outside.specs.Causes.{Rose, RoseByOne}
+use Rattle.sb_outside.specs.Streams.{Gains}
+use Rattle.sb_machine.specs.Consistent.{IsConsistent}
+use Rattle.sb_machine.specs.History.{IsLegal, IsFaultless, state_after}
+use Rattle.sb_machine.specs.declared.state.State.{State}
+use Rattle.sb_journal.specs.Disks.{Disks, AreHonest, AreUnwritten, IsAtRest, KeepFound, HaveFailed, AreQuiet, SameHonesty}
+use Rattle.sb_node.specs.Recovery.{Recovered, damaged, Recovers, recovered_on}
+use Rattle.sb_node.specs.Nodes.{IsDurable}
+use Rattle.sb_app.specs.Outside.{Output, Outside}
+use Rattle.sb_journal.specs.declared.found.Side.{Side}
+use Rattle.sb_journal.specs.declared.found.Side.TheVariants.{A, B}
+use Rattle.sb_journal.specs.declared.found.OpenWhy.{OpenWhy}
+use Rattle.sb_journal.specs.declared.found.OpenWhy.TheVariants.{Damaged}
+use Rattle.sb_app.specs.declared.script_line.ScriptLine.{ScriptLine}
+use Rattle.sb_app.specs.declared.ending.RunEnd.{RunEnd}
+use Rattle.sb_app.specs.declared.ending.RunEnd.TheVariants.{DiskFault, OutOfMemory, LongInput}
+use Rattle.sb_app.specs.declared.task.Task.{Task}
+use Rattle.sb_app.specs.declared.task.Task.TheVariants.{Run, Check}
+use Rattle.sb_input.specs.Limits.{max_input}
+use Rattle.sb_app.specs.Lines.{script_lines}
+use Rattle.sb_input.specs.Taking.{Took, HasEnded, IsLong}
+use Rattle.sb_app.specs.Taking.{IsTaken}
+use Rattle.sb_app.specs.Runs.{FollowLines, replies_to, history_of, any_refused, status_by, state_after_all}
+use Rattle.sb_app.specs.Lawful.{HasLaws}
+use Rattle.sb_app.specs.Checks.{IsChecked}
+use Rattle.sb_app.specs.Endings.{IsLineWritten, IsUndecided, LastLine, line_of_last, EndsAt, AreFirst, history_to, status_of_end}
+
+-- ---- a run that took all its input, or ended before
+
+-- The moments of the disks in a whole call: those of the opening, which leave what was found; what stood there when it was ready, which
+-- leads to this state; and those of the lines.
+pub record HasMoments (salt : ℕ) (start : State) (lines : List ScriptLine) (was now : Disks) : Type 0 where
+  pub ready : Disks
+  pub opens : KeepFound salt was ready
+  pub holds : IsDurable ready start
+  pub follows : FollowLines start lines ready now
+
+-- A run that took all its input: from the state that the disks stood for, a consistent one, each line was answered by the machine, in
+-- order and no other; the history of its calls is legal, and its last state is what the disks stand for, also after a crash.
+pub record IsWholeRun (salt : ℕ) (was now : Outside) (status : ℕ) : Type 0 where
+  pub start : State
+  pub found : AreHonest was.disks → Recovers (recovered_on was.disks salt) start
+  pub consistent : IsConsistent start
+  pub input : List ℕ
+  pub took : Took was.input.left now.input.left input
+  pub ended : HasEnded was.input.left now.input.left
+  pub written : Gains was.output.given now.output.given (replies_to start (script_lines input))
+  pub legal : IsLegal start (history_of start (script_lines input))
+  pub laws : HasLaws start (history_of start (script_lines input))
+  pub faultless : IsFaultless (history_of start (script_lines input))
+  pub kept : AreHonest was.disks → Recovers (recovered_on now.disks salt) (state_after start (history_of start (script_lines input)))
+  pub durable : AreHonest was.disks → IsDurable now.disks (state_after start (history_of start (script_lines input)))
+  pub says : status ≡ status_by (any_refused start (script_lines input))
+  -- a crash at any moment of the run leads to the state after its first lines, and to no earlier one than at the moment before
+  pub moments : AreHonest was.disks → HasMoments salt start (script_lines input) was.disks now.disks
+
+-- A run that ended before its input did: from the state that the disks stood for, a consistent one, the first lines of the input were
+-- answered, in order; the history of its calls is legal, and unless a disk failed its last state is what the disks stand for, also
+-- after a crash.
+pub record IsEarlyRun (salt : ℕ) (was now : Outside) (end : RunEnd) : Type 0 where
+  pub start : State
+  pub found : AreHonest was.disks → Recovers (recovered_on was.disks salt) start
+  pub consistent : IsConsistent start
+  pub lines : List ScriptLine
+  pub last : Option LastLine
+  pub first : AreFirst was.input.left (lines ++ line_of_last last)
+  pub taken : IsTaken was.input now.input (lines ++ line_of_last last) end
+  pub long : end ≡ LongInput → IsLong was.input.left now.input.left
+  pub part : List ℕ
+  pub ends : EndsAt (state_after_all start lines) last part was.output.faults now.output.faults end
+  pub written : Gains was.output.given now.output.given (replies_to start lines ++ part)
+  pub legal : IsLegal start (history_to start lines last)
+  pub laws : HasLaws start (history_to start lines last)
+  pub kept : AreHonest was.disks → end ≢ DiskFault → Recovers (recovered_on now.disks salt) (state_after start (history_to start lines last))
+  pub durable : AreHonest was.disks → end ≢ DiskFault → IsDurable now.disks (state_after start (history_to start lines last))
+  -- the call that was answered by a failed disk is there or not
+  pub undecided : AreHonest was.disks → end ≡ DiskFault → IsUndecided now.disks (state_after start (history_of start lines)) last
+  pub moments : AreHonest was.disks → HasMoments salt start (lines ++ line_of_last last) was.disks now.disks
+
+-- The journal wasn't opened: nothing was read of the input and nothing written.
+pub record IsUnopened (salt : ℕ) (was now : Outside) (end : RunEnd) : Type 0 where
+  pub why : (end ≡ DiskFault) ⊎ (end ≡ OutOfMemory)
+  pub unread : now.input ≡ was.input
+  pub unsaid : now.output ≡ was.output
+  -- where memory was wanting, nothing was written on the disks either
+  pub untouched : AreHonest was.disks → end ≡ OutOfMemory → AreUnwritten was.disks now.disks
+  -- where a disk failed, a crash at any moment leaves what was found
+  pub kept : AreHonest was.disks → KeepFound salt was.disks now.disks
+
+-- a run that ended early, or none because the journal wasn't opened
+abbrev pub IsEarly : ℕ → (was now : Outside) → RunEnd → Type 0
+IsEarly salt was now end = IsUnopened salt was now end ⊎ IsEarlyRun salt was now end
+
+-- ---- the lines of the statuses 2 and 6
+
+abbrev pub usage_line : List ℕ
+usage_line = codes "usage: bus COMMAND (run, serve, client, check, drill)\n"
+
+abbrev pub letter_of : Side → List ℕ
+letter_of A = codes "a"
+letter_of B = codes "b"
+
+abbrev pub damage_line : Side → ℕ → List ℕ
+damage_line side place = codes "{\"disk\":\"" ++ (letter_of side ++ (codes "\",\"place\":" ++ (decimal place ++ codes ",\"refused\":\"Damaged\"}\n")))
+
+-- an opening found damage, and the line that says where was written
+abbrev pub IsDamageReported : OpenWhy → (was now : Output) → Type 0
+IsDamageReported (Damaged side place) was now = IsLineWritten (damage_line side place) was now
+IsDamageReported _ was now = ⊥
+
+-- a journal that is damaged somewhere
+abbrev pub IsBroken : Recovered → Type 0
+IsBroken r = (side : Side) × (place : ℕ) × (r ≡ damaged side place)
+
+-- The journal can't be trusted: the line that says where was written, nothing was read of the input, and the disks are as they were
+-- read.
+pub record IsRefused (salt : ℕ) (was now : Outside) : Type 0 where
+  pub side : Side
+  pub place : ℕ
+  pub broken : AreHonest was.disks → recovered_on was.disks salt ≡ damaged side place
+  pub reported : IsLineWritten (damage_line side place) was.output now.output
+  pub unread : now.input ≡ was.input
+  pub untouched : AreHonest was.disks → AreUnwritten was.disks now.disks
+  pub at_rest : AreHonest was.disks → IsAtRest side was.disks now.disks
+
+-- ---- which statuses there are
+
+-- of a run that took all its input, or of one that ended early
+abbrev pub IsRunStatus : ℕ → Type 0
+IsRunStatus status = ((refused : Bool) × (status ≡ status_by refused)) ⊎ ((end : RunEnd) × (status ≡ status_of_end end))
+
+-- of a run, of words that name nothing, or of a damaged journal
+abbrev pub IsStatus : ℕ → Type 0
+IsStatus status = IsRunStatus status ⊎ ((status ≡ 2) ⊎ (status ≡ 6))
+
+abbrev pub IsQuiet : (before now : ℕ) → Type 0
+IsQuiet before now = Rose before now → ⊥
+
+-- fewer bytes are left than end a run
+abbrev pub IsShort : Option (List ℕ) → Type 0
+IsShort None = ⊥
+IsShort (Some left) = length left < max_input
+
+-- all that makes a run take its whole input, but for memory
+pub record IsFree (salt : ℕ) (was now : Outside) : Type 0 where
+  pub sound : IsBroken (recovered_on was.disks salt) → ⊥
+  pub short : IsShort was.input.left
+  pub input_quiet : IsQuiet was.input.faults now.input.faults
+  pub output_quiet : IsQuiet was.output.faults now.output.faults
+  pub disk_quiet : HaveFailed was.disks now.disks → ⊥
+
+-- all lines were answered, or memory was wanting
+abbrev pub IsComplete : ℕ → Type 0
+IsComplete status = ((refused : Bool) × (status ≡ status_by refused)) ⊎ (status ≡ 7)
+
+-- ---- the program
+
+-- A check told the numbers; or the journal wasn't opened, for a disk or for memory, or is damaged.
+abbrev pub IsCheck : ℕ → (was now : Outside) → ℕ → Type 0
+IsCheck salt was now status = IsChecked salt was now status ⊎ (((end : RunEnd) × (status ≡ status_of_end end) × IsUnopened salt was now end) ⊎ (status ≡ 6))
+
+-- The task that the words name was carried out, or they name none, and this is the status. A fault that was met is told: a count rises by
+-- one with its status, and with no other.
+pub record IsCarriedOut (task : Option Task) (salt : ℕ) (was now : Outside) (status : ℕ) : Type 0 where
+  -- a run at 0 and 1
+  pub whole : task ≡ Some Run → (refused : Bool) → status ≡ status_by refused → IsWholeRun salt was now status
+  -- a run at 3, 4, 5, 7 and 10
+  pub early : task ≡ Some Run → (end : RunEnd) → status ≡ status_of_end end → IsEarly salt was now end
+  pub long : status ≡ 10 → IsLong was.input.left now.input.left
+  -- a check at 0, 4, 5, 6 and 7
+  pub checked : task ≡ Some Check → IsCheck salt was now status
+  -- 6
+  pub broken : status ≡ 6 → IsRefused salt was now
+  -- 2
+  pub usage : status ≡ 2 → task ≡ None
+  -- words that name none end so, or memory was wanting to read them, and then nothing was done
+  pub unnamed : task ≡ None → (status ≡ 2) ⊎ ((status ≡ 7) × (now ≡ was))
+  pub usage_written : status ≡ 2 → IsLineWritten usage_line was.output now.output
+  pub known : IsStatus status
+  pub read_fault : status ≡ 3 → RoseByOne was.input.faults now.input.faults
+  pub read_quiet : status ≢ 3 → now.input.faults ≡ was.input.faults
+  pub write_fault : status ≡ 4 → RoseByOne was.output.faults now.output.faults
+  pub write_quiet : (refused : Bool) → status ≡ status_by refused → now.output.faults ≡ was.output.faults
+  pub disk_fault : status ≡ 5 → HaveFailed was.disks now.disks
+  pub disk_quiet : status ≢ 5 → AreQuiet was.disks now.disks
+  pub complete : IsSome task → AreHonest was.disks → IsFree salt was now → IsComplete status
+  pub honesty : SameHonesty was.disks now.disks

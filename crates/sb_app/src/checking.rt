@@ -1,0 +1,40 @@
+// Telling the numbers of a namespace.
+ghost use Rattle.std.specs.Prelude.{◌≡◌, IfOk, string_bytes};
+ghost use Rattle.sb_engine.specs.Engines.{summary_of};
+ghost use Rattle.sb_node.specs.Nodes.{node_state, node_last};
+ghost use Rattle.sb_app.specs.Outside.{output_of};
+ghost use Rattle.sb_app.specs.Checks.{IsLineTold};
+ghost use Rattle.sb_app.specs.Checks as checks;
+
+use sb_node::{Node, Summary};
+use sb_outside::{Disk, Sink, write_all};
+use std::alloc::{AllocError, Global};
+
+fn check_line(alloc: Global, summary: Summary) -> Result<String, AllocError>
+    ensures { IfOk result (λ s. string_bytes s ≡ checks.check_line summary) }
+{
+    let Summary {
+        copies,
+        entities,
+        events,
+        made,
+        now,
+    } = summary;
+    format!(in alloc;
+        "{{\"copies\":{copies},\"entities\":{entities},\"events\":{events},\"made\":{made},\"now\":{now},\"ok\":\"check\"}}\n"
+    )
+}
+
+/// Writes the line of a namespace's numbers. The status is 0, 4 where the output failed, or 7 for want
+/// of memory.
+pub fn check_status<D: Disk, K: Sink>(alloc: Global, node: &Node<D>, output: &mut K) -> u8
+    ensures { IsLineTold (checks.check_line (summary_of (node_state node.now) (node_last node.now))) (output_of K.Sink output.old) (output_of K.Sink output.new) result }
+{
+    let Ok(line) = check_line(alloc, node.summary()) else {
+        return 7;
+    };
+    match write_all(output, line.as_bytes()) {
+        Ok(()) => 0,
+        Err(_) => 4,
+    }
+}

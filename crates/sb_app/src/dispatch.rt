@@ -1,0 +1,149 @@
+// Answering a line of the script.
+ghost use Rattle.std.specs.Prelude.{◌≡◌, ◌≢◌, None, Ok, Err, OnOk, IfOk, IfErr};
+ghost use Rattle.sb_outside.specs.Streams.{Gains};
+ghost use Rattle.sb_machine.specs.Consistent.{IsConsistent};
+ghost use Rattle.sb_machine.specs.Ordered.{IsActInOrder};
+ghost use Rattle.sb_lines.specs.Replies.{answer_line};
+ghost use Rattle.sb_journal.specs.Disks.{HaveFailed, AreQuiet, SameHonesty};
+ghost use Rattle.sb_node.specs.Nodes.{node_state, node_stopped, node_disk_b, node_disks, IsKept, IsOneOf, StayOneOf};
+ghost use Rattle.sb_app.specs.Outside.{output_of};
+ghost use Rattle.sb_app.specs.Lines.{IsLineInOrder};
+ghost use Rattle.sb_app.specs.Runs.{kind_of, states_of, IsAnswered};
+ghost use Rattle.sb_app.specs.Endings.{IsReplyCut, IsCutAt};
+ghost use Rattle.sb_app.specs.declared.ending.RunEnd.TheVariants.{DiskFault};
+ghost use Rattle.sb_app.specs.declared.script_line.ScriptLine.TheVariants.{Request};
+
+use crate::ending::RunEnd;
+use crate::final_line::write_final_line;
+use crate::script_line::ScriptLine;
+use sb_lines::{disk_fault_line, out_of_memory_line, reply_line};
+use sb_machine::{Answer, Refusal, TimedCall};
+use sb_model::Text;
+use sb_node::Node;
+use sb_outside::{Disk, Sink, write_all};
+use std::alloc::Global;
+
+/// What kind of answer a call got.
+#[derive(Clone, Copy, PartialEq, Eq)]
+pub enum AnswerKind {
+    Accepted,
+    Refused,
+    Failed,
+    Wanting,
+}
+
+fn kind_of_answer(answer: &Answer) -> AnswerKind
+    ensures { result ≡ kind_of answer.now }
+{
+    match answer {
+        Ok(_) => AnswerKind::Accepted,
+        Err(Refusal::DiskFault) | Err(Refusal::Stopped { .. }) => AnswerKind::Failed,
+        Err(Refusal::OutOfMemory) => AnswerKind::Wanting,
+        Err(_) => AnswerKind::Refused,
+    }
+}
+
+// Writes the line of an answer.
+fn write_answer<K: Sink>(alloc: Global, answer: Answer, output: &mut K) -> Result<(), RunEnd>
+    ensures ok { OnOk result (Gains (K.given output.old) (K.given output.new) (answer_line answer)) }
+    ensures err { IfErr result (λ e. IsReplyCut (answer_line answer) (output_of K.Sink output.old) (output_of K.Sink output.new) e) }
+    ensures passed { OnOk result (K.count output.new ≡ K.count output.old) }
+{
+    let spelled = reply_line(alloc, &answer);
+    drop(answer);
+    let Ok(line) = spelled else {
+        return Err(RunEnd::OutOfMemory);
+    };
+    match write_all(output, line.as_bytes()) {
+        Ok(()) => Ok(()),
+        Err(_) => Err(RunEnd::WriteFault),
+    }
+}
+
+// Makes a call and writes the line of its answer; says whether it was refused.
+fn dispatch_call<D: Disk, K: Sink>(
+    alloc: Global,
+    node: &mut Node<D>,
+    asked: &TimedCall,
+    output: &mut K,
+) -> Result<bool, RunEnd>
+    requires running { node_stopped node.old ≡ None }
+    requires consistent { IsConsistent (node_state node.old) }
+    requires order { IsActInOrder asked.now.call.act }
+    ensures done { IfOk result (IsAnswered (node_state node.old) (Request asked.now) (output_of K.Sink output.old) (output_of K.Sink output.new) (node_state node.new)) }
+    ensures cut { IfErr result (IsCutAt (node_state node.old) (Request asked.now) (output_of K.Sink output.old) (output_of K.Sink output.new) (node_state node.new)) }
+    ensures running { OnOk result (node_stopped node.new ≡ None) }
+    ensures consistent { IsConsistent (node_state node.new) }
+    ensures kept { IsKept node.old → result ≢ Err DiskFault → IsKept node.new }
+    ensures undecided { IsKept node.old → result ≡ Err DiskFault → IsOneOf (node_disks node.new) (states_of (node_state node.old) (Request asked.now)) }
+
+    // At each moment a crash leads to the state before the line, to that with its tick or to the one after it.
+    ensures any_moment { IsKept node.old → StayOneOf (node_disks node.old) (node_disks node.new) (states_of (node_state node.old) (Request asked.now)) }
+    ensures passed { OnOk result (AreQuiet (node_disks node.old) (node_disks node.new) × (K.count output.new ≡ K.count output.old)) }
+    ensures disk_fault { result ≡ Err DiskFault → HaveFailed (node_disks node.old) (node_disks node.new) }
+    ensures disk_quiet { IfErr result (λ e. e ≢ DiskFault → AreQuiet (node_disks node.old) (node_disks node.new)) }
+    ensures honesty { SameHonesty (node_disks node.old) (node_disks node.new) }
+    ensures disk_b { node_disk_b node.new ≡ node_disk_b node.old }
+{
+    let answer = node.step(asked.reading, &asked.call);
+    match kind_of_answer(&answer) {
+        AnswerKind::Failed => {
+            drop(answer);
+            write_final_line(output, disk_fault_line());
+            Err(RunEnd::DiskFault)
+        }
+        AnswerKind::Wanting => {
+            drop(answer);
+            write_final_line(output, out_of_memory_line());
+            Err(RunEnd::OutOfMemory)
+        }
+        AnswerKind::Accepted => {
+            write_answer(alloc, answer, output)?;
+            Ok(false)
+        }
+        AnswerKind::Refused => {
+            write_answer(alloc, answer, output)?;
+            Ok(true)
+        }
+    }
+}
+
+/// Answers a line; says whether the answer is a refusal.
+pub fn dispatch_line<D: Disk, K: Sink>(
+    alloc: Global,
+    node: &mut Node<D>,
+    line: ScriptLine,
+    output: &mut K,
+) -> Result<bool, RunEnd>
+    requires running { node_stopped node.old ≡ None }
+    requires consistent { IsConsistent (node_state node.old) }
+    requires order { IsLineInOrder line }
+    ensures done { IfOk result (IsAnswered (node_state node.old) line (output_of K.Sink output.old) (output_of K.Sink output.new) (node_state node.new)) }
+    ensures cut { IfErr result (IsCutAt (node_state node.old) line (output_of K.Sink output.old) (output_of K.Sink output.new) (node_state node.new)) }
+    ensures running { OnOk result (node_stopped node.new ≡ None) }
+    ensures consistent { IsConsistent (node_state node.new) }
+    ensures kept { IsKept node.old → result ≢ Err DiskFault → IsKept node.new }
+    ensures undecided { IsKept node.old → result ≡ Err DiskFault → IsOneOf (node_disks node.new) (states_of (node_state node.old) line) }
+
+    // At each moment a crash leads to the state before the line, to that with its tick or to the one after it.
+    ensures any_moment { IsKept node.old → StayOneOf (node_disks node.old) (node_disks node.new) (states_of (node_state node.old) line) }
+    ensures passed { OnOk result (AreQuiet (node_disks node.old) (node_disks node.new) × (K.count output.new ≡ K.count output.old)) }
+    ensures disk_fault { result ≡ Err DiskFault → HaveFailed (node_disks node.old) (node_disks node.new) }
+    ensures disk_quiet { IfErr result (λ e. e ≢ DiskFault → AreQuiet (node_disks node.old) (node_disks node.new)) }
+    ensures honesty { SameHonesty (node_disks node.old) (node_disks node.new) }
+    ensures disk_b { node_disk_b node.new ≡ node_disk_b node.old }
+{
+    match line {
+        ScriptLine::Blank => Ok(false),
+        ScriptLine::Malformed(key) => {
+            let answer = Err(Refusal::BadCall { key });
+            write_answer(alloc, answer, output)?;
+            Ok(true)
+        }
+        ScriptLine::Request(asked) => {
+            let answered = dispatch_call(alloc, node, &asked, output);
+            drop(asked);
+            answered
+        }
+    }
+}

@@ -1,0 +1,32 @@
+//! The whole program over whatever it is handed: threads, disks, streams, a clock, doors and a link.
+//!
+//! A run cuts its input into script lines, has each answered by a namespace over its journal
+//! (`sb_node`), and writes the reply line (`sb_lines`). A server has the requests of connections
+//! answered by one namespace (`sb_server`, over a desk). [`top`] does what its words name, and its one
+//! contract says what a call does to all that it is handed (`IsCall` in `specs/Calls.antt`,
+//! `IsServeCall` in `specs/Servings.antt`); [`top_alone`] waits for nobody. The program `sb_bus` makes
+//! the real disks, streams, clock, doors and link, and calls it.
+//!
+//! ```text
+//! let words = ["run", "--data", "data"];
+//! let (status, disk_a, disk_b) =
+//!     top_alone(alloc, &words, disk_a, disk_b, salt, &clock, &mut input, &mut output, &mut link);
+//! ```
+#![tactic(auto)]
+
+mod alone;
+mod checking;
+mod client;
+mod dispatch;
+mod ending;
+mod final_line;
+mod opening;
+mod program;
+mod running;
+mod script_line;
+mod serving;
+mod task;
+mod worked;
+
+pub use program::{top, top_alone};
+pub use worked::worked_commits;

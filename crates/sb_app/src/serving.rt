@@ -1,0 +1,134 @@
+// Serving the connections of doors over the namespace of two disks.
+ghost use Rattle.std.specs.Prelude.{◌≡◌, ℕ, Option, IfOk, IfSome, IsSome, string_bytes};
+ghost use Rattle.sb_journal.specs.Disks.{disks_of};
+ghost use Rattle.sb_desk.specs.Desks.{value_of};
+ghost use Rattle.sb_server.specs.Serves.{Working};
+ghost use Rattle.sb_server.specs.Works.{ServesBy};
+ghost use Rattle.sb_app.specs.Checks.{IsLineTold};
+ghost use Rattle.sb_app.specs.Outside.{Input, output_of};
+ghost use Rattle.sb_app.specs.Servings.{IsServeCall, serve_status};
+ghost use Rattle.sb_app.specs.Servings as servings;
+
+use crate::opening::open_node;
+use sb_desk::{Desk, NewFault, Report};
+use sb_node::Node;
+use sb_outside::{Clock, Disk, Door, Sink, write_all};
+use sb_routes::Routes;
+use sb_server::{ServeEnding, serve};
+use std::alloc::{AllocError, Global};
+use std::sync::Wait;
+use std::thread::Threads;
+
+/// Serves the connections of these doors, at most so many each, over the namespace of these disks, and
+/// tells the numbers of its history once all workers have ended. The status is 0; 5 for a disk that
+/// failed, 6 for a journal that can't be trusted, 8 for a door that failed, 7 for want of memory and 4
+/// for a fault of the output: the first of 5, 8, 7 and 4 where several came. The salt is that of a new
+/// journal.
+#[tactic(auto, using(crate::proofs::Servings::unserved_at_once))]
+pub fn serve_over<
+    T: Threads + Wait + Sync,
+    D: Disk + Send,
+    C: Clock + Sync,
+    K: Sink,
+    R: Door + Send,
+>(
+    rt: &T,
+    alloc: Global,
+    disk_a: D,
+    disk_b: D,
+    salt: u64,
+    clock: &C,
+    output: &mut K,
+    doors: &mut Vec<R>,
+    most: u64,
+) -> (u8, D, D)
+where
+    R::Conn: Send,
+    ensures { (input : Input) → IsServeCall (λ desk. Working (ServesBy R.Conn.left R.Conn.given R.Conn.reads R.Conn.writes) R.left R.taken R.ended R.count R.out desk most) R.count salt
+        (record { input = input; output = output_of K.Sink output.old; disks = disks_of D.Disk disk_a disk_b }) (record { input = input; output = output_of K.Sink output.new; disks = disks_of D.Disk result.1 result.2 })
+        doors.old.items doors.new.items result.0 }
+{
+    let Ok(routes) = Routes::new(alloc) else {
+        return (7, disk_a, disk_b);
+    };
+    let node = match open_node(alloc, disk_a, disk_b, salt, output) {
+        Ok(node) => node,
+        Err(failed) => {
+            drop(routes);
+            return failed;
+        }
+    };
+    let (desk, mut passes) = match Desk::new(alloc, node, at_least_one(doors.len())) {
+        Ok(opened) => opened,
+        Err(fault) => {
+            drop(routes);
+            let (disk_a, disk_b) = node_back(fault).close();
+            return (7, disk_a, disk_b);
+        }
+    };
+    let ending = serve(rt, alloc, &routes, &desk, &mut passes, doors, clock, most);
+    drop(routes);
+    let (node, report) = match desk.close(passes) {
+        Ok(closed) => closed,
+        Err(_fault) => unreachable!(),
+    };
+    let told = tell_report(alloc, output, report);
+    let status = status_of(node.stopped(), ending, told);
+    let (disk_a, disk_b) = node.close();
+    (status, disk_a, disk_b)
+}
+
+// A desk has at least one pass.
+fn at_least_one(doors: usize) -> usize
+    ensures { result ≡ servings.passes_for doors }
+{
+    doors.max(1)
+}
+
+// The node of which there was no desk.
+fn node_back<D: Disk>(fault: NewFault<Node<D>>) -> Node<D>
+    ensures { result ≡ value_of fault }
+{
+    let NewFault::OutOfMemory { value } = fault;
+    value
+}
+
+// The first that came of a stopped namespace, of the workers, and of telling.
+fn status_of(stopped: bool, ending: ServeEnding, told: u8) -> u8
+    ensures { result ≡ serve_status stopped ending told }
+{
+    if stopped {
+        return 5;
+    }
+    match ending {
+        ServeEnding::DoorFault => 8,
+        ServeEnding::OutOfMemory => 7,
+        ServeEnding::Done => told,
+    }
+}
+
+fn report_line(alloc: Global, report: Report) -> Result<String, AllocError>
+    ensures { IfOk result (λ s. string_bytes s ≡ servings.report_line report) }
+{
+    let Report {
+        entries,
+        changing,
+        refused,
+    } = report;
+    format!(in alloc;
+        "{{\"changing\":{changing},\"entries\":{entries},\"ok\":\"report\",\"refused\":{refused}}}\n"
+    )
+}
+
+// Writes the line of a report. The status is 0, 4 where the output failed, or 7 for want of memory.
+fn tell_report<K: Sink>(alloc: Global, output: &mut K, report: Report) -> u8
+    ensures { IsLineTold (servings.report_line report) (output_of K.Sink output.old) (output_of K.Sink output.new) result }
+{
+    let Ok(line) = report_line(alloc, report) else {
+        return 7;
+    };
+    match write_all(output, line.as_bytes()) {
+        Ok(()) => 0,
+        Err(_) => 4,
+    }
+}

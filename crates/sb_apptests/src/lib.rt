@@ -1,0 +1,18 @@
+//! Whole calls of the program over disks, streams, doors and links in memory that fail or wait, each with
+//! the lines that it must write, the bytes that it must leave and its status, worked out by hand; scripts
+//! over a quiet outside stand in the tables of `sb_rows`. What no contract says is that memory is there,
+//! and that the definitions mean what the documents say.
+#![tactic(auto)]
+
+#[cfg(test)]
+mod adapter_tests;
+#[cfg(test)]
+mod client_tests;
+#[cfg(test)]
+mod linked_tests;
+#[cfg(test)]
+mod server_tests;
+#[cfg(test)]
+mod tests;
+#[cfg(test)]
+mod waiting_tests;

@@ -1,0 +1,339 @@
+// Servers over doors in memory: what their connections are given, and how a call ends.
+ghost use Rattle.std.specs.Prelude.{◌≤◌};
+
+use crate::tests::{ONE_EVENT, SALT};
+use sb_app::top;
+use sb_outside::{MemConn, MemDisk, MemDoor, MemSink, MemSource, NoLink, StepClock};
+use std::sync::Wait;
+use std::test::Fail;
+use std::thread::Threads;
+
+pub(crate) const SERVE: [&str; 5] = ["serve", "--data", "data", "--port", "8080"];
+
+const SERVE_ONE: [&str; 7] = [
+    "serve",
+    "--data",
+    "data",
+    "--port",
+    "8080",
+    "--connections",
+    "1",
+];
+
+const SEND: &str = "POST /Q/messages HTTP/1.1\r\nHost: h\r\nContent-Length: 2\r\n\r\nhi";
+
+const SENT: &str = "HTTP/1.1 201 Created\r\nContent-Length: 0\r\n\r\n";
+
+const RECEIVE: &str = "POST /q/messages/head?timeout=0 HTTP/1.1\r\nHost: h\r\n\r\n";
+
+const RECEIVED: &str =
+    "HTTP/1.1 201 Created\r\nBrokerProperties: {\"DeliveryCount\":1,\"EnqueuedSequenceNumber\":1,\"EnqueuedTimeUtc\":\"Thu, 01 Jan 1970 00:00:01 GMT\",\"LockToken\":\"a1b2c3d4-e5f6-0718-0000-000000000001\",\"LockedUntilUtc\":\"Thu, 01 Jan 1970 00:01:01 GMT\",\"SequenceNumber\":1}\r\nLocation: http://h/q/messages/1/a1b2c3d4-e5f6-0718-0000-000000000001\r\nContent-Length: 2\r\n\r\nhi";
+
+const COMPLETE: &str =
+    "DELETE /q/messages/1/A1B2C3D4-E5F6-0718-0000-000000000001 HTTP/1.1\r\nHost: h\r\n\r\n";
+
+const COMPLETED: &str = "HTTP/1.1 200 OK\r\nContent-Length: 0\r\n\r\n";
+
+const LOST: &str =
+    "HTTP/1.1 404 Not Found\r\nContent-Type: application/json\r\nContent-Length: 22\r\n\r\n{\"refused\":\"LockLost\"}";
+
+const CREATE: &str =
+    "POST /$script HTTP/1.1\r\nHost: h\r\nContent-Length: 32\r\n\r\n{\"do\":\"create-queue\",\"name\":\"q\"}";
+
+const EXISTS: &str =
+    "HTTP/1.1 200 OK\r\nContent-Length: 27\r\n\r\n{\"refused\":\"EntityExists\"}\n";
+
+const NO_HEAD: &str = "x\r\n\r\n";
+
+const BAD: &str = "HTTP/1.1 400 Bad Request\r\nContent-Length: 0\r\nConnection: close\r\n\r\n";
+
+const FAILED: &str =
+    "HTTP/1.1 500 Internal Server Error\r\nContent-Type: application/json\r\nContent-Length: 23\r\nConnection: close\r\n\r\n{\"refused\":\"DiskFault\"}";
+
+// A server over one door: what its connections send, in pieces of so many bytes, and what comes.
+#[derive(Clone, Copy)]
+struct Case<'a> {
+    words: &'a [&'a str],
+    // which calls of the door fail, and of the output
+    door: &'a [u64],
+    output: &'a [u64],
+    // the requests of each connection, and what it is given once it is taken back
+    connections: &'a [(&'a [&'a str], &'a [&'a str])],
+    told: &'a str,
+    status: u8,
+}
+
+const SEND_AND_RECEIVE: Case<'static> = Case {
+    words: &SERVE,
+    door: &[],
+    output: &[],
+    connections: &[(&[SEND, RECEIVE], &[SENT, RECEIVED])],
+    told: "{\"changing\":2,\"entries\":2,\"ok\":\"report\",\"refused\":0}\n",
+    status: 0,
+};
+
+const CASES: [Case<'static>; 8] = [
+    SEND_AND_RECEIVE,
+    // what is settled, and lines of a script
+    Case {
+        connections: &[
+            (&[SEND, RECEIVE, COMPLETE], &[SENT, RECEIVED, COMPLETED]),
+            (&[COMPLETE, CREATE], &[LOST, EXISTS]),
+        ],
+        told: "{\"changing\":3,\"entries\":5,\"ok\":\"report\",\"refused\":2}\n",
+        ..SEND_AND_RECEIVE
+    },
+    // a worker ends behind its connection
+    Case {
+        words: &SERVE_ONE,
+        connections: &[(&[SEND], &[SENT]), (&[RECEIVE], &[])],
+        told: "{\"changing\":1,\"entries\":1,\"ok\":\"report\",\"refused\":0}\n",
+        ..SEND_AND_RECEIVE
+    },
+    // a faulty request ends its connection alone, and so does one that is cut off
+    Case {
+        connections: &[
+            (&[NO_HEAD, SEND], &[BAD]),
+            (
+                &["POST /q/messages HTTP/1.1\r\nHost: h\r\nContent-Length: 3\r\n\r\nhi"],
+                &[],
+            ),
+            (&[SEND], &[SENT]),
+        ],
+        told: "{\"changing\":1,\"entries\":1,\"ok\":\"report\",\"refused\":0}\n",
+        ..SEND_AND_RECEIVE
+    },
+    // nobody comes
+    Case {
+        connections: &[],
+        told: "{\"changing\":0,\"entries\":0,\"ok\":\"report\",\"refused\":0}\n",
+        ..SEND_AND_RECEIVE
+    },
+    // the door fails, at once and behind a connection
+    Case {
+        door: &[0],
+        connections: &[(&[SEND], &[])],
+        told: "{\"changing\":0,\"entries\":0,\"ok\":\"report\",\"refused\":0}\n",
+        status: 8,
+        ..SEND_AND_RECEIVE
+    },
+    Case {
+        door: &[1],
+        output: &[0],
+        connections: &[(&[SEND], &[SENT]), (&[RECEIVE], &[])],
+        told: "",
+        status: 8,
+        ..SEND_AND_RECEIVE
+    },
+    // the report isn't taken
+    Case {
+        output: &[0],
+        told: "",
+        status: 4,
+        ..SEND_AND_RECEIVE
+    },
+];
+
+fn connection(rt: &HostRuntime, requests: &[&str], piece: usize) -> Result<MemConn, Fail>
+    requires { 1 ≤ piece }
+{
+    let alloc = rt.alloc();
+    let mut bytes = Vec::new(alloc);
+    for request in requests {
+        bytes.extend_from_slice(request.as_bytes())?;
+    }
+    let source = MemSource::new(bytes, piece, Vec::new(alloc));
+    let sink = MemSink::new(alloc, 4096, Vec::new(alloc))?;
+    Ok(MemConn::new(source, sink))
+}
+
+fn door_of(rt: &HostRuntime, case: Case<'_>, piece: usize) -> Result<MemDoor, Fail>
+    requires { 1 ≤ piece }
+{
+    let alloc = rt.alloc();
+    let mut connections = Vec::new(alloc);
+    for (requests, _) in case.connections {
+        connections.push(connection(rt, requests, piece)?)?;
+    }
+    Ok(MemDoor::new(alloc, connections, case.door.to_vec(alloc)?)?)
+}
+
+// Serves over a disk with these bytes that fails at these calls, and gives the status.
+fn served<T: Threads + Wait + Sync>(
+    rt: &HostRuntime,
+    threads: &T,
+    words: &[&str],
+    disk: (&[u8], &[u64]),
+    output: &mut MemSink,
+    doors: &mut Vec<MemDoor>,
+) -> Result<u8, Fail> {
+    let alloc = rt.alloc();
+    let disk_a = MemDisk::new(alloc, disk.0.to_vec(alloc)?, disk.1.to_vec(alloc)?)?;
+    let disk_b = MemDisk::new(alloc, Vec::new(alloc), Vec::new(alloc))?;
+    let mut input = MemSource::new(Vec::new(alloc), 1, Vec::new(alloc));
+    let (status, disks) = top(
+        threads,
+        alloc,
+        words,
+        disk_a,
+        disk_b,
+        SALT,
+        &StepClock::new(1000, 0),
+        &mut input,
+        output,
+        doors,
+        &mut NoLink::new(),
+    );
+    if disks.is_none() {
+        return Err(Fail::from("the disks come back"));
+    }
+    Ok(status)
+}
+
+// Whether a connection was given just these.
+fn is_given(conn: &MemConn, responses: &[&str]) -> bool {
+    let mut left = conn.bytes();
+    for response in responses {
+        let Some(rest) = left.strip_prefix(response.as_bytes()) else {
+            return false;
+        };
+        left = rest;
+    }
+    left.is_empty()
+}
+
+fn tries<T: Threads + Wait + Sync>(
+    rt: &HostRuntime,
+    threads: &T,
+    case: Case<'_>,
+    piece: usize,
+) -> Result<(), Fail>
+    requires { 1 ≤ piece }
+{
+    let alloc = rt.alloc();
+    let mut output = MemSink::new(alloc, 256, case.output.to_vec(alloc)?)?;
+    let mut doors = Vec::new(alloc);
+    doors.push(door_of(rt, case, piece)?)?;
+    let status = served(
+        rt,
+        threads,
+        case.words,
+        (&ONE_EVENT, &[]),
+        &mut output,
+        &mut doors,
+    )?;
+    if status != case.status {
+        return Err(Fail::from("another status"));
+    }
+    if output.bytes() != case.told.as_bytes() {
+        return Err(Fail::from("another report"));
+    }
+    let Some(door) = doors.first() else {
+        return Err(Fail::from("the door comes back"));
+    };
+    let taken = door.taken();
+    for (place, (_, responses)) in case.connections.iter().enumerate() {
+        if place < taken.len() {
+            if !is_given(&taken[place], responses) {
+                return Err(Fail::from("other responses"));
+            }
+        } else if !responses.is_empty() {
+            return Err(Fail::from("a connection wasn't served"));
+        }
+    }
+    Ok(())
+}
+
+#[test]
+fn connections_are_served(rt: HostRuntime) -> Result<(), Fail> {
+    for case in &CASES {
+        tries(&rt, &rt, *case, 1)?;
+        tries(&rt, &rt, *case, 7)?;
+        tries(&rt, &rt, *case, 4096)?;
+    }
+    Ok(())
+}
+
+// A server without doors has nobody to serve.
+#[test]
+fn no_doors(rt: HostRuntime) -> Result<(), Fail> {
+    let mut output = MemSink::new(rt.alloc(), 256, Vec::new(rt.alloc()))?;
+    let mut doors = Vec::new(rt.alloc());
+    let status = served(&rt, &rt, &SERVE, (&[], &[]), &mut output, &mut doors)?;
+    assert_eq!(rt; status, 0);
+    assert_eq!(rt;
+        output.bytes(),
+        b"{\"changing\":0,\"entries\":0,\"ok\":\"report\",\"refused\":0}\n".as_slice()
+    );
+    Ok(())
+}
+
+// What a server whose disk failed tells, by the responses that it gave: none where the journal wasn't opened.
+const STOPS: [(&[&str], &str); 3] = [
+    (&[], ""),
+    (
+        &[FAILED],
+        "{\"changing\":0,\"entries\":1,\"ok\":\"report\",\"refused\":1}\n",
+    ),
+    (
+        &[SENT, FAILED],
+        "{\"changing\":1,\"entries\":2,\"ok\":\"report\",\"refused\":1}\n",
+    ),
+];
+
+// Which of these stops it is, where the disk failed at this call, or none where no call was that.
+fn stop_at<T: Threads + Wait + Sync>(
+    rt: &HostRuntime,
+    threads: &T,
+    call: u64,
+) -> Result<Option<usize>, Fail> {
+    let alloc = rt.alloc();
+    let mut output = MemSink::new(alloc, 256, Vec::new(alloc))?;
+    let mut doors = Vec::new(alloc);
+    doors.push(door_of(rt, SEND_AND_RECEIVE, 4096)?)?;
+    let status = served(
+        rt,
+        threads,
+        &SERVE,
+        (&ONE_EVENT, &[call]),
+        &mut output,
+        &mut doors,
+    )?;
+    if status == 0 && output.bytes() == SEND_AND_RECEIVE.told.as_bytes() {
+        return Ok(None);
+    }
+    let Some(door) = doors.first() else {
+        return Err(Fail::from("the door comes back"));
+    };
+    let taken = door.taken();
+    for (place, (responses, told)) in STOPS.iter().enumerate() {
+        let is_so = if taken.is_empty() {
+            responses.is_empty()
+        } else {
+            is_given(&taken[0], responses)
+        };
+        if is_so && status == 5 && output.bytes() == told.as_bytes() {
+            return Ok(Some(place));
+        }
+    }
+    Err(Fail::from("another end"))
+}
+
+// More than the calls of the disk in one run.
+const MANY_CALLS: u64 = 64;
+
+// Each of the disk's calls fails in turn: four of each of the two appends, and those of the opening before.
+#[test]
+fn a_failed_disk_stops_a_server(rt: HostRuntime) -> Result<(), Fail> {
+    let mut first = 0u64;
+    let mut second = 0u64;
+    for call in 0..MANY_CALLS {
+        match stop_at(&rt, &rt, call)? {
+            Some(1) => first = first.saturating_add(1),
+            Some(2) => second = second.saturating_add(1),
+            _ => {}
+        }
+    }
+    assert_eq!(rt; (first, second), (4, 4));
+    Ok(())
+}

@@ -1,9 +1,0 @@
-use Rattle.std.proofs.Common.{◌∙◌, ap}
-use Rattle.sb_bus.specs.Outside.{output_of}
-use Rattle.sb_bus.specs.Checks.{check_line}
-use Rattle.sb_bus.proofs.Telling.{cut_told}
-use Rattle.sb_bus.proofs.checking.check_status.Goals as goal
-
-pub returns : goal.returns
-returns g c =
-    cut_told _ c.as_bytes.result.now (output_of g.K.Sink c.args.output.now) (output_of g.K.Sink c.write_all.new.sink) (c.as_bytes.ensures.value ∙ c.in-Ok.ensures ∙ ap check_line c.summary.ensures.numbers) c.in-Err.ensures.err c.in-Err.ensures.cause.failed

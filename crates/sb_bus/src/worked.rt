@@ -1,8 +1,0 @@
-// Some commits, worked out by hand.
-ghost use Rattle.sb_bus.specs.Commits.{IsPastQuota, IsNet};
-
-/// A commit is counted as a whole against the quota of 1,000,000 live copies, in every namespace.
-fn worked_commits()
-    ensures past { IsPastQuota }
-    ensures net { IsNet }
-{}

@@ -1,0 +1,81 @@
+// Refusals as responses of REST.
+use crate::bytes::shown;
+use crate::http::response_bytes;
+use crate::outcome::Rows;
+use anyhow::{Result, bail};
+use sb_http::write_response;
+use sb_machine::{Act, Call, Mode, Part, Path, Refusal};
+use sb_model::Text;
+use sb_rest::response_of;
+use std::alloc::{AllocError, Global};
+
+/// Rows of a refusal's name, and of the response to a receive that is refused so.
+#[derive(Drop)]
+pub struct Refusals {
+    call: Call,
+}
+
+impl Refusals {
+    pub fn new(alloc: Global) -> Result<Refusals> {
+        Ok(Refusals {
+            call: receive(alloc)?,
+        })
+    }
+}
+
+fn receive(alloc: Global) -> Result<Call, AllocError> {
+    Ok(Call {
+        by: None,
+        act: Act::Receive {
+            from: Path {
+                name: Text::of(alloc, "q")?,
+                subscription: None,
+                part: Part::Main,
+            },
+            mode: Mode::Lock,
+            session: None,
+        },
+    })
+}
+
+// Each refusal that a call of the routes may get.
+fn refusal_named(alloc: Global, name: &str) -> Result<Refusal> {
+    Ok(match name {
+        "BadCall" => Refusal::BadCall {
+            key: Text::of(alloc, "props")?,
+        },
+        "EntityNotFound" => Refusal::EntityNotFound,
+        "BadName" => Refusal::BadName,
+        "WrongKind" => Refusal::WrongKind,
+        "TooLarge" => Refusal::TooLarge { size: 262_145 },
+        "QuotaExceeded" => Refusal::QuotaExceeded {
+            copies: 1_000_000,
+            adds: 2,
+        },
+        "SessionRequired" => Refusal::SessionRequired,
+        "LockLost" => Refusal::LockLost,
+        "TxnPending" => Refusal::TxnPending { txn: 7 },
+        "Exhausted" => Refusal::Exhausted,
+        "DiskFault" => Refusal::DiskFault,
+        "Stopped" => Refusal::Stopped { faults: 3 },
+        "OutOfMemory" => Refusal::OutOfMemory,
+        _ => bail!("no such refusal: {name}"),
+    })
+}
+
+impl Rows for Refusals {
+    fn set(&mut self, _alloc: Global, _key: &str, _value: &str) -> Result<bool> {
+        Ok(false)
+    }
+
+    fn other(&self, alloc: Global, asked: &str, wanted: &str) -> Result<Option<String>> {
+        let answer = Err(refusal_named(alloc, asked)?);
+        let response = response_of(alloc, &self.call, &answer, b"h")?;
+        drop(answer);
+        let came = write_response(alloc, &response)?;
+        if came.as_slice() == response_bytes(alloc, wanted)?.as_slice() {
+            return Ok(None);
+        }
+        Ok(Some(shown(alloc, &came)?))
+    }
+}
