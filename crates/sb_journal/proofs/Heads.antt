@@ -5,7 +5,7 @@ use Rattle.std.proofs.lemmas.Nat.{from_be_bytes-to_be_bytes_8}
 use Rattle.std.proofs.lemmas.List.{append-nil}
 use Rattle.std.proofs.lemmas.Bool.Decides.{nat_tests}
 use Rattle.sb_journal.specs.Text.{File, new_file, with_payload, max_payload, head, framed, records, file_text, gate_after, IsWithin, Ends}
-use Rattle.sb_journal.specs.Framing.{Whole, Uncreated, first_failing, is_created, number_at, is_count, head_fault, read, payloads_in, file_with, whole_or_damaged, sound_or_damaged, framing}
+use Rattle.sb_journal.specs.Framing.{Whole, free_or_occupied, first_failing, is_created, number_at, is_count, head_fault, read, payloads_in, file_with, whole_or_damaged, sound_or_damaged, framing}
 use Rattle.sb_outside.specs.Held.{Held, at_rest}
 use Rattle.sb_journal.specs.Crashes.{Rests}
 use Rattle.sb_journal.proofs.Frames.{read_ended, records-push, length-records, length-records_from, AreShort-push}
@@ -71,7 +71,7 @@ module _ (salt generation first : ℕ) (payloads : List (List ℕ)) (rest : List
   plain_whole : 43 ≤ length text → framing text ≡ Whole (plain salt generation first payloads)
   unfolding framing
   plain_whole long =
-      ap (λ (b : Bool). if b then sound_or_damaged text (head_fault text) else Uncreated) (created long)
+      ap (λ (b : Bool). if b then sound_or_damaged text (head_fault text) else free_or_occupied text) (created long)
       ∙ ap (sound_or_damaged text) is_sound
       ∙ ap (whole_or_damaged text) payloads_are
       ∙ ap Whole its_file

@@ -6,7 +6,7 @@ use Rattle.sb_outside.specs.Held.{Held, IsImage}
 use Rattle.sb_journal.specs.declared.found.Side.{Side}
 use Rattle.sb_journal.specs.declared.found.Side.TheVariants.{A}
 use Rattle.sb_journal.specs.Text.{File, with_payload}
-use Rattle.sb_journal.specs.Framing.{Framing, Uncreated, Whole, Damaged, framing}
+use Rattle.sb_journal.specs.Framing.{Framing, Uncreated, Occupied, Whole, Damaged, framing}
 use Rattle.sb_journal.specs.Opened.{Stands, opened_alone, FindsFile, FindsEither}
 use Rattle.sb_journal.specs.Crashes.{Rests, IsTornPair, MayLeave, LeavesFound}
 use Rattle.sb_journal.specs.Moments.{EachMoment}
@@ -92,6 +92,7 @@ rests_leave_found h end next f x y rests left = finds_whole f x y (rests_leave h
 -- it is disk a's
 pub stands_on_a : (salt : ℕ) (r : Framing) (side : Side) (f : File) → opened_alone salt r ≡ Stands side f → opened_alone salt r ≡ Stands A f
 stands_on_a salt Uncreated side f e = cc
+stands_on_a salt Occupied side f e = absurd cc
 stands_on_a salt (Whole g) side f e = cc
 stands_on_a salt (Damaged place) side f e = absurd cc
 

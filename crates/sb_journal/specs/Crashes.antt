@@ -1,8 +1,8 @@
 -- When a disk has a whole file on it, and what a crash may leave while a record is added, a file is made, or an opening goes on.
-use Rattle.std.specs.Prelude.{◌≡◌, ◌⊎◌, ◌+◌, ◌≤◌, ℕ, List, [], ◌∷◌, ◌++◌, length, slice_index, false}
+use Rattle.std.specs.Prelude.{◌≡◌, ◌⊎◌, ◌+◌, ◌≤◌, ℕ, List, [], ◌∷◌, ◌++◌, length, max, slice_index, false}
 use Rattle.sb_outside.specs.Held.{Held, at_rest, is_written}
 use Rattle.sb_journal.specs.Text.{File, framed, file_text, new_bytes, with_payload, IsWithin}
-use Rattle.sb_journal.specs.Framing.{Framing, Uncreated, Whole, Damaged, framing}
+use Rattle.sb_journal.specs.Framing.{Framing, Uncreated, Occupied, Whole, Damaged, framing, is_created}
 
 -- The file and its closed end gate are on the disk, all of it safe. Behind the gate may stand what is left of a torn
 -- record.
@@ -22,16 +22,22 @@ pub record IsTornAppend (file : File) (payload bytes : List ℕ) : Type 0 where
   pub within_after : IsWithin (with_payload file payload)
   pub stands : ((tail : List ℕ) × (bytes ≡ file_text file ++ 0 ∷ tail)) ⊎ ((gate : ℕ) × (tail : List ℕ) × (bytes ≡ file_text file ++ gate ∷ (framed (file.first + length file.payloads) payload ++ 0 ∷ tail)))
 
+-- no file counts here, and at most so many bytes stand here
+pub record HasNoFile (most : ℕ) (bytes : List ℕ) : Type 0 where
+  pub none : is_created bytes ≡ false
+  pub short : length bytes ≤ most
+
 -- New bytes are being put in the place of old ones: the old ones stand unchanged, or no file counts, or all of the new ones stand.
 abbrev pub IsOldNoneOrNew : (old new bytes : List ℕ) → Type 0
-IsOldNoneOrNew old new bytes = (bytes ≡ old) ⊎ ((framing bytes ≡ Uncreated) ⊎ (bytes ≡ new))
+IsOldNoneOrNew old new bytes = (bytes ≡ old) ⊎ (HasNoFile (max (length old) (length new)) bytes ⊎ (bytes ≡ new))
 
--- the file's gate is closed in each image of this disk
-pub record IsShut (held : Held) : Type 0 where
+-- in each image of this disk the file's gate is closed, and at most so many bytes stand there
+pub record IsShut (most : ℕ) (held : Held) : Type 0 where
   pub some : 1 ≤ held.least
   pub kept : 1 ≤ length held.synced
   pub gate : slice_index held.synced 0 ≡ 0
   pub free : is_written 0 held.ranges ≡ false
+  pub short : held.greatest ≤ most
 
 -- The file's end gate was missing, or neither open nor closed: any bytes may stand from there on.
 pub record IsTornEnd (file : File) (seen bytes : List ℕ) : Type 0 where
@@ -41,9 +47,11 @@ pub record IsTornEnd (file : File) (seen bytes : List ℕ) : Type 0 where
   -- where there was one, its byte alone may be another
   pub behind : (was : ℕ) (tail : List ℕ) → seen ≡ file_text file ++ was ∷ tail → (gate : ℕ) × (bytes ≡ file_text file ++ gate ∷ tail)
 
--- What a crash during an opening may leave of the bytes that it found.
+-- What a crash during an opening may leave of the bytes that it found. Where a file is made for the first time, no more stands
+-- there than its making leaves, so that the next opening makes it.
 abbrev pub MayLeave : ℕ → List ℕ → Framing → List ℕ → Type 0
-MayLeave salt seen Uncreated bytes = IsOldNoneOrNew seen (new_bytes salt 1 1 []) bytes
+MayLeave salt seen Uncreated bytes = (framing bytes ≡ Uncreated) ⊎ (bytes ≡ new_bytes salt 1 1 [])
+MayLeave salt seen Occupied bytes = bytes ≡ seen
 MayLeave salt seen (Whole file) bytes = (bytes ≡ seen) ⊎ IsTornEnd file seen bytes
 MayLeave salt seen (Damaged place) bytes = bytes ≡ seen
 
