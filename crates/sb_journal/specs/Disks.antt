@@ -1,5 +1,5 @@
 -- The two disks of a journal as one value, and what is said of both.
-use Rattle.std.specs.Prelude.{◌≡◌, ◌⊎◌, ◌≤◌, ℕ, List, length, drop, Bool, IsTrue, slice_index}
+use Rattle.std.specs.Prelude.{◌≡◌, ◌⊎◌, ◌≤◌, ℕ, List, length, Bool, IsTrue, slice_index}
 use Rattle.sb_outside.specs.Causes.{RoseByOne}
 use Rattle.sb_outside.specs.Held.{Held, IsImage, Moves, at_rest}
 use Rattle.sb_outside.specs.declared.disk.Disk.{Ghosts}
@@ -8,7 +8,7 @@ use Rattle.sb_journal.specs.declared.found.Side.TheVariants.{A, B}
 use Rattle.sb_journal.specs.Framing.{Uncreated, framing, new_length}
 use Rattle.sb_journal.specs.Moments.{EachMoment, FromSync, IsUnwritten}
 use Rattle.sb_journal.specs.Opened.{Opened, opened}
-use Rattle.sb_journal.specs.Crashes.{LeavesFound}
+use Rattle.sb_journal.specs.Crashes.{IsSameFrom, LeavesFound}
 
 -- what a disk tells: whether what is said of its content holds, what it holds, what it held at each moment before, and how many of
 -- its calls have failed
@@ -74,7 +74,7 @@ IsAtRest side was later = (on_side side later).held ≡ at_rest (on_side side wa
 
 -- from this place of the file on, the bytes are those that were read before; disk b has no file yet
 abbrev pub StaysBehind : ℕ → Disks → (x y : List ℕ) → Type 0
-StaysBehind place was x y = drop place x ≡ drop place was.a.held.seen
+StaysBehind place was x y = IsSameFrom place was.a.held.seen x
 
 -- ---- counts of faults, and honesty
 

@@ -1,5 +1,5 @@
 -- What two disks stand for, and what an opening says of it.
-use Rattle.std.specs.Prelude.{◌≡◌, ◌⊎◌, ◌≤◌, ◌<◌, ◌+◌, ◌&&◌, ◌==◌, ◌^◌, ℕ, Bool, List, [], Some, None, length, nat_lt, slice_index, true, false}
+use Rattle.std.specs.Prelude.{◌≡◌, ◌⊎◌, ◌≤◌, ◌<◌, ◌+◌, ◌&&◌, ◌==◌, ◌^◌, ℕ, Bool, List, [], ◌∷◌, Some, None, length, nat_lt, slice_index, true, false}
 use Rattle.sb_outside.specs.Held.{Held, at_rest}
 use Rattle.sb_journal.specs.declared.found.Side.{Side}
 use Rattle.sb_journal.specs.declared.found.Side.TheVariants.{A}
@@ -11,7 +11,7 @@ use Rattle.sb_journal.specs.declared.reading.Stand.{Stand}
 use Rattle.sb_journal.specs.declared.reading.Ending.{Ending}
 use Rattle.sb_journal.specs.declared.reading.Reading.{Reading}
 use Rattle.sb_journal.specs.declared.reading.Reading.TheVariants.{NoFile, OtherFile, AFile, BadFile}
-use Rattle.sb_journal.specs.Text.{File, new_file, file_text, with_payload, Spells, HasText}
+use Rattle.sb_journal.specs.Text.{File, new_file, file_text, with_payloads, Spells, HasText}
 use Rattle.sb_journal.specs.Framing.{Framing, Uncreated, Occupied, Whole, Damaged, framing, is_created, new_length, head_fault, number_at}
 
 pub data Opened : Type 0 where
@@ -35,9 +35,13 @@ opened a b salt = opened_alone salt (framing a)
 abbrev pub FindsFile : File → (a b : List ℕ) → Type 0
 FindsFile file a b = (salt : ℕ) → (side : Side) × (opened a b salt ≡ Stands side file)
 
--- it finds the file, with this payload more or without it
+-- it finds the file, with all of these payloads more or with none of them
+abbrev pub FindsNoneOrAll : File → List (List ℕ) → (a b : List ℕ) → Type 0
+FindsNoneOrAll file payloads a b = FindsFile file a b ⊎ FindsFile (with_payloads file payloads) a b
+
+-- with this payload more or without it
 abbrev pub FindsEither : File → List ℕ → (a b : List ℕ) → Type 0
-FindsEither file payload a b = FindsFile file a b ⊎ FindsFile (with_payload file payload) a b
+FindsEither file payload a b = FindsNoneOrAll file (payload ∷ []) a b
 
 -- the file that was found
 abbrev pub found_file : Found → File
