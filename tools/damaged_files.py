@@ -280,9 +280,11 @@ def records_in(data):
 def read_journal(data):
     """The class of a file, the reply to PEEK, the status, and the bytes that an opening leaves; where this
     reader can't tell the reply, in place of the status the gate from which on it can't."""
-    if len(data) < 43 or data[0] != 1:
+    if len(data) < 43 or (len(data) == 43 and data[0] != 1):
         return "no journal, replaced by a new one", NOT_FOUND, 1, None
     try:
+        if data[0] != 1:
+            raise Damaged(0)
         place = head_fault(data)
         if place is not None:
             raise Damaged(place)
@@ -355,6 +357,10 @@ def cases(data, values):
         for step in steps:
             other = (byte + step) % 256
             yield f"byte {place} is {other:02x}", data[:place] + bytes([other]) + data[place + 1 :]
+    # a new file is made where no more stands than its making leaves
+    for size in (42, 43, 44):
+        for other in (0, 0x58):
+            yield f"the first {size} bytes, byte 0 is {other:02x}", bytes([other]) + data[1:size]
     # both at once: a torn end gate must not be closed where anything before it is damaged
     for place in range(len(data) - 1):
         for other in (0, 0xFF):

@@ -79,6 +79,8 @@ fn tells_the_place_of_damage(rt: HostRuntime) -> Result<(), Fail> {
     let alloc = rt.alloc();
     let record = [1, 0, 0, 0, 1, 0, 0, 0, 0, 0, 0, 0, 1, b'x', 0];
     let cases = [
+        (0, 0, 0),
+        (0, b'X', 0),
         (1, 0, 1),
         (9, 2, 9),
         (18, 255, 18),

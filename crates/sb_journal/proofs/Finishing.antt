@@ -1,9 +1,10 @@
 -- An opening: what was read, and what a crash leaves while it is finished.
 use Rattle.std.proofs.Common.{◌≡◌, ◌⊎◌, inl, inr, ℕ, ◌+◌, ◌<◌, ◌≤◌, ◌^◌, List, [], ◌∷◌, ◌++◌, length, true, false, refl, sym, ◌∙◌, ap, subst, arith, length-append}
-use Rattle.std.specs.Prelude.{slice_index, Bool, if◌then◌else◌, Option, Some, None, Result, Ok, Err}
+use Rattle.std.specs.Prelude.{slice_index, nat_le, Bool, if◌then◌else◌, Option, Some, None, Result, Ok, Err}
+use Rattle.std.proofs.lemmas.Bool.Decides.{nat_tests}
 use Rattle.sb_outside.specs.Held.{Held, IsImage, Moves, at_rest}
 use Rattle.sb_journal.specs.Text.{File, new_file, new_bytes, file_text, IsWithin, Spells}
-use Rattle.sb_journal.specs.Framing.{Framing, Uncreated, Whole, Damaged, framing, is_created, head_fault, payloads_in, sound_or_damaged, whole_or_damaged}
+use Rattle.sb_journal.specs.Framing.{Framing, Uncreated, Occupied, free_or_occupied, Whole, Damaged, framing, is_created, head_fault, payloads_in, sound_or_damaged, whole_or_damaged}
 use Rattle.sb_journal.specs.Crashes.{Rests, IsOldNoneOrNew, IsTornEnd, MayLeave}
 use Rattle.sb_journal.specs.Moments.{EachMoment, FromSync, IsUnwritten}
 use Rattle.sb_journal.specs.Opened.{Stands, opened_alone, stand_file, is_shut, IsStand, IsWholeStand, IsRead}
@@ -13,9 +14,9 @@ use Rattle.sb_journal.specs.declared.reading.Ending.{Ending}
 use Rattle.sb_journal.specs.declared.reading.Stand.{Stand}
 use Rattle.sb_journal.proofs.Moments.{started, from_start, weaker_moments}
 use Rattle.sb_journal.proofs.Images.{rest_image}
-use Rattle.sb_journal.proofs.Heads.{length-file_text, new_rests}
+use Rattle.sb_journal.proofs.Heads.{length-file_text, new_rests, reads_closed}
 use Rattle.sb_journal.proofs.Texts.{has_text}
-use Rattle.sb_journal.proofs.Wholes.{not_created}
+use Rattle.sb_journal.proofs.Wholes.{is_free}
 
 read_is_created : (bytes : List ℕ) (r : Result (List (List ℕ)) ℕ) → whole_or_damaged bytes r ≡ Uncreated → ⊥
 read_is_created bytes (Ok ps) e = absurd cc
@@ -25,30 +26,44 @@ sound_is_created : (bytes : List ℕ) (o : Option ℕ) → sound_or_damaged byte
 sound_is_created bytes None e = read_is_created bytes (payloads_in bytes) e
 sound_is_created bytes (Some place) e = absurd cc
 
-where_uncreated : (bytes : List ℕ) (b : Bool) → (if b then sound_or_damaged bytes (head_fault bytes) else Uncreated) ≡ Uncreated → b ≡ false
+where_free : (short : Bool) → (if short then Uncreated else Occupied) ≡ Uncreated → short ≡ true
+where_free true e = refl
+where_free false e = absurd cc
+
+where_uncreated : (bytes : List ℕ) (b : Bool) → (if b then sound_or_damaged bytes (head_fault bytes) else free_or_occupied bytes) ≡ Uncreated → (b ≡ false) × (nat_le (length bytes) 43 ≡ true)
 where_uncreated bytes true e = absurd (sound_is_created bytes (head_fault bytes) e)
-where_uncreated bytes false e = refl
+where_uncreated bytes false e = (refl, where_free (nat_le (length bytes) 43) e)
 
 uncreated_isnt : (bytes : List ℕ) → framing bytes ≡ Uncreated → is_created bytes ≡ false
 unfolding framing
-uncreated_isnt bytes e = where_uncreated bytes (is_created bytes) e
+uncreated_isnt bytes e = (where_uncreated bytes (is_created bytes) e).0
 
-where_whole : (x : Framing) (f : File) (b : Bool) → (if b then x else Uncreated) ≡ Whole f → b ≡ true
-where_whole x f true e = refl
-where_whole x f false e = absurd cc
+uncreated_short : (bytes : List ℕ) → framing bytes ≡ Uncreated → length bytes ≤ 43
+unfolding framing
+uncreated_short bytes e = let short = (where_uncreated bytes (is_created bytes) e).1 in grind (arith, nat_tests)
+
+free_isnt : (short : Bool) (f : File) → (if short then Uncreated else Occupied) ≡ Whole f → ⊥
+free_isnt true f e = absurd cc
+free_isnt false f e = absurd cc
+
+where_whole : (bytes : List ℕ) (x : Framing) (f : File) (b : Bool) → (if b then x else free_or_occupied bytes) ≡ Whole f → b ≡ true
+where_whole bytes x f true e = refl
+where_whole bytes x f false e = absurd (free_isnt (nat_le (length bytes) 43) f e)
 
 whole_is_created : (bytes : List ℕ) (f : File) → framing bytes ≡ Whole f → is_created bytes ≡ true
 unfolding framing
-whole_is_created bytes f e = where_whole (sound_or_damaged bytes (head_fault bytes)) f (is_created bytes) e
+whole_is_created bytes f e = where_whole bytes (sound_or_damaged bytes (head_fault bytes)) f (is_created bytes) e
 
 -- the file that counts, by what the bytes stand for
 new_file_is : (salt : ℕ) (r : Framing) (file : File) → r ≡ Uncreated → opened_alone salt r ≡ Stands A file → file ≡ new_file salt 1 1 []
 new_file_is salt Uncreated file none stands = cc
+new_file_is salt Occupied file none stands = absurd cc
 new_file_is salt (Whole f) file none stands = absurd cc
 new_file_is salt (Damaged place) file none stands = absurd cc
 
 same_file_is : (salt : ℕ) (r : Framing) (f file : File) → r ≡ Whole f → opened_alone salt r ≡ Stands A file → file ≡ f
 same_file_is salt Uncreated f file whole stands = absurd cc
+same_file_is salt Occupied f file whole stands = absurd cc
 same_file_is salt (Whole g) f file whole stands = cc
 same_file_is salt (Damaged place) f file whole stands = absurd cc
 
@@ -57,6 +72,7 @@ file_is salt bytes file made stands = by_framing (framing bytes) refl stands
   where
     by_framing : (r : Framing) → framing bytes ≡ r → opened_alone salt r ≡ Stands A file → framing bytes ≡ Whole file
     by_framing Uncreated is e = let isnt : true ≡ false = sym made ∙ uncreated_isnt bytes is in absurd cc
+    by_framing Occupied is e = absurd cc
     by_framing (Whole f) is e = let same : f ≡ file = cc in is ∙ ap Whole same
     by_framing (Damaged place) is e = absurd cc
 
@@ -71,6 +87,7 @@ read_no_file bytes e none made end next = record {
   rests = refl;
   text = λ file whole. absurd (no_whole bytes file none whole);
   made = made ∙ sym (uncreated_isnt bytes none);
+  short = λ isnt. uncreated_short bytes none;
   inside = λ is. let both : true ≡ false = sym is ∙ made in absurd cc;
   closed = λ is. let both : true ≡ false = sym is ∙ made in absurd cc;
   end = λ salt file stands. end ∙ sym (length-new salt) ∙ ap (λ f. length (file_text f)) (sym (new_file_is salt (framing bytes) file none stands));
@@ -86,6 +103,7 @@ read_file bytes e f whole spells made closed end next = record {
   rests = refl;
   text = λ file is. has_text file bytes (same_whole bytes f file whole is spells);
   made = made ∙ sym (whole_is_created bytes f whole);
+  short = λ isnt. let both : true ≡ false = sym made ∙ isnt in absurd cc;
   inside = λ is. omega (arith, end, ap length spells.is, length-append (file_text f) spells.rest);
   closed = λ is. closed;
   end = λ salt file stands. end ∙ ap (λ g. length (file_text g)) (sym (same_file_is salt (framing bytes) f file whole stands));
@@ -123,19 +141,25 @@ module _ (salt : ℕ) (seen : List ℕ) where
   abbrev R : List ℕ → Type 0
   R = MayLeave salt seen (framing seen)
 
-  unchanged : (r : Framing) (image : List ℕ) → image ≡ seen → MayLeave salt seen r image
-  unchanged Uncreated image is = inl is
-  unchanged (Whole f) image is = inl is
-  unchanged (Damaged place) image is = is
+  unchanged : (r : Framing) (image : List ℕ) → framing seen ≡ r → image ≡ seen → MayLeave salt seen r image
+  unchanged Uncreated image none is = inl (ap framing is ∙ none)
+  unchanged Occupied image other is = is
+  unchanged (Whole f) image whole is = inl is
+  unchanged (Damaged place) image bad is = is
 
   pub kept_leaves : (image : List ℕ) → image ≡ seen → R image
-  kept_leaves image is = unchanged (framing seen) image is
+  kept_leaves image is = unchanged (framing seen) image refl is
 
   pub end_leaves : (f : File) → framing seen ≡ Whole f → (image : List ℕ) → (image ≡ seen) ⊎ IsTornEnd f seen image → R image
   end_leaves f whole image left = let P : Framing → Type 0 = λ r. MayLeave salt seen r image in subst P (sym whole) left
 
   pub new_leaves : framing seen ≡ Uncreated → (image : List ℕ) → IsOldNoneOrNew seen (new_bytes salt 1 1 []) image → R image
-  new_leaves none image left = let P : Framing → Type 0 = λ r. MayLeave salt seen r image in subst P (sym none) left
+  new_leaves none image left = let P : Framing → Type 0 = λ r. MayLeave salt seen r image in subst P (sym none) (by_place left)
+    where
+      by_place : IsOldNoneOrNew seen (new_bytes salt 1 1 []) image → MayLeave salt seen Uncreated image
+      by_place (inl old) = inl (ap framing old ∙ none)
+      by_place (inr (inl isnt)) = inl (is_free image isnt.none (omega (arith, isnt.short, uncreated_short seen none, length-append (file_text (new_file salt 1 1 [])) (0 ∷ []), length-new salt)))
+      by_place (inr (inr new)) = inr new
 
 pub opening_stays : (salt : ℕ) (p0 p1 : List Held) (h0 h1 : Held) → IsUnwritten p0 h0 p1 h1 → FromSync p0 h0 p1 h1 (MayLeave salt h0.seen (framing h0.seen))
 opening_stays salt p0 p1 h0 h1 unwritten = by_moments unwritten.moments
@@ -152,10 +176,10 @@ opening_finishes salt salt_1 p0 p1 p2 h0 h1 h2 same synced run =
     let there = subst (λ (s : List ℕ). EachMoment p1 p2 h2 (MayLeave salt s (framing s))) seen here in
     inr (subst (λ p. EachMoment p p2 h2 (MayLeave salt h0.seen (framing h0.seen))) synced.past_is there)
 
-pub ours_there : (p0 p1 : List Held) (h0 h1 : Held) → Moves p0 h0 p1 h1 (at_rest h0.seen) → (framing h0.seen ≡ Uncreated → slice_index h0.seen 0 ≤ 1) → framing h1.seen ≡ Uncreated → slice_index h1.seen 0 ≤ 1
+pub ours_there : (p0 p1 : List Held) (h0 h1 : Held) → Moves p0 h0 p1 h1 (at_rest h0.seen) → (framing h0.seen ≡ Uncreated → 43 ≤ length h0.seen → slice_index h0.seen 0 ≤ 1) → framing h1.seen ≡ Uncreated → 43 ≤ length h1.seen → slice_index h1.seen 0 ≤ 1
 ours_there p0 p1 h0 h1 synced ours =
     let seen : h1.seen ≡ h0.seen = ap (λ m. m.seen) synced.now_is in
-    subst (λ (s : List ℕ). framing s ≡ Uncreated → slice_index s 0 ≤ 1) (sym seen) ours
+    subst (λ (s : List ℕ). framing s ≡ Uncreated → 43 ≤ length s → slice_index s 0 ≤ 1) (sym seen) ours
 
 pub stands_there : (salt salt_1 : ℕ) (p0 p1 : List Held) (h0 h1 : Held) (side : Side) (file : File) → salt_1 ≡ salt → Moves p0 h0 p1 h1 (at_rest h0.seen) → side ≡ A → opened_alone salt (framing h0.seen) ≡ Stands side file → opened_alone salt_1 (framing h1.seen) ≡ Stands A file
 stands_there salt salt_1 p0 p1 h0 h1 side file same synced on_a stands =
@@ -174,7 +198,7 @@ makes salt p0 p1 h0 h1 at none run =
     weaker_moments p0 p1 h1 _ _ (new_leaves salt h0.seen none) (from_start p0 p1 h0 h1 (IsOldNoneOrNew h0.seen (new_bytes salt 1 1 [])) run (λ image left. inl (rest_image h0.seen image (subst (λ m. IsImage m image) at left))))
 
 pub none_is : (h : Held) (e : Ending) → IsRead h e → e.made ≡ false → framing h.seen ≡ Uncreated
-none_is h e read isnt = not_created h.seen (sym read.made ∙ isnt)
+none_is h e read isnt = is_free h.seen (sym read.made ∙ isnt) (read.short isnt)
 
 pub some_is : (salt : ℕ) (h : Held) (e : Ending) (file : File) → IsRead h e → e.made ≡ true → opened_alone salt (framing h.seen) ≡ Stands A file → framing h.seen ≡ Whole file
 some_is salt h e file read is stands = file_is salt h.seen file (sym read.made ∙ is) stands
@@ -196,3 +220,15 @@ pub room_there : (h : Held) (end next : ℕ) (file : File) → Rests h end next 
 room_there h end next file rests =
     let least : h.least ≡ length (file_text file ++ 0 ∷ rests.tail) = ap (λ m. m.least) rests.held_is in
     omega (arith, least, rests.end_is, length-append (file_text file) (0 ∷ rests.tail))
+
+-- what a crash left while a first file was made is opened as a new one
+pub new_found : (salt : ℕ) (a x : List ℕ) → salt < 2 ^ 64 → framing a ≡ Uncreated → MayLeave salt a (framing a) x → opened_alone salt (framing x) ≡ Stands A (new_file salt 1 1 [])
+new_found salt a x fits none left =
+    let P : Framing → Type 0 = λ r. MayLeave salt a r x in
+    by_place (subst P none left)
+  where
+    by_place : (framing x ≡ Uncreated) ⊎ (x ≡ new_bytes salt 1 1 []) → opened_alone salt (framing x) ≡ Stands A (new_file salt 1 1 [])
+    by_place (inl still) = ap (opened_alone salt) still
+    by_place (inr new) =
+        let rests = new_rests (at_rest (file_text (new_file salt 1 1 []) ++ 0 ∷ [])) salt 1 1 fits (omega arith) (omega arith) (omega arith) (omega arith) refl in
+        ap (λ (l : List ℕ). opened_alone salt (framing l)) new ∙ ap (opened_alone salt) (reads_closed (new_file salt 1 1 []) 0 [] rests.within (omega arith))

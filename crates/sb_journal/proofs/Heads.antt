@@ -4,11 +4,11 @@ use Rattle.std.specs.Prelude.{Bool, if◌then◌else◌, Some, None, Ok}
 use Rattle.std.proofs.lemmas.Nat.{from_be_bytes-to_be_bytes_8}
 use Rattle.std.proofs.lemmas.List.{append-nil}
 use Rattle.std.proofs.lemmas.Bool.Decides.{nat_tests}
-use Rattle.sb_journal.specs.Text.{File, new_file, with_payload, max_payload, head, framed, records, file_text, gate_after, IsWithin, Ends}
-use Rattle.sb_journal.specs.Framing.{Whole, Uncreated, first_failing, is_created, number_at, is_count, head_fault, read, payloads_in, file_with, whole_or_damaged, sound_or_damaged, framing}
+use Rattle.sb_journal.specs.Text.{File, new_file, with_payload, with_payloads, max_payload, head, framed, records, file_text, gate_after, IsWithin, Ends}
+use Rattle.sb_journal.specs.Framing.{Whole, free_or_occupied, first_failing, is_created, number_at, is_count, head_fault, read, payloads_in, file_with, whole_or_damaged, sound_or_damaged, framing}
 use Rattle.sb_outside.specs.Held.{Held, at_rest}
 use Rattle.sb_journal.specs.Crashes.{Rests}
-use Rattle.sb_journal.proofs.Frames.{read_ended, records-push, length-records, length-records_from, AreShort-push}
+use Rattle.sb_journal.proofs.Frames.{read_ended, records-append, records-push, length-records, length-records_from, AreShort-push}
 
 -- a file without a base
 abbrev plain : (salt generation first : ℕ) → List (List ℕ) → File
@@ -71,7 +71,7 @@ module _ (salt generation first : ℕ) (payloads : List (List ℕ)) (rest : List
   plain_whole : 43 ≤ length text → framing text ≡ Whole (plain salt generation first payloads)
   unfolding framing
   plain_whole long =
-      ap (λ (b : Bool). if b then sound_or_damaged text (head_fault text) else Uncreated) (created long)
+      ap (λ (b : Bool). if b then sound_or_damaged text (head_fault text) else free_or_occupied text) (created long)
       ∙ ap (sound_or_damaged text) is_sound
       ∙ ap (whole_or_damaged text) payloads_are
       ∙ ap Whole its_file
@@ -102,6 +102,31 @@ file_text-push f p rest =
     ∙ ap (λ (l : List ℕ). f.base ++ l) (records-push f.payloads f.first p rest)
     ∙ sym (append_assoc f.base (records f.first f.payloads) (1 ∷ (framed (f.first + length f.payloads) p ++ rest))))
     ∙ sym (append_assoc h (f.base ++ records f.first f.payloads) (1 ∷ (framed (f.first + length f.payloads) p ++ rest))))
+
+-- several more
+pub file_text-group : (f : File) (p : List ℕ) (ps : List (List ℕ)) (rest : List ℕ)
+    → file_text (with_payloads f (p ∷ ps)) ++ rest ≡ file_text f ++ 1 ∷ (framed (f.first + length f.payloads) p ++ (records (f.first + length f.payloads + 1) ps ++ rest))
+unfolding file_text
+file_text-group f p ps rest =
+    let h = head f.salt f.generation f.first (length f.base) in
+    let more : List ℕ = records (f.first + length f.payloads) (p ∷ ps) ++ rest in
+    let each : more ≡ 1 ∷ (framed (f.first + length f.payloads) p ++ (records (f.first + length f.payloads + 1) ps ++ rest)) =
+    ap (λ (l : List ℕ). 1 ∷ l) (append_assoc (framed (f.first + length f.payloads) p) (records (f.first + length f.payloads + 1) ps) rest) in
+    ap (λ (l : List ℕ). 1 ∷ l) (
+    append_assoc h (f.base ++ records f.first (f.payloads ++ p ∷ ps)) rest
+    ∙ ap (λ (l : List ℕ). h ++ l) (
+    append_assoc f.base (records f.first (f.payloads ++ p ∷ ps)) rest
+    ∙ ap (λ (l : List ℕ). f.base ++ l) (records-append f.payloads (p ∷ ps) f.first rest)
+    ∙ sym (append_assoc f.base (records f.first f.payloads) more))
+    ∙ sym (append_assoc h (f.base ++ records f.first f.payloads) more)
+    ∙ ap (λ (l : List ℕ). (h ++ (f.base ++ records f.first f.payloads)) ++ l) each)
+
+-- none more
+pub with_none : (f : File) → with_payloads f [] ≡ f
+with_none f = ap (λ (ps : List (List ℕ)). record { salt = f.salt; generation = f.generation; first = f.first; base = f.base; payloads = ps }) (append-nil f.payloads)
+
+pub with_both : (f : File) (ps qs : List (List ℕ)) → with_payloads (with_payloads f ps) qs ≡ with_payloads f (ps ++ qs)
+with_both f ps qs = ap (λ (all : List (List ℕ)). record { salt = f.salt; generation = f.generation; first = f.first; base = f.base; payloads = all }) (append_assoc f.payloads ps qs)
 
 pub IsWithin-push : (f : File) (p : List ℕ) → IsWithin f → length p ≤ max_payload → f.first + length f.payloads + 1 ≤ 2 ^ 64 → IsWithin (with_payload f p)
 IsWithin-push f p within short few = record {

@@ -3,7 +3,8 @@ use Rattle.std.proofs.Common.{◌≡◌, ℕ, ◌+◌, ◌<◌, ◌≤◌, List,
 use Rattle.std.specs.Int.{to_be_bytes}
 use Rattle.std.proofs.lemmas.List.{append-nil, take_at, drop_all}
 use Rattle.sb_outside.specs.Held.{overwritten}
-use Rattle.sb_journal.specs.Text.{head, file_text, new_bytes}
+use Rattle.sb_journal.specs.Text.{head, file_text, new_file, new_bytes}
+use Rattle.sb_journal.proofs.Heads.{length-file_text}
 use Rattle.sb_journal.proofs.Images.{written_at}
 
 -- a write from a place to the end or past it
@@ -36,6 +37,11 @@ opened_text salt generation first base =
 pub file_opened : (salt generation first : ℕ) (base : List ℕ) → overwritten (0 ∷ (head salt generation first (length base) ++ (base ++ 0 ∷ []))) 0 (1 ∷ []) ≡ new_bytes salt generation first base
 file_opened salt generation first base =
     written_at [] (head salt generation first (length base) ++ (base ++ 0 ∷ [])) 0 1 0 refl ∙ opened_text salt generation first base
+
+pub length-new_bytes : (salt generation first : ℕ) (base : List ℕ) → length (new_bytes salt generation first base) ≡ 43 + length base
+length-new_bytes salt generation first base =
+    let file = new_file salt generation first base in
+    omega (arith, length-file_text file, length-append (file_text file) (0 ∷ []))
 
 pub length-overwritten : (old : List ℕ) (place : ℕ) (bytes : List ℕ) → place ≤ length old → place + length bytes ≤ length (overwritten old place bytes)
 length-overwritten old place bytes inside = omega (arith, length-append (take place old ++ bytes) (drop (place + length bytes) old), length-append (take place old) bytes, length-take place old)

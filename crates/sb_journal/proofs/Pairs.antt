@@ -5,13 +5,14 @@ use Rattle.sb_outside.specs.Causes.{RoseByOne}
 use Rattle.sb_outside.specs.Held.{Held, IsImage}
 use Rattle.sb_journal.specs.declared.found.Side.{Side}
 use Rattle.sb_journal.specs.declared.found.Side.TheVariants.{A}
-use Rattle.sb_journal.specs.Text.{File, with_payload}
-use Rattle.sb_journal.specs.Framing.{Framing, Uncreated, Whole, Damaged, framing}
-use Rattle.sb_journal.specs.Opened.{Stands, opened_alone, FindsFile, FindsEither}
-use Rattle.sb_journal.specs.Crashes.{Rests, IsTornPair, MayLeave, LeavesFound}
+use Rattle.sb_journal.specs.Text.{File, with_payloads}
+use Rattle.sb_journal.specs.Framing.{Framing, Uncreated, Occupied, Whole, Damaged, framing}
+use Rattle.sb_journal.specs.Opened.{Stands, opened_alone, FindsFile, FindsNoneOrAll}
+use Rattle.sb_journal.specs.Crashes.{Stages, IsTornPair, MayLeave, LeavesFound}
 use Rattle.sb_journal.specs.Moments.{EachMoment}
 use Rattle.sb_journal.specs.Disks.{Disks, EachImage, EachPair, KeepFound, AreHonest, AreOurs, AreSynced, AreUnwritten, IsAtRest, AreQuiet, OneFault, HaveFailed, SameHonesty}
-use Rattle.sb_journal.proofs.Adding.{IsBeforeOrAfter, torn_read, rests_read, rests_leave}
+use Rattle.sb_journal.proofs.Adding.{IsBeforeOrAfter, torn_read}
+use Rattle.sb_journal.proofs.Staging.{stages_read, stages_leave}
 use Rattle.sb_journal.proofs.Finishing.{opening_stays, opening_finishes, ours_there}
 use Rattle.sb_journal.proofs.Moments.{started, stays, weaker_moments}
 
@@ -76,22 +77,23 @@ opening_finishes_pair salt salt_1 was mid later same synced read run ours =
 pub finds_whole : (f : File) (x y : List ℕ) → framing x ≡ Whole f → FindsFile f x y
 finds_whole f x y whole salt = (A, ap (opened_alone salt) whole)
 
-pub torn_found : (f : File) (p x y : List ℕ) → IsTornPair f p x y → FindsEither f p x y
-torn_found f p x y torn = by_read (torn_read f p x torn)
+pub torn_found : (f : File) (ps : List (List ℕ)) (x y : List ℕ) → IsTornPair f ps x y → FindsNoneOrAll f ps x y
+torn_found f ps x y torn = by_read (torn_read f ps x torn)
   where
-    by_read : IsBeforeOrAfter f p x → FindsEither f p x y
+    by_read : IsBeforeOrAfter f ps x → FindsNoneOrAll f ps x y
     by_read (inl before) = inl (finds_whole f x y before)
-    by_read (inr after) = inr (finds_whole (with_payload f p) x y after)
+    by_read (inr after) = inr (finds_whole (with_payloads f ps) x y after)
 
-pub rests_found : (h : Held) (end next : ℕ) (f : File) (y : List ℕ) → Rests h end next f → FindsFile f h.seen y
-rests_found h end next f y rests = finds_whole f h.seen y (rests_read h end next f rests)
+pub stages_found : (h : Held) (end next : ℕ) (f : File) (w y : List ℕ) → Stages h end next f w → FindsFile f h.seen y
+stages_found h end next f w y s = finds_whole f h.seen y (stages_read h end next f w s)
 
-pub rests_leave_found : (h : Held) (end next : ℕ) (f : File) (x y : List ℕ) → Rests h end next f → IsImage h x → FindsFile f x y
-rests_leave_found h end next f x y rests left = finds_whole f x y (rests_leave h end next f rests x left)
+pub stages_leave_found : (h : Held) (end next : ℕ) (f : File) (w x y : List ℕ) → Stages h end next f w → IsImage h x → FindsFile f x y
+stages_leave_found h end next f w x y s left = finds_whole f x y (stages_leave h end next f w s x left)
 
 -- it is disk a's
 pub stands_on_a : (salt : ℕ) (r : Framing) (side : Side) (f : File) → opened_alone salt r ≡ Stands side f → opened_alone salt r ≡ Stands A f
 stands_on_a salt Uncreated side f e = cc
+stands_on_a salt Occupied side f e = absurd cc
 stands_on_a salt (Whole g) side f e = cc
 stands_on_a salt (Damaged place) side f e = absurd cc
 

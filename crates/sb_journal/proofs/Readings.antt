@@ -1,16 +1,16 @@
 -- What the bytes of a disk stand for, by what was read of them.
-use Rattle.std.proofs.Common.{◌≡◌, ℕ, ◌+◌, ◌^◌, ◌≤◌, List, ◌++◌, length, drop, true, false, sym, ◌∙◌, ap, subst, arith}
+use Rattle.std.proofs.Common.{◌≡◌, inl, inr, length-append, ℕ, ◌+◌, ◌^◌, ◌≤◌, List, ◌++◌, length, drop, true, false, sym, ◌∙◌, ap, subst, arith}
 use Rattle.std.specs.Prelude.{Some, Err}
 use Rattle.sb_journal.specs.Text.{records, file_text, AreBytes, Spelled, Spells}
-use Rattle.sb_journal.specs.Framing.{Uncreated, Whole, Damaged, framing, read}
+use Rattle.sb_journal.specs.Framing.{Uncreated, Occupied, Whole, Damaged, framing, read}
 use Rattle.sb_journal.specs.Opened.{stand_file, is_shut, IsHead, IsNoHead, IsStand, IsWholeStand}
 use Rattle.sb_journal.specs.Pieces.{BeginsWith}
 use Rattle.sb_journal.specs.declared.reading.Head.{Head}
-use Rattle.sb_journal.specs.declared.reading.HeadFault.TheVariants.{NoHead, BadHead}
+use Rattle.sb_journal.specs.declared.reading.HeadFault.TheVariants.{NoHead, OtherHead, BadHead}
 use Rattle.sb_journal.specs.declared.reading.Stand.{Stand}
 use Rattle.sb_journal.proofs.Frames.{length-records}
 use Rattle.sb_journal.proofs.Heads.{length-file_text, reads_whole}
-use Rattle.sb_journal.proofs.Wholes.{file_of, created_by, fault_by, head_by, spells_by, not_created, head_damaged, with_records}
+use Rattle.sb_journal.proofs.Wholes.{file_of, created_by, fault_by, head_by, spells_by, is_free, is_occupied, head_damaged, with_records}
 
 -- a stand with this head and these payloads
 pub record HasParts (s : Stand) (h : Head) (ps : List (List ℕ)) (end next : ℕ) : Type 0 where
@@ -23,7 +23,13 @@ pub record HasParts (s : Stand) (h : Head) (ps : List (List ℕ)) (end next : �
 
 module _ (part bytes : List ℕ) (starts : BeginsWith part bytes) where
   pub no_file : IsNoHead NoHead part → framing bytes ≡ Uncreated
-  no_file none = not_created bytes (created_by part bytes starts false none)
+  no_file none = is_free bytes (created_by part bytes starts false none.0) (elim starts.enough [
+    | inl long ↦ absurd (omega (arith, long, none.1))
+    | inr all ↦ omega (arith, none.1, ap length starts.is, length-append part starts.tail, ap length all)
+  ])
+
+  pub other_file : IsNoHead OtherHead part → framing bytes ≡ Occupied
+  other_file other = is_occupied bytes (created_by part bytes starts false other.0) (omega (arith, other.1, ap length starts.is, length-append part starts.tail))
 
   pub bad_head : (place : ℕ) → IsNoHead (BadHead place) part → framing bytes ≡ Damaged place
   bad_head place bad = head_damaged bytes place (created_by part bytes starts true bad.0) (fault_by part bytes starts (Some place) bad.0 bad.1)

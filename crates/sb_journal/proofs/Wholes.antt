@@ -7,7 +7,7 @@ use Rattle.std.proofs.lemmas.List.{drop_more, drop-append-le, take-append-le, ap
 use Rattle.std.proofs.lemmas.Bool.Decides.{nat_tests}
 use Rattle.std.proofs.lemmas.Slice.Eq.{bytes_eq-Decides}
 use Rattle.sb_journal.specs.Text.{File, magic, head, records, file_text, AreBytes, max_count}
-use Rattle.sb_journal.specs.Framing.{Framing, Whole, Damaged, Uncreated, first_failing, is_created, number_at, is_count, head_fault, read, payloads_in, file_with, whole_or_damaged, sound_or_damaged, framing}
+use Rattle.sb_journal.specs.Framing.{Framing, Whole, Damaged, Uncreated, Occupied, free_or_occupied, first_failing, is_created, number_at, is_count, head_fault, read, payloads_in, file_with, whole_or_damaged, sound_or_damaged, framing}
 use Rattle.sb_journal.specs.Text.{IsWithin, Spelled, Spells}
 use Rattle.sb_journal.specs.Opened.{IsHead}
 use Rattle.sb_journal.specs.Pieces.{BeginsWith}
@@ -15,9 +15,13 @@ use Rattle.sb_journal.specs.declared.reading.Head.{Head}
 use Rattle.sb_journal.proofs.Frames.{length-records}
 use Rattle.sb_journal.proofs.Parts.{spelled, part, number_part, both, AreBytes-drop, AreBytes-take}
 
-where_created : (b : Bool) (x : Framing) (f : File) → (if b then x else Uncreated) ≡ Whole f → (b ≡ true) × (x ≡ Whole f)
-where_created true x f e = (refl, e)
-where_created false x f e = absurd cc
+free_isnt : (short : Bool) (f : File) → (if short then Uncreated else Occupied) ≡ Whole f → ⊥
+free_isnt true f e = absurd cc
+free_isnt false f e = absurd cc
+
+where_created : (bytes : List ℕ) (b : Bool) (x : Framing) (f : File) → (if b then x else free_or_occupied bytes) ≡ Whole f → (b ≡ true) × (x ≡ Whole f)
+where_created bytes true x f e = (refl, e)
+where_created bytes false x f e = absurd (free_isnt (nat_le (length bytes) 43) f e)
 
 where_sound : (bytes : List ℕ) (o : Option ℕ) (f : File) → sound_or_damaged bytes o ≡ Whole f → (o ≡ None) × (whole_or_damaged bytes (payloads_in bytes) ≡ Whole f)
 where_sound bytes None f e = (refl, e)
@@ -201,7 +205,7 @@ module _ (part bytes : List ℕ) (starts : BeginsWith part bytes) where
 pub spells_only : (bytes : List ℕ) (f : File) → AreBytes bytes → length bytes ≤ 2 ^ 62 → framing bytes ≡ Whole f → Spells f bytes
 unfolding framing payloads_in
 spells_only bytes f are fits e =
-    let a = where_created (is_created bytes) (sound_or_damaged bytes (head_fault bytes)) f e in
+    let a = where_created bytes (is_created bytes) (sound_or_damaged bytes (head_fault bytes)) f e in
     let b = where_sound bytes (head_fault bytes) f a.1 in
     let c = where_whole bytes (payloads_in bytes) f b.1 in
     let first = number_at 26 bytes in
@@ -211,14 +215,20 @@ spells_only bytes f are fits e =
     let found = spelled (length bytes) 42 first (drop 42 bytes) c.0 (omega (arith, length-drop 42 bytes)) (AreBytes-drop 42 bytes are) c.1 in
     subst (λ g. Spells g bytes) (sym c.2) (spells_by bytes bytes all h c.0 is are fits found)
 
-pub not_created : (bytes : List ℕ) → is_created bytes ≡ false → framing bytes ≡ Uncreated
+not_created : (bytes : List ℕ) → is_created bytes ≡ false → framing bytes ≡ free_or_occupied bytes
 unfolding framing
-not_created bytes isnt = ap (λ (b : Bool). if b then sound_or_damaged bytes (head_fault bytes) else Uncreated) isnt
+not_created bytes isnt = ap (λ (b : Bool). if b then sound_or_damaged bytes (head_fault bytes) else free_or_occupied bytes) isnt
+
+pub is_free : (bytes : List ℕ) → is_created bytes ≡ false → length bytes ≤ 43 → framing bytes ≡ Uncreated
+is_free bytes isnt short = not_created bytes isnt ∙ ap (λ (b : Bool). if b then Uncreated else Occupied) (let e : nat_le (length bytes) 43 ≡ true = grind (arith, nat_tests) in e)
+
+pub is_occupied : (bytes : List ℕ) → is_created bytes ≡ false → 43 < length bytes → framing bytes ≡ Occupied
+is_occupied bytes isnt long = not_created bytes isnt ∙ ap (λ (b : Bool). if b then Uncreated else Occupied) (let e : nat_le (length bytes) 43 ≡ false = grind (arith, nat_tests) in e)
 
 was_created : (bytes : List ℕ) (o : Option ℕ) → is_created bytes ≡ true → head_fault bytes ≡ o → framing bytes ≡ sound_or_damaged bytes o
 unfolding framing
 was_created bytes o created fault =
-    ap (λ (b : Bool). if b then sound_or_damaged bytes (head_fault bytes) else Uncreated) created ∙ ap (sound_or_damaged bytes) fault
+    ap (λ (b : Bool). if b then sound_or_damaged bytes (head_fault bytes) else free_or_occupied bytes) created ∙ ap (sound_or_damaged bytes) fault
 
 pub head_damaged : (bytes : List ℕ) (place : ℕ) → is_created bytes ≡ true → head_fault bytes ≡ Some place → framing bytes ≡ Damaged place
 head_damaged bytes place created fault = was_created bytes (Some place) created fault

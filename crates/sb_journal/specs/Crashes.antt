@@ -1,8 +1,8 @@
 -- When a disk has a whole file on it, and what a crash may leave while a record is added, a file is made, or an opening goes on.
-use Rattle.std.specs.Prelude.{◌≡◌, ◌⊎◌, ◌+◌, ◌≤◌, ℕ, List, [], ◌∷◌, ◌++◌, length, slice_index, false}
+use Rattle.std.specs.Prelude.{◌≡◌, ◌⊎◌, ◌+◌, ◌≤◌, ℕ, List, [], ◌∷◌, ◌++◌, length, drop, max, slice_index, false}
 use Rattle.sb_outside.specs.Held.{Held, at_rest, is_written}
-use Rattle.sb_journal.specs.Text.{File, framed, file_text, new_bytes, with_payload, IsWithin}
-use Rattle.sb_journal.specs.Framing.{Framing, Uncreated, Whole, Damaged, framing}
+use Rattle.sb_journal.specs.Text.{File, framed, records, file_text, new_bytes, with_payloads, IsWithin}
+use Rattle.sb_journal.specs.Framing.{Framing, Uncreated, Occupied, Whole, Damaged, framing, is_created}
 
 -- The file and its closed end gate are on the disk, all of it safe. Behind the gate may stand what is left of a torn
 -- record.
@@ -15,23 +15,56 @@ pub record Rests (held : Held) (end next : ℕ) (file : File) : Type 0 where
   pub next_is : next ≡ file.first + length file.payloads
   pub within : IsWithin file
 
--- What a crash during an append may leave: the file and a closed gate, or the file, any gate, and behind it the whole
--- record and a closed gate.
-pub record IsTornAppend (file : File) (payload bytes : List ℕ) : Type 0 where
+-- The same while records are staged behind the closed end gate: these bytes were written there, and no other place was.
+pub record Stages (held : Held) (end next : ℕ) (file : File) (written : List ℕ) : Type 0 where
+  pub tail : List ℕ
+  pub synced_is : held.synced ≡ file_text file ++ 0 ∷ tail
+  pub seen_is : held.seen ≡ file_text file ++ 0 ∷ (written ++ drop (length written) tail)
+  pub free : (k : ℕ) → (k ≤ end) ⊎ (end + 1 + length written ≤ k) → is_written k held.ranges ≡ false
+  pub least_is : held.least ≡ length held.synced
+  pub greatest_is : held.greatest ≡ length held.seen
+  -- before the first of them all is safe
+  pub fresh : written ≡ [] → held ≡ at_rest held.seen
+  pub end_is : end ≡ length (file_text file)
+  pub next_is : next ≡ file.first + length file.payloads
   pub within : IsWithin file
-  pub within_after : IsWithin (with_payload file payload)
-  pub stands : ((tail : List ℕ) × (bytes ≡ file_text file ++ 0 ∷ tail)) ⊎ ((gate : ℕ) × (tail : List ℕ) × (bytes ≡ file_text file ++ gate ∷ (framed (file.first + length file.payloads) payload ++ 0 ∷ tail)))
+
+-- the file and a closed gate
+abbrev pub IsShutFile : File → List ℕ → Type 0
+IsShutFile file bytes = (tail : List ℕ) × (bytes ≡ file_text file ++ 0 ∷ tail)
+
+-- from this place on they are the same
+abbrev pub IsSameFrom : ℕ → (was bytes : List ℕ) → Type 0
+IsSameFrom place was bytes = drop place bytes ≡ drop place was
+
+-- the file, any gate, and behind it whole records of all these payloads and a closed gate
+abbrev pub StandsGated : File → List (List ℕ) → List ℕ → Type 0
+StandsGated file [] bytes = ⊥
+StandsGated file (p ∷ ps) bytes = (gate : ℕ) × (tail : List ℕ) × (bytes ≡ file_text file ++ gate ∷ (framed (file.first + length file.payloads) p ++ (records (file.first + length file.payloads + 1) ps ++ 0 ∷ tail)))
+
+-- What a crash may leave while records of these payloads are staged and sealed: the file and a closed gate, or the file, any gate, and
+-- behind it all the records.
+pub record IsTornGroup (file : File) (payloads : List (List ℕ)) (bytes : List ℕ) : Type 0 where
+  pub within : IsWithin file
+  pub within_after : IsWithin (with_payloads file payloads)
+  pub stands : IsShutFile file bytes ⊎ StandsGated file payloads bytes
+
+-- no file counts here, and at most so many bytes stand here
+pub record HasNoFile (most : ℕ) (bytes : List ℕ) : Type 0 where
+  pub none : is_created bytes ≡ false
+  pub short : length bytes ≤ most
 
 -- New bytes are being put in the place of old ones: the old ones stand unchanged, or no file counts, or all of the new ones stand.
 abbrev pub IsOldNoneOrNew : (old new bytes : List ℕ) → Type 0
-IsOldNoneOrNew old new bytes = (bytes ≡ old) ⊎ ((framing bytes ≡ Uncreated) ⊎ (bytes ≡ new))
+IsOldNoneOrNew old new bytes = (bytes ≡ old) ⊎ (HasNoFile (max (length old) (length new)) bytes ⊎ (bytes ≡ new))
 
--- the file's gate is closed in each image of this disk
-pub record IsShut (held : Held) : Type 0 where
+-- in each image of this disk the file's gate is closed, and at most so many bytes stand there
+pub record IsShut (most : ℕ) (held : Held) : Type 0 where
   pub some : 1 ≤ held.least
   pub kept : 1 ≤ length held.synced
   pub gate : slice_index held.synced 0 ≡ 0
   pub free : is_written 0 held.ranges ≡ false
+  pub short : held.greatest ≤ most
 
 -- The file's end gate was missing, or neither open nor closed: any bytes may stand from there on.
 pub record IsTornEnd (file : File) (seen bytes : List ℕ) : Type 0 where
@@ -41,16 +74,21 @@ pub record IsTornEnd (file : File) (seen bytes : List ℕ) : Type 0 where
   -- where there was one, its byte alone may be another
   pub behind : (was : ℕ) (tail : List ℕ) → seen ≡ file_text file ++ was ∷ tail → (gate : ℕ) × (bytes ≡ file_text file ++ gate ∷ tail)
 
--- What a crash during an opening may leave of the bytes that it found.
+-- What a crash during an opening may leave of the bytes that it found. Where a file is made for the first time, no more stands
+-- there than its making leaves, so that the next opening makes it.
 abbrev pub MayLeave : ℕ → List ℕ → Framing → List ℕ → Type 0
-MayLeave salt seen Uncreated bytes = IsOldNoneOrNew seen (new_bytes salt 1 1 []) bytes
+MayLeave salt seen Uncreated bytes = (framing bytes ≡ Uncreated) ⊎ (bytes ≡ new_bytes salt 1 1 [])
+MayLeave salt seen Occupied bytes = bytes ≡ seen
 MayLeave salt seen (Whole file) bytes = (bytes ≡ seen) ⊎ IsTornEnd file seen bytes
 MayLeave salt seen (Damaged place) bytes = bytes ≡ seen
 
 -- ---- of the bytes of both disks: disk b doesn't count yet
 
-abbrev pub IsTornPair : File → List ℕ → (a b : List ℕ) → Type 0
-IsTornPair file payload a b = IsTornAppend file payload a
+abbrev pub IsShutPair : File → (a b : List ℕ) → Type 0
+IsShutPair file a b = IsShutFile file a
+
+abbrev pub IsTornPair : File → List (List ℕ) → (a b : List ℕ) → Type 0
+IsTornPair file payloads a b = IsTornGroup file payloads a
 
 -- the bytes that an opening found on the two disks, and what a crash during it may leave there
 abbrev pub LeavesFound : ℕ → (a b x y : List ℕ) → Type 0

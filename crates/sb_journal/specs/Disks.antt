@@ -1,14 +1,14 @@
 -- The two disks of a journal as one value, and what is said of both.
-use Rattle.std.specs.Prelude.{◌≡◌, ◌⊎◌, ◌≤◌, ℕ, List, drop, Bool, IsTrue, slice_index}
+use Rattle.std.specs.Prelude.{◌≡◌, ◌⊎◌, ◌≤◌, ℕ, List, length, Bool, IsTrue, slice_index}
 use Rattle.sb_outside.specs.Causes.{RoseByOne}
 use Rattle.sb_outside.specs.Held.{Held, IsImage, Moves, at_rest}
 use Rattle.sb_outside.specs.declared.disk.Disk.{Ghosts}
 use Rattle.sb_journal.specs.declared.found.Side.{Side}
 use Rattle.sb_journal.specs.declared.found.Side.TheVariants.{A, B}
-use Rattle.sb_journal.specs.Framing.{Uncreated, framing}
+use Rattle.sb_journal.specs.Framing.{Uncreated, framing, new_length}
 use Rattle.sb_journal.specs.Moments.{EachMoment, FromSync, IsUnwritten}
 use Rattle.sb_journal.specs.Opened.{Opened, opened}
-use Rattle.sb_journal.specs.Crashes.{LeavesFound}
+use Rattle.sb_journal.specs.Crashes.{IsSameFrom, LeavesFound}
 
 -- what a disk tells: whether what is said of its content holds, what it holds, what it held at each moment before, and how many of
 -- its calls have failed
@@ -50,10 +50,10 @@ EachImage disks P = (x y : List ℕ) → IsImage disks.a.held x → IsImage disk
 abbrev pub EachPair : (was later : Disks) → (List ℕ → List ℕ → Type 0) → Type 0
 EachPair was later P = EachMoment was.a.past later.a.past later.a.held (λ x. EachMoment was.b.past later.b.past later.b.held (λ y. P x y))
 
--- What stands on a disk where no file was made begins with 00 or 01, or is nothing: it can't be somebody else's. Disk b isn't taken over
--- yet.
+-- What stands on a disk where no file was made is shorter than a new file, or begins with 00 or 01: it can't be somebody else's. Disk b
+-- isn't taken over yet.
 abbrev pub AreOurs : Disks → Type 0
-AreOurs disks = framing disks.a.held.seen ≡ Uncreated → slice_index disks.a.held.seen 0 ≤ 1
+AreOurs disks = framing disks.a.held.seen ≡ Uncreated → new_length ≤ length disks.a.held.seen → slice_index disks.a.held.seen 0 ≤ 1
 
 -- From its first sync on, what counts leaves what a crash during an opening that found these may leave: what was found, up to its end
 -- gate; where there was no file, none or a new one. Of somebody else's file nothing is said, nor of disk b, which doesn't count yet.
@@ -74,7 +74,7 @@ IsAtRest side was later = (on_side side later).held ≡ at_rest (on_side side wa
 
 -- from this place of the file on, the bytes are those that were read before; disk b has no file yet
 abbrev pub StaysBehind : ℕ → Disks → (x y : List ℕ) → Type 0
-StaysBehind place was x y = drop place x ≡ drop place was.a.held.seen
+StaysBehind place was x y = IsSameFrom place was.a.held.seen x
 
 -- ---- counts of faults, and honesty
 

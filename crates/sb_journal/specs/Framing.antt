@@ -7,6 +7,9 @@ use Rattle.sb_journal.specs.Text.{File, magic, max_payload, max_count}
 pub data Framing : Type 0 where
   -- no file was made here, or not to its end
   Uncreated : Framing
+  -- no file counts here, and more bytes stand here than the making of a file leaves: a journal whose first byte is another, or
+  -- somebody else's file
+  Occupied : Framing
   Whole : File → Framing
   -- the first place that can't be read
   Damaged : ℕ → Framing
@@ -16,8 +19,12 @@ abbrev pub first_failing : List (Bool × ℕ) → Option ℕ
 first_failing [] = None
 first_failing (test ∷ tests) = if test.0 then first_failing tests else Some test.1
 
+-- a new file has so many bytes
+abbrev pub new_length : ℕ
+new_length = 43
+
 abbrev pub is_created : List ℕ → Bool
-is_created bytes = nat_le 43 (length bytes) && (slice_index bytes 0 == 1)
+is_created bytes = nat_le new_length (length bytes) && (slice_index bytes 0 == 1)
 
 -- the 8 bytes from this place on as a number
 abbrev pub number_at : ℕ → List ℕ → ℕ
@@ -76,5 +83,9 @@ abbrev pub sound_or_damaged : List ℕ → Option ℕ → Framing
 sound_or_damaged bytes None = whole_or_damaged bytes (payloads_in bytes)
 sound_or_damaged bytes (Some place) = Damaged place
 
+-- where no file counts
+abbrev pub free_or_occupied : List ℕ → Framing
+free_or_occupied bytes = if nat_le (length bytes) new_length then Uncreated else Occupied
+
 unfoldable pub framing : List ℕ → Framing
-framing bytes = if is_created bytes then sound_or_damaged bytes (head_fault bytes) else Uncreated
+framing bytes = if is_created bytes then sound_or_damaged bytes (head_fault bytes) else free_or_occupied bytes

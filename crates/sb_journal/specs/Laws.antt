@@ -1,8 +1,9 @@
 -- Reading and writing files belong together, and what a whole file's bytes are.
-use Rattle.std.specs.Prelude.{◌≡◌, ◌≢◌, ◌≤◌, ◌^◌, ℕ, List, [], ◌∷◌, ◌++◌, length}
-use Rattle.sb_journal.specs.Text.{File, new_bytes, file_text, IsWithin, AreBytes, Spells}
-use Rattle.sb_journal.specs.Framing.{Whole, framing}
-use Rattle.sb_journal.specs.Opened.{FindsEither}
+use Rattle.std.specs.Prelude.{◌≡◌, ◌≢◌, ◌≤◌, ◌<◌, ◌^◌, ℕ, List, [], ◌∷◌, ◌++◌, length, slice_index}
+use Rattle.sb_journal.specs.Text.{File, new_file, new_bytes, file_text, IsWithin, AreBytes, Spells}
+use Rattle.sb_journal.specs.Framing.{Uncreated, Whole, framing, new_length}
+use Rattle.sb_journal.specs.Opened.{Stands, Damage, opened, FindsNoneOrAll}
+use Rattle.sb_journal.specs.declared.found.Side.TheVariants.{A}
 use Rattle.sb_journal.specs.Crashes.{IsTornPair, LeavesFound}
 
 -- a file is read back as itself: whatever stands behind a closed end gate
@@ -27,10 +28,18 @@ NewFileBytes = new_bytes 11651590505119483672 1 1 []
     ∷ 0 ∷ 0 ∷ 0 ∷ 0 ∷ 0 ∷ 0 ∷ 0 ∷ 0
     ∷ 0 ∷ []
 
--- what a crash during an append left is found as the file with the record or without it
+-- what a crash left while records were added is found as the file with all of them or with none
 abbrev pub TornIsFound : Type 0
-TornIsFound = (file : File) (payload a b : List ℕ) → IsTornPair file payload a b → FindsEither file payload a b
+TornIsFound = (file : File) (payloads : List (List ℕ)) (a b : List ℕ) → IsTornPair file payloads a b → FindsNoneOrAll file payloads a b
 
 -- and stays so through crashes during openings, however many
 abbrev pub TornIsKept : Type 0
-TornIsKept = (salt : ℕ) (file : File) (payload a b x y : List ℕ) → IsTornPair file payload a b → LeavesFound salt a b x y → IsTornPair file payload x y
+TornIsKept = (salt : ℕ) (file : File) (payloads : List (List ℕ)) (a b x y : List ℕ) → IsTornPair file payloads a b → LeavesFound salt a b x y → IsTornPair file payloads x y
+
+-- what is longer than a new file and doesn't begin as one is never taken for no file
+abbrev pub OtherIsRefused : Type 0
+OtherIsRefused = (salt : ℕ) (a b : List ℕ) → new_length < length a → slice_index a 0 ≢ 1 → opened a b salt ≡ Damage A 0
+
+-- what a crash left while a first file was made is opened as a new one
+abbrev pub NewIsFound : Type 0
+NewIsFound = (salt : ℕ) (a b x y : List ℕ) → salt < 2 ^ 64 → framing a ≡ Uncreated → LeavesFound salt a b x y → opened x y salt ≡ Stands A (new_file salt 1 1 [])

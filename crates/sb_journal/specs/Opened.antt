@@ -1,18 +1,18 @@
 -- What two disks stand for, and what an opening says of it.
-use Rattle.std.specs.Prelude.{◌≡◌, ◌⊎◌, ◌≤◌, ◌+◌, ◌&&◌, ◌==◌, ◌^◌, ℕ, Bool, List, [], Some, None, length, nat_lt, slice_index, true, false}
+use Rattle.std.specs.Prelude.{◌≡◌, ◌⊎◌, ◌≤◌, ◌<◌, ◌+◌, ◌&&◌, ◌==◌, ◌^◌, ℕ, Bool, List, [], ◌∷◌, Some, None, length, nat_lt, slice_index, true, false}
 use Rattle.sb_outside.specs.Held.{Held, at_rest}
 use Rattle.sb_journal.specs.declared.found.Side.{Side}
 use Rattle.sb_journal.specs.declared.found.Side.TheVariants.{A}
 use Rattle.sb_journal.specs.declared.found.Found.{Found}
 use Rattle.sb_journal.specs.declared.reading.Head.{Head}
 use Rattle.sb_journal.specs.declared.reading.HeadFault.{HeadFault}
-use Rattle.sb_journal.specs.declared.reading.HeadFault.TheVariants.{NoHead, BadHead}
+use Rattle.sb_journal.specs.declared.reading.HeadFault.TheVariants.{NoHead, OtherHead, BadHead}
 use Rattle.sb_journal.specs.declared.reading.Stand.{Stand}
 use Rattle.sb_journal.specs.declared.reading.Ending.{Ending}
 use Rattle.sb_journal.specs.declared.reading.Reading.{Reading}
-use Rattle.sb_journal.specs.declared.reading.Reading.TheVariants.{NoFile, AFile, BadFile}
-use Rattle.sb_journal.specs.Text.{File, new_file, file_text, with_payload, Spells, HasText}
-use Rattle.sb_journal.specs.Framing.{Framing, Uncreated, Whole, Damaged, framing, is_created, head_fault, number_at}
+use Rattle.sb_journal.specs.declared.reading.Reading.TheVariants.{NoFile, OtherFile, AFile, BadFile}
+use Rattle.sb_journal.specs.Text.{File, new_file, file_text, with_payloads, Spells, HasText}
+use Rattle.sb_journal.specs.Framing.{Framing, Uncreated, Occupied, Whole, Damaged, framing, is_created, new_length, head_fault, number_at}
 
 pub data Opened : Type 0 where
   -- this disk's file counts
@@ -20,9 +20,10 @@ pub data Opened : Type 0 where
   -- this disk's file can't be read, from this place on
   Damage : Side → ℕ → Opened
 
--- what the file on disk a says; where none was made, a new one counts
+-- What the file on disk a says. Where none was made, a new one counts; but no file is made over what may be one.
 abbrev pub opened_alone : ℕ → Framing → Opened
 opened_alone salt Uncreated = Stands A (new_file salt 1 1 [])
+opened_alone salt Occupied = Damage A 0
 opened_alone salt (Whole file) = Stands A file
 opened_alone salt (Damaged place) = Damage A place
 
@@ -34,9 +35,13 @@ opened a b salt = opened_alone salt (framing a)
 abbrev pub FindsFile : File → (a b : List ℕ) → Type 0
 FindsFile file a b = (salt : ℕ) → (side : Side) × (opened a b salt ≡ Stands side file)
 
--- it finds the file, with this payload more or without it
+-- it finds the file, with all of these payloads more or with none of them
+abbrev pub FindsNoneOrAll : File → List (List ℕ) → (a b : List ℕ) → Type 0
+FindsNoneOrAll file payloads a b = FindsFile file a b ⊎ FindsFile (with_payloads file payloads) a b
+
+-- with this payload more or without it
 abbrev pub FindsEither : File → List ℕ → (a b : List ℕ) → Type 0
-FindsEither file payload a b = FindsFile file a b ⊎ FindsFile (with_payload file payload) a b
+FindsEither file payload a b = FindsNoneOrAll file (payload ∷ []) a b
 
 -- the file that was found
 abbrev pub found_file : Found → File
@@ -64,6 +69,7 @@ pub record IsWholeStand (s : Stand) (bytes : List ℕ) : Type 0 where
 -- what was read is what the bytes stand for
 abbrev pub IsReading : Reading → List ℕ → Type 0
 IsReading NoFile bytes = framing bytes ≡ Uncreated
+IsReading OtherFile bytes = framing bytes ≡ Occupied
 IsReading (AFile s) bytes = IsWholeStand s bytes
 IsReading (BadFile place) bytes = framing bytes ≡ Damaged place
 
@@ -79,7 +85,8 @@ pub record IsHead (h : Head) (bytes : List ℕ) : Type 0 where
 
 -- why there is none
 abbrev pub IsNoHead : HeadFault → List ℕ → Type 0
-IsNoHead NoHead bytes = is_created bytes ≡ false
+IsNoHead NoHead bytes = (is_created bytes ≡ false) × (length bytes ≤ new_length)
+IsNoHead OtherHead bytes = (is_created bytes ≡ false) × (new_length < length bytes)
 IsNoHead (BadHead place) bytes = (is_created bytes ≡ true) × (head_fault bytes ≡ Some place)
 
 -- A disk was read and not written to, and this is where the file ends that counts.
@@ -87,6 +94,7 @@ pub record IsRead (held : Held) (ending : Ending) : Type 0 where
   pub rests : held ≡ at_rest held.seen
   pub text : (file : File) → framing held.seen ≡ Whole file → HasText file held.seen
   pub made : ending.made ≡ is_created held.seen
+  pub short : ending.made ≡ false → length held.seen ≤ new_length
   pub inside : ending.made ≡ true → ending.end ≤ length held.seen
   pub closed : ending.made ≡ true → ending.closed ≡ is_shut ending.end held.seen
   pub end : (salt : ℕ) (file : File) → opened_alone salt (framing held.seen) ≡ Stands A file → ending.end ≡ length (file_text file)

@@ -1,10 +1,10 @@
 // Making a new file: what stands on the disk counts no more, then all of the new file behind a
 // closed gate, and once that is safe, the gate.
-ghost use Rattle.std.specs.Prelude.{◌≡◌, ◌≢◌, ◌≤◌, ◌+◌, ◌++◌, [], ◌∷◌, ◌^◌, List, ℕ, IsTrue, length, take, slice_index, true, false, IfOk, OnOk};
+ghost use Rattle.std.specs.Prelude.{◌≡◌, ◌≢◌, ◌≤◌, ◌+◌, ◌++◌, [], ◌∷◌, ◌^◌, List, ℕ, IsTrue, length, max, take, slice_index, true, false, IfOk, OnOk};
 ghost use Rattle.sb_outside.specs.Causes.{HasCause};
 ghost use Rattle.sb_outside.specs.Held.{at_rest};
 ghost use Rattle.sb_journal.specs.Text.{head, new_file, new_bytes};
-ghost use Rattle.sb_journal.specs.Framing.{Whole, framing};
+ghost use Rattle.sb_journal.specs.Framing.{Whole, framing, new_length};
 ghost use Rattle.sb_journal.specs.Crashes.{IsShut, IsOldNoneOrNew};
 ghost use Rattle.sb_journal.specs.Moments.{EachMoment, FromSync};
 
@@ -44,9 +44,11 @@ fn close_file<D: Disk>(disk: &mut D) -> Result<(), DiskFault>
     ensures honesty { D.honest disk.new ≡ D.honest disk.old }
     ensures ok { IsTrue (D.honest disk.old) → OnOk result (take 1 (D.held disk.new).seen ≡ 0 ∷ []) }
     ensures rest { IsTrue (D.honest disk.old) → D.held disk.old ≡ at_rest (D.held disk.old).seen → OnOk result (D.held disk.new ≡ at_rest (D.held disk.new).seen) }
+    ensures short { IsTrue (D.honest disk.old) → OnOk result (length (D.held disk.new).seen ≤ max (length (D.held disk.old).seen) 1) }
 
-    // Where the gate was open or closed, nothing else counts at any moment.
-    ensures any_moment { (new : List ℕ) → IsTrue (D.honest disk.old) → D.held disk.old ≡ at_rest (D.held disk.old).seen → slice_index (D.held disk.old).seen 0 ≤ 1
+    // Where the gate was open or closed, or the bytes were too few for a file, nothing else counts at any moment.
+    ensures any_moment { (new : List ℕ) → IsTrue (D.honest disk.old) → D.held disk.old ≡ at_rest (D.held disk.old).seen
+        → (new_length ≤ length (D.held disk.old).seen → slice_index (D.held disk.old).seen 0 ≤ 1) → 1 ≤ length new
         → EachMoment (D.past disk.old) (D.past disk.new) (D.held disk.new) (IsOldNoneOrNew (D.held disk.old).seen new) }
     ensures cause { HasCause (D.count disk.old) (D.count disk.new) result }
 {
@@ -63,8 +65,7 @@ fn fill<D: Disk>(disk: &mut D, head: &[u8], base: &[u8]) -> Result<(), DiskFault
     requires gate { IsTrue (D.honest disk.old) → (D.held disk.old).seen ≡ 0 ∷ [] }
     requires head { length head.now ≡ 42 }
     ensures honesty { D.honest disk.new ≡ D.honest disk.old }
-    ensures shut { IsTrue (D.honest disk.old) → IsShut (D.held disk.old) → IsShut (D.held disk.new) }
-    ensures any_moment { (old new : List ℕ) → IsTrue (D.honest disk.old) → IsShut (D.held disk.old)
+    ensures any_moment { (old new : List ℕ) → IsTrue (D.honest disk.old) → IsShut (max (length old) (length new)) (D.held disk.old) → 43 + length base.now ≤ length new
         → EachMoment (D.past disk.old) (D.past disk.new) (D.held disk.new) (IsOldNoneOrNew old new) }
     ensures ok { (bytes : List ℕ) → IsTrue (D.honest disk.old) → head.now ≡ bytes ++ 0 ∷ [] → OnOk result ((D.held disk.new).seen ≡ 0 ∷ (bytes ++ (base.now ++ 0 ∷ []))) }
     ensures cause { HasCause (D.count disk.old) (D.count disk.new) result }
@@ -88,8 +89,10 @@ fn make_file<D: Disk>(
     ensures honesty { D.honest disk.new ≡ D.honest disk.old }
     ensures ok { IsTrue (D.honest disk.old) → OnOk result (D.held disk.new ≡ at_rest (new_bytes salt generation first base.now)) }
 
-    // Where the file's gate was open or closed, nothing but the old bytes and the whole new file counts at any moment.
-    ensures any_moment { IsTrue (D.honest disk.old) → D.held disk.old ≡ at_rest (D.held disk.old).seen → slice_index (D.held disk.old).seen 0 ≤ 1
+    // Where the file's gate was open or closed, or the bytes were too few for a file, nothing but the old bytes and the
+    // whole new file counts at any moment.
+    ensures any_moment { IsTrue (D.honest disk.old) → D.held disk.old ≡ at_rest (D.held disk.old).seen
+        → (new_length ≤ length (D.held disk.old).seen → slice_index (D.held disk.old).seen 0 ≤ 1)
         → EachMoment (D.past disk.old) (D.past disk.new) (D.held disk.new) (IsOldNoneOrNew (D.held disk.old).seen (new_bytes salt generation first base.now)) }
     ensures cause { HasCause (D.count disk.old) (D.count disk.new) result }
 {
@@ -120,8 +123,9 @@ pub fn create<D: Disk>(
     ensures ok { IsTrue (D.honest disk.old) → OnOk result (D.held disk.new ≡ at_rest (new_bytes salt generation first base.now)) }
     ensures reads { IsTrue (D.honest disk.old) → base.now ≡ [] → OnOk result (framing (D.held disk.new).seen ≡ Whole (new_file salt generation first [])) }
 
-    // From the first sync on a crash leaves the old bytes, no file, or the whole new one, where the file's gate was open or closed.
-    ensures any_moment { IsTrue (D.honest disk.old) → slice_index (D.held disk.old).seen 0 ≤ 1
+    // From the first sync on a crash leaves the old bytes, no file, or the whole new one, where the file's gate was open or closed or
+    // the bytes were too few for a file.
+    ensures any_moment { IsTrue (D.honest disk.old) → (new_length ≤ length (D.held disk.old).seen → slice_index (D.held disk.old).seen 0 ≤ 1)
         → FromSync (D.past disk.old) (D.held disk.old) (D.past disk.new) (D.held disk.new) (IsOldNoneOrNew (D.held disk.old).seen (new_bytes salt generation first base.now)) }
     ensures cause { HasCause (D.count disk.old) (D.count disk.new) result }
 {

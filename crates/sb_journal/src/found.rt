@@ -41,7 +41,8 @@ pub fn first_gate(found: &Found) -> u64
 /// Why a journal isn't open.
 #[derive(Clone, Copy, PartialEq, Eq)]
 pub enum OpenWhy {
-    /// This disk has a file that can't be read, from this place on. Nothing was written to it.
+    /// This disk has a file that can't be read, from this place on; at place 0, more bytes than a new
+    /// file has, which don't begin as one. Nothing was written to it.
     Damaged(Side, u64),
     /// A call of a disk failed.
     DiskFault,

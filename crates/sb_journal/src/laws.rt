@@ -1,5 +1,5 @@
 // What holds of the file format itself. Each law is the contract of a function that does nothing.
-ghost use Rattle.sb_journal.specs.Laws.{ReadsBack, ReadsBackCut, SpellsOnly, NewFileBytes, TornIsFound, TornIsKept};
+ghost use Rattle.sb_journal.specs.Laws.{ReadsBack, ReadsBackCut, SpellsOnly, NewFileBytes, NewIsFound, OtherIsRefused, TornIsFound, TornIsKept};
 
 /// A whole file is read back as itself, whatever stands behind its closed end gate, and also where
 /// the end gate is missing behind a record.
@@ -16,6 +16,13 @@ pub fn spells_only()
 /// The bytes of a new file.
 pub fn new_file_bytes()
     ensures { NewFileBytes }
+{}
+
+/// No file is made over what may be one: bytes of which no file was made are damage at 0 where they
+/// are more than a new file has. What a crash leaves while a first file is made never is.
+pub fn keeps_what_may_be_a_file()
+    ensures refused { OtherIsRefused }
+    ensures found { NewIsFound }
 {}
 
 /// What a crash during an append left is the file with the record or without it, and stays so

@@ -2,15 +2,19 @@
 //!
 //! It stands on `sb_outside::Disk` alone. A journal file has a head (magic, version, salt,
 //! generation, first event number, base) and then records, each behind a gate byte; the file ends
-//! at the first gate that isn't open. A record is written behind its closed gate and made safe, and
-//! then the gate is opened and made safe: so a crash at any moment leaves the file with the record
-//! or without it. That is what `append` says; `open` says that it reads exactly what the bytes
-//! stand for, and names the place of damage where they can't be read. Who judges the payloads too
-//! before anything is written opens in two parts: `Unopened::read`, and then `finish`.
+//! at the first gate that isn't open. Records are written behind a closed gate and made safe, and
+//! then the gate is opened and made safe: so a crash at any moment leaves the file without them or
+//! with all of them. That is what `add` and `seal` say, and `append` of one record; `open` says that
+//! it reads exactly what the bytes stand for, and names the place of damage where they can't be
+//! read. Who judges the payloads too before anything is written opens in two parts:
+//! `Unopened::read`, and then `finish`.
 //!
 //! ```text
 //! let (mut journal, found) = Journal::open(alloc, disk_a, disk_b, salt)?;
 //! let number = journal.append(b"an event")?;
+//! journal.add(b"two that count")?;
+//! journal.add(b"together or not")?;
+//! let first = journal.seal()?;
 //! let (disk_a, disk_b) = journal.close();
 //! ```
 #![tactic(auto)]

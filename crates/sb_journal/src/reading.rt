@@ -19,6 +19,9 @@ use std::alloc::{AllocError, Global};
 // The bytes from a file's gate to its base.
 pub(crate) const HEAD_BYTES: usize = 42;
 
+// The bytes of a new file: its gate, its head, and a closed gate.
+const NEW_FILE_BYTES: usize = HEAD_BYTES + 1;
+
 // A payload has at most so many bytes.
 pub(crate) const MAX_PAYLOAD: usize = 1_048_576;
 
@@ -103,6 +106,8 @@ pub(crate) struct Head {
 pub(crate) enum HeadFault {
     // There is no file.
     NoHead,
+    // There is none, but more than a new one has.
+    OtherHead,
     // The place of the damage.
     BadHead(u64),
 }
@@ -113,7 +118,10 @@ fn head_of(bytes: &[u8]) -> Result<Head, HeadFault>
     ensures bytes { OnOk result (AreBytes bytes.now) }
     ensures none { IfErr result (λ e. IsNoHead e bytes.now) }
 {
-    if bytes.len() < 43 || bytes[0] != 1 {
+    if bytes.len() < NEW_FILE_BYTES || bytes[0] != 1 {
+        if bytes.len() > NEW_FILE_BYTES {
+            return Err(HeadFault::OtherHead);
+        }
         return Err(HeadFault::NoHead);
     }
     if let Some(place) = damage_of_head(bytes) {
@@ -279,6 +287,8 @@ pub(crate) struct Ending {
 #[derive(Drop)]
 pub(crate) enum Reading {
     NoFile,
+    // More stands there than a new file has, and none was made of it.
+    OtherFile,
     AFile(Stand),
     // The place of the damage.
     BadFile(u64),
@@ -325,6 +335,7 @@ pub(crate) fn reading_of<D: Disk>(alloc: Global, disk: &mut D) -> Result<Reading
     let head = match head_of(piece.rest(0)) {
         Ok(head) => head,
         Err(HeadFault::NoHead) => return Ok(Reading::NoFile),
+        Err(HeadFault::OtherHead) => return Ok(Reading::OtherFile),
         Err(HeadFault::BadHead(place)) => return Ok(Reading::BadFile(place)),
     };
     match records_of(alloc, disk, piece, head.first) {

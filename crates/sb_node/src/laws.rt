@@ -19,7 +19,8 @@ pub fn worked_journal()
     ensures whole { recovered worked_file [] 0 ≡ recovers with_queue 1 }
     ensures no_end_gate { recovered (take 86 worked_file) [] 0 ≡ recovers with_queue 1 }
     ensures gate_closed { recovered (with_byte 42 0) [] 0 ≡ recovers (empty_state worked_salt) 0 }
-    ensures no_journal { (recovered (with_byte 0 0) [] 5 ≡ recovers (empty_state 5) 0) × (recovered (take 42 worked_file) [] 5 ≡ recovers (empty_state 5) 0) }
+    ensures no_journal { (recovered (take 43 (with_byte 0 0)) [] 5 ≡ recovers (empty_state 5) 0) × (recovered (take 42 worked_file) [] 5 ≡ recovers (empty_state 5) 0) }
+    ensures first_byte { (recovered (with_byte 0 0) [] 5 ≡ damaged A 0) × (recovered (with_byte 0 0x58) [] 5 ≡ damaged A 0) × (recovered (take 44 (with_byte 0 0x58)) [] 5 ≡ damaged A 0) }
     ensures magic { recovered (with_byte 8 0) [] 0 ≡ damaged A 1 }
     ensures version { recovered (with_byte 9 2) [] 0 ≡ damaged A 9 }
     ensures generation { (recovered (with_byte 25 0) [] 0 ≡ damaged A 18) × (recovered (with_byte 18 0x40) [] 0 ≡ damaged A 18) }

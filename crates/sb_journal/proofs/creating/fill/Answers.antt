@@ -25,32 +25,32 @@ returns-in_ok-write_at-3-clause-ok g c bytes honest head_is =
     ap (λ h. h.seen) (c.in_ok-write_at-3.ensures.ok honest_2).now_is ∙ ap (λ (l : List ℕ). overwritten l (42 + length base) (0 ∷ [])) seen_2 ∙ making.gate_written bytes base long
 
 pub returns-in_err-write_at-clause-any_moment : goal.returns-in_err-write_at-clause-any_moment
-returns-in_err-write_at-clause-any_moment g c old new honest closed =
-    shut.shut_fails old new _ _ _ _ closed 1 _ (omega arith) (c.in_err-write_at.ensures.err honest)
+returns-in_err-write_at-clause-any_moment g c old new honest closed fits =
+    shut.shut_fails old new _ _ _ _ closed 1 _ (omega arith) (omega (arith, fits, c.requires.head)) (c.in_err-write_at.ensures.err honest)
 
 pub returns-in_err-write_at-2-clause-any_moment : goal.returns-in_err-write_at-2-clause-any_moment
-returns-in_err-write_at-2-clause-any_moment g c old new honest closed =
+returns-in_err-write_at-2-clause-any_moment g c old new honest closed fits =
     let honest_1 = subst IsTrue (sym c.write_at.ensures.honesty) honest in
-    let one = shut.shut_writes old new _ _ _ _ closed 1 _ _ (omega arith) (c.in_ok-write_at.ensures.ok honest) in
-    runs_on _ _ _ _ _ _ one.0 (shut.shut_fails old new _ _ _ _ one.1 42 _ (omega arith) (c.in_err-write_at-2.ensures.err honest_1))
+    let one = shut.shut_writes old new _ _ _ _ closed 1 _ _ (omega arith) (omega (arith, fits, c.requires.head)) (c.in_ok-write_at.ensures.ok honest) in
+    runs_on _ _ _ _ _ _ one.0 (shut.shut_fails old new _ _ _ _ one.1 42 _ (omega arith) (omega (arith, fits)) (c.in_err-write_at-2.ensures.err honest_1))
 
 pub returns-in_err-write_at-3-clause-any_moment : goal.returns-in_err-write_at-3-clause-any_moment
-returns-in_err-write_at-3-clause-any_moment g c old new honest closed =
+returns-in_err-write_at-3-clause-any_moment g c old new honest closed fits =
     let honest_1 = subst IsTrue (sym c.write_at.ensures.honesty) honest in
     let honest_2 = subst IsTrue (sym c.write_at-then-base-gt0.ensures.honesty) honest_1 in
-    let one = shut.shut_writes old new _ _ _ _ closed 1 _ _ (omega arith) (c.in_ok-write_at.ensures.ok honest) in
-    let two = shut.shut_writes old new _ _ _ _ one.1 42 _ _ (omega arith) (c.in_ok-write_at-2.ensures.ok honest_1) in
-    runs_on _ _ _ _ _ _ one.0 (runs_on _ _ _ _ _ _ two.0 (shut.shut_fails old new _ _ _ _ two.1 (42 + length c.args.base.now) _ (omega arith) (c.in_err-write_at-3.ensures.err honest_2)))
+    let one = shut.shut_writes old new _ _ _ _ closed 1 _ _ (omega arith) (omega (arith, fits, c.requires.head)) (c.in_ok-write_at.ensures.ok honest) in
+    let two = shut.shut_writes old new _ _ _ _ one.1 42 _ _ (omega arith) (omega (arith, fits)) (c.in_ok-write_at-2.ensures.ok honest_1) in
+    runs_on _ _ _ _ _ _ one.0 (runs_on _ _ _ _ _ _ two.0 (shut.shut_fails old new _ _ _ _ two.1 (42 + length c.args.base.now) _ (omega arith) (omega (arith, fits)) (c.in_err-write_at-3.ensures.err honest_2)))
 
 pub returns-in_ok-write_at-3-clause-any_moment : goal.returns-in_ok-write_at-3-clause-any_moment
-returns-in_ok-write_at-3-clause-any_moment g c old new honest closed =
+returns-in_ok-write_at-3-clause-any_moment g c old new honest closed fits =
     let honest_1 = subst IsTrue (sym c.write_at.ensures.honesty) honest in
     let honest_2 = subst IsTrue (sym c.write_at-then-base-gt0.ensures.honesty) honest_1 in
-    let one = shut.shut_writes old new _ _ _ _ closed 1 _ _ (omega arith) (c.in_ok-write_at.ensures.ok honest) in
-    let two = shut.shut_writes old new _ _ _ _ one.1 42 _ _ (omega arith) (c.in_ok-write_at-2.ensures.ok honest_1) in
-    let three = shut.shut_writes old new _ _ _ _ two.1 (42 + length c.args.base.now) _ _ (omega arith) (c.in_ok-write_at-3.ensures.ok honest_2) in
+    let one = shut.shut_writes old new _ _ _ _ closed 1 _ _ (omega arith) (omega (arith, fits, c.requires.head)) (c.in_ok-write_at.ensures.ok honest) in
+    let two = shut.shut_writes old new _ _ _ _ one.1 42 _ _ (omega arith) (omega (arith, fits)) (c.in_ok-write_at-2.ensures.ok honest_1) in
+    let three = shut.shut_writes old new _ _ _ _ two.1 (42 + length c.args.base.now) _ _ (omega arith) (omega (arith, fits)) (c.in_ok-write_at-3.ensures.ok honest_2) in
     runs_on _ _ _ _ _ _ one.0 (runs_on _ _ _ _ _ _ two.0 three.0)
 
 pub returns-else-base-gt0-clause-any_moment : goal.returns-else-base-gt0-clause-any_moment
-returns-else-base-gt0-clause-any_moment g c old new honest closed =
-    (shut.shut_writes old new _ _ _ _ closed 1 _ _ (omega arith) (c.in_ok-write_at.ensures.ok honest)).0
+returns-else-base-gt0-clause-any_moment g c old new honest closed fits =
+    (shut.shut_writes old new _ _ _ _ closed 1 _ _ (omega arith) (omega (arith, fits, c.requires.head)) (c.in_ok-write_at.ensures.ok honest)).0

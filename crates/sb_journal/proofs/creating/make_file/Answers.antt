@@ -1,5 +1,5 @@
-use Rattle.std.proofs.Common.{◌≡◌, ℕ, List, [], ◌∷◌, ◌++◌, length, ap, sym, ◌∙◌, subst, lit≤}
-use Rattle.std.specs.Prelude.{IsTrue}
+use Rattle.std.proofs.Common.{◌≡◌, ℕ, List, [], ◌∷◌, ◌++◌, length, ap, sym, ◌∙◌, subst, arith, lit≤}
+use Rattle.std.specs.Prelude.{IsTrue, max}
 use Rattle.sb_outside.specs.Held.{overwritten, at_rest}
 use Rattle.sb_journal.specs.Text.{head, new_bytes}
 use Rattle.sb_journal.proofs.Making as making
@@ -25,33 +25,36 @@ pub returns-in_err-cut-clause-any_moment : goal.returns-in_err-cut-clause-any_mo
 returns-in_err-cut-clause-any_moment g c honest at known =
     let old = (g.D.Disk.held c.args.disk.now).seen in
     let new = new_bytes c.args.salt c.args.generation c.args.first c.args.base.now in
-    let closed = c.close_file.ensures.any_moment new honest at known in
+    let long = making.length-new_bytes c.args.salt c.args.generation c.args.first c.args.base.now in
+    let closed = c.close_file.ensures.any_moment new honest at known (omega (arith, long)) in
     let honest_1 = subst IsTrue (sym c.close_file.ensures.honesty) honest in
-    let shut_1 = shut.shut_of _ (c.in_ok-close_file.ensures.rest honest at) (c.in_ok-close_file.ensures.ok honest) in
+    let shut_1 = shut.shut_of (max (length old) (length new)) _ (c.in_ok-close_file.ensures.rest honest at) (c.in_ok-close_file.ensures.ok honest) (omega (arith, c.in_ok-close_file.ensures.short honest, long)) in
     runs_on _ _ _ _ _ _ closed (shut.shut_not_cut old new _ _ _ _ shut_1 1 (lit≤ tt) (c.in_err-cut.ensures.err honest_1))
 
 pub returns-in_err-fill-clause-any_moment : goal.returns-in_err-fill-clause-any_moment
 returns-in_err-fill-clause-any_moment g c honest at known =
     let old = (g.D.Disk.held c.args.disk.now).seen in
     let new = new_bytes c.args.salt c.args.generation c.args.first c.args.base.now in
-    let closed = c.close_file.ensures.any_moment new honest at known in
+    let long = making.length-new_bytes c.args.salt c.args.generation c.args.first c.args.base.now in
+    let closed = c.close_file.ensures.any_moment new honest at known (omega (arith, long)) in
     let honest_1 = subst IsTrue (sym c.close_file.ensures.honesty) honest in
-    let shut_1 = shut.shut_of _ (c.in_ok-close_file.ensures.rest honest at) (c.in_ok-close_file.ensures.ok honest) in
+    let shut_1 = shut.shut_of (max (length old) (length new)) _ (c.in_ok-close_file.ensures.rest honest at) (c.in_ok-close_file.ensures.ok honest) (omega (arith, c.in_ok-close_file.ensures.short honest, long)) in
     let honest_2 = subst IsTrue (sym c.cut.ensures.honesty) honest_1 in
     let cut = shut.shut_cuts old new _ _ _ _ shut_1 1 _ (lit≤ tt) (c.in_ok-cut.ensures.ok honest_1) in
-    let filled = runs_on _ _ _ _ _ _ closed (runs_on _ _ _ _ _ _ cut.0 (c.fill.ensures.any_moment old new honest_2 cut.1)) in
+    let filled = runs_on _ _ _ _ _ _ closed (runs_on _ _ _ _ _ _ cut.0 (c.fill.ensures.any_moment old new honest_2 cut.1 (omega (arith, long)))) in
     filled
 
 pub returns-in_err-sync-clause-any_moment : goal.returns-in_err-sync-clause-any_moment
 returns-in_err-sync-clause-any_moment g c honest at known =
     let old = (g.D.Disk.held c.args.disk.now).seen in
     let new = new_bytes c.args.salt c.args.generation c.args.first c.args.base.now in
-    let closed = c.close_file.ensures.any_moment new honest at known in
+    let long = making.length-new_bytes c.args.salt c.args.generation c.args.first c.args.base.now in
+    let closed = c.close_file.ensures.any_moment new honest at known (omega (arith, long)) in
     let honest_1 = subst IsTrue (sym c.close_file.ensures.honesty) honest in
-    let shut_1 = shut.shut_of _ (c.in_ok-close_file.ensures.rest honest at) (c.in_ok-close_file.ensures.ok honest) in
+    let shut_1 = shut.shut_of (max (length old) (length new)) _ (c.in_ok-close_file.ensures.rest honest at) (c.in_ok-close_file.ensures.ok honest) (omega (arith, c.in_ok-close_file.ensures.short honest, long)) in
     let honest_2 = subst IsTrue (sym c.cut.ensures.honesty) honest_1 in
     let cut = shut.shut_cuts old new _ _ _ _ shut_1 1 _ (lit≤ tt) (c.in_ok-cut.ensures.ok honest_1) in
-    let filled = runs_on _ _ _ _ _ _ closed (runs_on _ _ _ _ _ _ cut.0 (c.fill.ensures.any_moment old new honest_2 cut.1)) in
+    let filled = runs_on _ _ _ _ _ _ closed (runs_on _ _ _ _ _ _ cut.0 (c.fill.ensures.any_moment old new honest_2 cut.1 (omega (arith, long)))) in
     let honest_3 = subst IsTrue (sym c.fill.ensures.honesty) honest_2 in
     let base = c.args.base.now in
     let all = head c.args.salt c.args.generation c.args.first (length base) ++ (base ++ 0 ∷ []) in
@@ -64,12 +67,13 @@ pub returns-in_err-write_at-clause-any_moment : goal.returns-in_err-write_at-cla
 returns-in_err-write_at-clause-any_moment g c honest at known =
     let old = (g.D.Disk.held c.args.disk.now).seen in
     let new = new_bytes c.args.salt c.args.generation c.args.first c.args.base.now in
-    let closed = c.close_file.ensures.any_moment new honest at known in
+    let long = making.length-new_bytes c.args.salt c.args.generation c.args.first c.args.base.now in
+    let closed = c.close_file.ensures.any_moment new honest at known (omega (arith, long)) in
     let honest_1 = subst IsTrue (sym c.close_file.ensures.honesty) honest in
-    let shut_1 = shut.shut_of _ (c.in_ok-close_file.ensures.rest honest at) (c.in_ok-close_file.ensures.ok honest) in
+    let shut_1 = shut.shut_of (max (length old) (length new)) _ (c.in_ok-close_file.ensures.rest honest at) (c.in_ok-close_file.ensures.ok honest) (omega (arith, c.in_ok-close_file.ensures.short honest, long)) in
     let honest_2 = subst IsTrue (sym c.cut.ensures.honesty) honest_1 in
     let cut = shut.shut_cuts old new _ _ _ _ shut_1 1 _ (lit≤ tt) (c.in_ok-cut.ensures.ok honest_1) in
-    let filled = runs_on _ _ _ _ _ _ closed (runs_on _ _ _ _ _ _ cut.0 (c.fill.ensures.any_moment old new honest_2 cut.1)) in
+    let filled = runs_on _ _ _ _ _ _ closed (runs_on _ _ _ _ _ _ cut.0 (c.fill.ensures.any_moment old new honest_2 cut.1 (omega (arith, long)))) in
     let honest_3 = subst IsTrue (sym c.fill.ensures.honesty) honest_2 in
     let base = c.args.base.now in
     let all = head c.args.salt c.args.generation c.args.first (length base) ++ (base ++ 0 ∷ []) in
@@ -83,12 +87,13 @@ pub returns-in_err-sync-2-clause-any_moment : goal.returns-in_err-sync-2-clause-
 returns-in_err-sync-2-clause-any_moment g c honest at known =
     let old = (g.D.Disk.held c.args.disk.now).seen in
     let new = new_bytes c.args.salt c.args.generation c.args.first c.args.base.now in
-    let closed = c.close_file.ensures.any_moment new honest at known in
+    let long = making.length-new_bytes c.args.salt c.args.generation c.args.first c.args.base.now in
+    let closed = c.close_file.ensures.any_moment new honest at known (omega (arith, long)) in
     let honest_1 = subst IsTrue (sym c.close_file.ensures.honesty) honest in
-    let shut_1 = shut.shut_of _ (c.in_ok-close_file.ensures.rest honest at) (c.in_ok-close_file.ensures.ok honest) in
+    let shut_1 = shut.shut_of (max (length old) (length new)) _ (c.in_ok-close_file.ensures.rest honest at) (c.in_ok-close_file.ensures.ok honest) (omega (arith, c.in_ok-close_file.ensures.short honest, long)) in
     let honest_2 = subst IsTrue (sym c.cut.ensures.honesty) honest_1 in
     let cut = shut.shut_cuts old new _ _ _ _ shut_1 1 _ (lit≤ tt) (c.in_ok-cut.ensures.ok honest_1) in
-    let filled = runs_on _ _ _ _ _ _ closed (runs_on _ _ _ _ _ _ cut.0 (c.fill.ensures.any_moment old new honest_2 cut.1)) in
+    let filled = runs_on _ _ _ _ _ _ closed (runs_on _ _ _ _ _ _ cut.0 (c.fill.ensures.any_moment old new honest_2 cut.1 (omega (arith, long)))) in
     let honest_3 = subst IsTrue (sym c.fill.ensures.honesty) honest_2 in
     let base = c.args.base.now in
     let all = head c.args.salt c.args.generation c.args.first (length base) ++ (base ++ 0 ∷ []) in
@@ -105,12 +110,13 @@ pub returns-clause-any_moment : goal.returns-clause-any_moment
 returns-clause-any_moment g c honest at known =
     let old = (g.D.Disk.held c.args.disk.now).seen in
     let new = new_bytes c.args.salt c.args.generation c.args.first c.args.base.now in
-    let closed = c.close_file.ensures.any_moment new honest at known in
+    let long = making.length-new_bytes c.args.salt c.args.generation c.args.first c.args.base.now in
+    let closed = c.close_file.ensures.any_moment new honest at known (omega (arith, long)) in
     let honest_1 = subst IsTrue (sym c.close_file.ensures.honesty) honest in
-    let shut_1 = shut.shut_of _ (c.in_ok-close_file.ensures.rest honest at) (c.in_ok-close_file.ensures.ok honest) in
+    let shut_1 = shut.shut_of (max (length old) (length new)) _ (c.in_ok-close_file.ensures.rest honest at) (c.in_ok-close_file.ensures.ok honest) (omega (arith, c.in_ok-close_file.ensures.short honest, long)) in
     let honest_2 = subst IsTrue (sym c.cut.ensures.honesty) honest_1 in
     let cut = shut.shut_cuts old new _ _ _ _ shut_1 1 _ (lit≤ tt) (c.in_ok-cut.ensures.ok honest_1) in
-    let filled = runs_on _ _ _ _ _ _ closed (runs_on _ _ _ _ _ _ cut.0 (c.fill.ensures.any_moment old new honest_2 cut.1)) in
+    let filled = runs_on _ _ _ _ _ _ closed (runs_on _ _ _ _ _ _ cut.0 (c.fill.ensures.any_moment old new honest_2 cut.1 (omega (arith, long)))) in
     let honest_3 = subst IsTrue (sym c.fill.ensures.honesty) honest_2 in
     let base = c.args.base.now in
     let all = head c.args.salt c.args.generation c.args.first (length base) ++ (base ++ 0 ∷ []) in

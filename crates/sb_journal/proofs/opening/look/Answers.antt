@@ -29,6 +29,11 @@ returns-in-Ok-AFile-clause-untouched g c honest =
     let same = c.reading_of.ensures.same (subst IsTrue (sym c.sync.ensures.honesty) honest) in
     unwritten_synced _ _ _ _ _ _ (c.in-Ok.ensures.ok honest) same.1 same.0
 
+pub returns-in-Ok-OtherFile-clause-untouched : goal.returns-in-Ok-OtherFile-clause-untouched
+returns-in-Ok-OtherFile-clause-untouched g c honest =
+    let same = c.reading_of.ensures.same (subst IsTrue (sym c.sync.ensures.honesty) honest) in
+    unwritten_synced _ _ _ _ _ _ (c.in-Ok.ensures.ok honest) same.1 same.0
+
 pub returns-in-Ok-BadFile-clause-untouched : goal.returns-in-Ok-BadFile-clause-untouched
 returns-in-Ok-BadFile-clause-untouched g c honest =
     let same = c.reading_of.ensures.same (subst IsTrue (sym c.sync.ensures.honesty) honest) in

@@ -14,6 +14,13 @@ returns-in-Err-NoHead-clause-reading g c honest =
     let starts : BeginsWith part bytes = subst (λ (l : List ℕ). BeginsWith l bytes) (sym c.rest.ensures) (c.in-Ok.ensures.piece honest).1 in
     readings.no_file part bytes starts (subst (λ e. IsNoHead e part) c.in-Err-NoHead.field-0-is c.in-Err-NoHead.ensures.none)
 
+pub returns-in-Err-OtherHead-clause-reading : goal.returns-in-Err-OtherHead-clause-reading
+returns-in-Err-OtherHead-clause-reading g c honest =
+    let bytes = (g.D.Disk.held c.args.disk.now).seen in
+    let part = c.rest.result.now in
+    let starts : BeginsWith part bytes = subst (λ (l : List ℕ). BeginsWith l bytes) (sym c.rest.ensures) (c.in-Ok.ensures.piece honest).1 in
+    readings.other_file part bytes starts (subst (λ e. IsNoHead e part) c.in-Err-OtherHead.field-0-is c.in-Err-OtherHead.ensures.none)
+
 pub returns-in-Err-BadHead-clause-reading : goal.returns-in-Err-BadHead-clause-reading
 returns-in-Err-BadHead-clause-reading g c honest =
     let bytes = (g.D.Disk.held c.args.disk.now).seen in

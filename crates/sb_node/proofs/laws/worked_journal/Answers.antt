@@ -27,6 +27,10 @@ pub returns-clause-no_journal : goal.returns-clause-no_journal
 unfolding framing head_fault is_record payloads_in
 returns-clause-no_journal c = (refl, refl)
 
+pub returns-clause-first_byte : goal.returns-clause-first_byte
+unfolding framing head_fault is_record payloads_in
+returns-clause-first_byte c = (refl, refl, refl)
+
 pub returns-clause-magic : goal.returns-clause-magic
 unfolding framing head_fault is_record payloads_in
 returns-clause-magic c = refl
