@@ -1,0 +1,224 @@
+#!/usr/bin/env python3
+"""Times the built program beside the disk that it writes to.
+
+usage: bench/bench.py [--program PROGRAM] [--calls N] [--repeat N] [--over OVER,..] [--json FILE]
+                      [--compare FILE] [SCENARIO..]
+
+Each scenario (send, receive, lock-and-settle, batch, fan-out, session) is run over `run`, a line at a time
+through pipes, and over 1, 4 and 16 kept connections to a server, or as --over says (run,1,64). Of a row stand
+the calls a second, the median and the 99th of a hundred of their times in ms, and what each takes the server of
+its own and in the kernel, in microseconds; of several repetitions the one of median rate. In the same run the
+disk is timed: records a second at one write and two syncs each, as the journal's, of the size of a message.
+--json keeps all in a file, and --compare says of each row how its rate stands to the disk beside that of such a
+file. It isn't part of the gate.
+"""
+import argparse
+import json
+import os
+import statistics
+import subprocess
+import sys
+import tempfile
+import time
+
+sys.path.insert(0, os.path.join(os.path.dirname(os.path.realpath(__file__)), "..", "tools"))
+import lib
+
+BODY = "x" * 1024
+WORKERS = 16  # the most that a server has
+QUEUE = [{"do": "create-queue", "name": "q"}]
+SESSIONS = [{"do": "create-queue", "name": "q", "requires_session": True}]
+SUBSCRIBED = [{"do": "create-topic", "name": "q"}]
+SUBSCRIBED += [{"do": "create-subscription", "topic": "q", "name": f"s{number}"} for number in range(10)]
+
+
+def done(reply, *wanted):
+    lib.wants(reply.get("ok") in wanted, f"a call was answered {reply}")
+    return reply
+
+
+def send(caller, messages=1, **fields):
+    call = {"do": "send", "to": "q", "messages": [{"body": BODY, **fields}] * messages}
+    done(caller.line(call), "sent")
+
+
+def receive(caller):
+    done(caller.line({"do": "receive", "from": "q", "mode": "delete"}), "message")
+
+
+def lock_and_settle(caller, **held):
+    message = done(caller.line({"do": "receive", "from": "q", **held}), "message")["message"]
+    settle = {"do": "complete", "from": "q", "seq": message["seq"], "token": message["token"], **held}
+    done(caller.line(settle), "done")
+
+
+def session(caller):
+    """A message to a session of its own, which is accepted, worked off and closed."""
+    id = f"{os.getpid()} {time.monotonic_ns()}"
+    send(caller, sys={"SessionId": id})
+    held = {"session": done(caller.line({"do": "accept", "from": "q", "id": id}), "session")["session"]}
+    lock_and_settle(caller, **held)
+    done(caller.line({"do": "session-close", "from": "q", **held}), "done")
+
+
+# the lines before a scenario, its messages before, and what is timed
+SCENARIOS = {
+    "send": (QUEUE, False, send),
+    "receive": (QUEUE, True, receive),
+    "lock-and-settle": (QUEUE, True, lock_and_settle),
+    "batch": (QUEUE, False, lambda caller: send(caller, messages=20)),
+    "fan-out": (SUBSCRIBED, False, send),
+    "session": (SESSIONS, False, session),
+}
+
+
+class Run:
+    """A `run` that is asked a line at a time."""
+
+    def __init__(self, program, folder):
+        pipe = subprocess.PIPE
+        self.process = subprocess.Popen([program, "run", "--data", folder], stdin=pipe, stdout=pipe)
+
+    def line(self, call):
+        self.process.stdin.write(json.dumps({"at": time.time_ns() // 1_000_000, **call}).encode() + b"\n")
+        self.process.stdin.flush()
+        return json.loads(self.process.stdout.readline())
+
+
+def prepare(caller, scenario, calls):
+    lines, is_filled, _ = SCENARIOS[scenario]
+    for line in lines:
+        done(caller.line(line), "done")
+    for first in range(0, calls if is_filled else 0, 100):
+        send(caller, messages=min(100, calls - first))
+
+
+def timed(caller, scenario, calls):
+    """The seconds of each call."""
+    call, took = SCENARIOS[scenario][2], []
+    for _ in range(calls):
+        begun = time.monotonic()
+        call(caller)
+        took.append(time.monotonic() - begun)
+    return took
+
+
+def used(pid):
+    """The seconds of a process's own and in the kernel."""
+    with open(f"/proc/{pid}/stat", encoding="ascii") as stat:
+        fields = stat.read().rpartition(")")[2].split()
+    return [int(it) / os.sysconf("SC_CLK_TCK") for it in fields[11:13]]
+
+
+def in_child(port, scenario, calls):
+    """A process that is one caller, and the pipe from which its times are read."""
+    reader, writer = os.pipe()
+    child = os.fork()
+    if child:
+        os.close(writer)
+        return child, reader
+    status = 1
+    try:
+        with lib.Caller(port) as caller, os.fdopen(writer, "w", encoding="ascii") as out:
+            json.dump(timed(caller, scenario, calls), out)
+        status = 0
+    except (OSError, lib.Failed) as fault:
+        print(f"bench: {fault}", file=sys.stderr)
+    finally:
+        os._exit(status)
+
+
+def over_connections(program, folder, scenario, many, calls):
+    port = lib.free_port()
+    with lib.serving(program, folder, port, "--workers", str(WORKERS)) as server:
+        with lib.Caller(port) as caller:
+            prepare(caller, scenario, calls)
+        before, begun = used(server.pid), time.monotonic()
+        callers = [in_child(port, scenario, calls // many) for _ in range(many)]
+        took = []
+        for child, reader in callers:
+            with os.fdopen(reader, encoding="ascii") as times:
+                said = times.read()
+            lib.wants(os.waitpid(child, 0)[1] == 0, f"a caller of {scenario} failed")
+            took += json.loads(said)
+        return took, time.monotonic() - begun, before, used(server.pid)
+
+
+def over_run(program, folder, scenario, calls):
+    run = Run(program, folder)
+    prepare(run, scenario, calls)
+    before, begun = used(run.process.pid), time.monotonic()
+    took = timed(run, scenario, calls)
+    seconds, after = time.monotonic() - begun, used(run.process.pid)
+    run.process.communicate()
+    return took, seconds, before, after
+
+
+def measured(program, scenario, over, calls):
+    """One repetition, as a row."""
+    with tempfile.TemporaryDirectory(dir=os.environ.get("TMPDIR", "/var/tmp")) as folder:
+        if over == "run":
+            took, seconds, before, after = over_run(program, folder, scenario, calls)
+        else:
+            took, seconds, before, after = over_connections(program, folder, scenario, int(over), calls)
+    own, kernel = ((now - then) / len(took) * 1e6 for now, then in zip(after, before))
+    cuts = statistics.quantiles(took, n=100, method="inclusive")
+    row = {"rate": len(took) / seconds, "median_ms": cuts[49] * 1000, "p99_ms": cuts[98] * 1000}
+    return {**row, "own_us": own, "kernel_us": kernel}
+
+
+def disk_rate(records=2000):
+    """Records a second: one write of a message's size and two syncs each."""
+    with tempfile.TemporaryFile(dir=os.environ.get("TMPDIR", "/var/tmp"), buffering=0) as probe:
+        begun = time.monotonic()
+        for _ in range(records):
+            probe.write(b"x" * 1088)
+            os.fsync(probe.fileno())
+            probe.seek(-1, os.SEEK_CUR)
+            probe.write(b"y")
+            os.fsync(probe.fileno())
+        return records / (time.monotonic() - begun)
+
+
+def tell(key, row, disk, kept):
+    numbers = f"{row['rate']:8.0f} a second, {row['median_ms']:7.2f} ms, 99th {row['p99_ms']:7.2f} ms"
+    numbers += f", {row['own_us']:5.0f} us own, {row['kernel_us']:5.0f} us kernel"
+    if kept and key in kept["rows"]:
+        numbers += f", {row['rate'] / disk / (kept['rows'][key]['rate'] / kept['disk']):5.2f} of what is kept"
+    print(f"{key:24} {numbers}", flush=True)
+
+
+def words():
+    given = argparse.ArgumentParser(usage=__doc__.split("\n\n")[1].removeprefix("usage: "))
+    given.add_argument("scenarios", nargs="*", choices=[*SCENARIOS, []], metavar="SCENARIO")
+    given.add_argument("--program", default=f"{lib.TOP}/bus")
+    given.add_argument("--calls", type=int, default=2000)
+    given.add_argument("--repeat", type=int, default=3)
+    given.add_argument("--over", default="run,1,4,16")
+    given.add_argument("--json")
+    given.add_argument("--compare")
+    return given.parse_args()
+
+
+def main():
+    given, kept = words(), None
+    if given.compare:
+        with open(given.compare, encoding="utf-8") as file:
+            kept = json.load(file)
+    program = os.path.realpath(given.program)
+    subprocess.run([program, "--version"], stdout=subprocess.DEVNULL, check=True)  # so that it is built
+    disk, rows = disk_rate(), {}
+    print(f"disk: {disk:.0f} records a second at two syncs each", flush=True)
+    for scenario in given.scenarios or SCENARIOS:
+        for over in given.over.split(","):
+            some = [measured(program, scenario, over, given.calls) for _ in range(given.repeat)]
+            key = f"{scenario} over {over}"
+            rows[key] = sorted(some, key=lambda row: row["rate"])[len(some) // 2]
+            tell(key, rows[key], disk, kept)
+    if given.json:
+        with open(given.json, "w", encoding="utf-8") as file:
+            json.dump({"disk": disk, "rows": rows}, file, indent=1)
+
+
+if __name__ == "__main__":
+    main()
