@@ -59,7 +59,7 @@ fn came(
         Ok(found) if is_call(alloc, &found, wanted) => String::from_str(alloc, wanted),
         Ok(found) => format!(in alloc; "another call, with {} s", found.timeout),
         Err(RestFault::NoRoute) => String::from_str(alloc, "404"),
-        Err(RestFault::BadMethod) => String::from_str(alloc, "405"),
+        Err(RestFault::BadMethod { .. }) => String::from_str(alloc, "405"),
         Err(RestFault::Script) => String::from_str(alloc, "script"),
         Err(RestFault::Bad { key }) => format!(in alloc; "400 {}", key.as_str()),
         Err(RestFault::OutOfMemory) => Err(AllocError),
