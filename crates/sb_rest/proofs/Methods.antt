@@ -1,6 +1,6 @@
--- The methods of a route are those that it takes.
-use Rattle.std.proofs.Common.{◌≡◌, ℕ, Bool, true, false, ◌||◌, List, refl}
-use Rattle.std.specs.Prelude.{codes, bytes_eq, is_some, Some, None, if◌then◌else◌}
+-- The methods of a route are those that it takes, and a page of another origin makes no call.
+use Rattle.std.proofs.Common.{◌≡◌, ℕ, Bool, true, false, ◌||◌, List, refl, ap}
+use Rattle.std.specs.Prelude.{codes, bytes_eq, is_some, Some, None, Err, if◌then◌else◌}
 use Rattle.std.specs.List.{list_any}
 use Rattle.sb_machine.specs.declared.call.Mode.TheVariants.{Lock, Delete}
 use Rattle.sb_routes.specs.declared.routes.Address.{Address}
@@ -8,7 +8,10 @@ use Rattle.sb_routes.specs.declared.routes.Route.{Route}
 use Rattle.sb_routes.specs.declared.routes.Route.TheVariants as route
 use Rattle.sb_rest.specs.declared.asked.Asked.{Asked}
 use Rattle.sb_rest.specs.declared.asked.Asked.TheVariants as asked
-use Rattle.sb_rest.specs.Calls.{methods_of, takes}
+use Rattle.sb_routes.specs.Paths.{path_of}
+use Rattle.sb_routes.specs.Routes.{route_of}
+use Rattle.sb_rest.specs.declared.call.RestFault.TheVariants.{Foreign}
+use Rattle.sb_rest.specs.Calls.{methods_of, takes, on_route, NoneIsForeign}
 
 pub all_methods : (r : Route) (method : List ℕ) → takes r method ≡ list_any (bytes_eq method) (methods_of r)
 all_methods route.Messages method = by_post (bytes_eq method (codes "POST")) where
@@ -32,3 +35,8 @@ all_methods route.Script method = by_post (bytes_eq method (codes "POST")) where
   by_post : (p : Bool) → p ≡ (p || false)
   by_post true = refl
   by_post false = refl
+
+-- ---- who made a request
+
+pub none_foreign : NoneIsForeign
+none_foreign m is = ap (λ (b : Bool). if b then Err Foreign else on_route (route_of (path_of m.head.target)) m) is

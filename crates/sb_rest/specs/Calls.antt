@@ -1,5 +1,5 @@
 -- Which request asks for which call, or what is at fault in it.
-use Rattle.std.specs.Prelude.{◌≡◌, ℕ, suc, Bool, List, [], ◌∷◌, codes, bytes_eq, is_some, Option, Some, None, Result, Ok, Err, if◌then◌else◌}
+use Rattle.std.specs.Prelude.{◌≡◌, ℕ, suc, Bool, true, List, [], ◌∷◌, codes, bytes_eq, is_some, Option, Some, None, Result, Ok, Err, if◌then◌else◌}
 use Rattle.std.specs.List.{list_any}
 use Rattle.std.specs.Str.{str_to_ascii_lowercase}
 use Rattle.percent_encoding.specs.Percent.{percent_decode}
@@ -29,9 +29,10 @@ use Rattle.sb_routes.specs.Routes.{route_of}
 use Rattle.sb_rest.specs.declared.asked.Asked.{Asked}
 use Rattle.sb_rest.specs.declared.asked.Asked.TheVariants as asked
 use Rattle.sb_rest.specs.declared.call.RestFault.{RestFault}
-use Rattle.sb_rest.specs.declared.call.RestFault.TheVariants.{NoRoute, BadMethod, Bad, Script, OutOfMemory}
+use Rattle.sb_rest.specs.declared.call.RestFault.TheVariants.{Foreign, NoRoute, BadMethod, Bad, Script, OutOfMemory}
 use Rattle.sb_rest.specs.declared.call.Wanted.{Wanted}
 use Rattle.sb_rest.specs.Batches as batches
+use Rattle.sb_rest.specs.Foreign.{is_foreign}
 use Rattle.sb_rest.specs.Headers.{message_in}
 use Rattle.sb_rest.specs.Repeats.{by_of}
 use Rattle.sb_rest.specs.Timeouts.{timeout_in}
@@ -168,13 +169,18 @@ on_route (Some (route.Head a)) m = on_asked (route.Head a) (at_head a m.head.met
 on_route (Some (route.Locked a)) m = on_asked (route.Locked a) (at_locked a m.head.method) m
 on_route (Some route.Script) m = on_script m.head.method
 
--- the call of a request, or why it is none: first its path, then its method, then the first key at fault
+-- the call of a request, or why it is none: first who made it, then its path, then its method, then the first key at fault
 abbrev pub call_of : RequestMessage → Result Wanted RestFault
-call_of m = on_route (route_of (path_of m.head.target)) m
+call_of m = if is_foreign m.head.fields then Err Foreign else on_route (route_of (path_of m.head.target)) m
+
+-- no page of another origin makes a call
+abbrev pub NoneIsForeign : Type 0
+NoneIsForeign = (m : RequestMessage) → is_foreign m.head.fields ≡ true → call_of m ≡ Err Foreign
 
 -- the result is what is said, or memory was wanting
 abbrev pub Answers : Result Wanted RestFault → Result Wanted RestFault → Type 0
 Answers (Ok w) said = said ≡ Ok w
+Answers (Err Foreign) said = said ≡ Err Foreign
 Answers (Err NoRoute) said = said ≡ Err NoRoute
 Answers (Err (BadMethod r)) said = said ≡ Err (BadMethod r)
 Answers (Err (Bad key)) said = said ≡ Err (Bad key)

@@ -7,6 +7,7 @@ pub mod Headers
 pub mod Batches
 pub mod Lines
 pub mod Repeats
+pub mod Foreign
 pub mod Calls
 pub mod Moments
 pub mod Escapes

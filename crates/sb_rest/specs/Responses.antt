@@ -20,7 +20,7 @@ use Rattle.sb_http.specs.Responses.{ResponseMessage}
 use Rattle.sb_lines.specs.Refusals.{plain, refusal_data}
 use Rattle.sb_routes.specs.declared.routes.Route.{Route}
 use Rattle.sb_rest.specs.declared.call.RestFault.{RestFault}
-use Rattle.sb_rest.specs.declared.call.RestFault.TheVariants.{NoRoute, BadMethod, Bad, Script, OutOfMemory}
+use Rattle.sb_rest.specs.declared.call.RestFault.TheVariants.{Foreign, NoRoute, BadMethod, Bad, Script, OutOfMemory}
 use Rattle.sb_rest.specs.Calls.{methods_of}
 use Rattle.sb_rest.specs.Moments.{IsTime, IsUntil}
 use Rattle.sb_rest.specs.Shown.{message_fields}
@@ -77,6 +77,7 @@ method_response r = record { status = status.MethodNotAllowed; fields = (codes "
 
 -- where a request is no call; a script line is answered by its reply
 abbrev pub fault_response : RestFault → ResponseMessage
+fault_response Foreign = bare status.Forbidden
 fault_response NoRoute = bare status.NotFound
 fault_response (BadMethod r) = method_response r
 fault_response (Bad key) = refusal_response (refusal.BadCall key)

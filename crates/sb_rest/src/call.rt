@@ -10,6 +10,7 @@ ghost use Rattle.sb_rest.specs.Calls as calls;
 use crate::act::{renewed, settled, taken};
 use crate::asked::{Asked, at_head, at_locked, if_post, is};
 use crate::batch::{is_batch, messages_in as batch_in};
+use crate::foreign::is_foreign;
 use crate::header::message_in;
 use crate::path::name_in;
 use crate::repeat::by_in;
@@ -25,6 +26,8 @@ use std::alloc::Global;
 /// Why a request is no call.
 #[derive(Drop)]
 pub enum RestFault {
+    /// A web page of another origin made the request.
+    Foreign,
     /// There is no such path.
     NoRoute,
     /// The path of this route isn't used with this method.
@@ -260,6 +263,9 @@ fn on_route(
 fn wanted_of(alloc: Global, routes: &Routes, request: &Request) -> Result<Wanted, RestFault>
     ensures { calls.Answers result (calls.call_of (said_by request.now)) }
 {
+    if is_foreign(request.text, request.lines) {
+        return Err(RestFault::Foreign);
+    }
     let (path, query) = cut(request.target, b'?');
     let Ok(route) = routes.of(alloc, path) else {
         return Err(RestFault::OutOfMemory);
@@ -270,7 +276,8 @@ fn wanted_of(alloc: Global, routes: &Routes, request: &Request) -> Result<Wanted
     on_route(alloc, route, path, query, request)
 }
 
-/// The call of a request, or why it is none: first that there is no such path, then that its method
+/// The call of a request, or why it is none: first that a page of another origin made it, then that
+/// there is no such path, then that its method
 /// isn't one of it, then the first key at fault, by its place: the path (`path`, `token`), the query
 /// (`timeout`), the number of the call (`Repeat-Client`, `Repeat-Number`), the headers as they stand,
 /// the body.

@@ -1,7 +1,7 @@
 // What holds of all texts and methods.
 ghost use Rattle.std.specs.Prelude.{◌≡◌, ℕ, List, true, nat_le};
 ghost use Rattle.std.specs.List.{list_all};
-ghost use Rattle.sb_rest.specs.Calls.{MethodsAreAll};
+ghost use Rattle.sb_rest.specs.Calls.{MethodsAreAll, NoneIsForeign};
 ghost use Rattle.sb_rest.specs.Escapes.{ascii_json};
 
 /// JSON that is escaped has no character beyond ASCII, and no U+007F.
@@ -12,4 +12,9 @@ pub fn escaped_is_ascii()
 /// Each route takes just the methods that are told of it.
 pub fn methods_are_told()
     ensures { MethodsAreAll }
+{}
+
+/// What a page of another origin has a browser send is no call.
+pub fn foreign_is_no_call()
+    ensures { NoneIsForeign }
 {}

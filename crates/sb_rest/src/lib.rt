@@ -26,6 +26,7 @@ mod call;
 mod draft;
 mod escape;
 mod field;
+mod foreign;
 mod header;
 mod laws;
 mod lifetime;
@@ -41,6 +42,6 @@ mod value;
 mod worked;
 
 pub use call::{RestFault, Wanted, call_of};
-pub use laws::{escaped_is_ascii, methods_are_told};
+pub use laws::{escaped_is_ascii, foreign_is_no_call, methods_are_told};
 pub use response::{fault_response, host_of, line_response, response_of};
 pub use worked::{worked_calls, worked_parts, worked_responses};

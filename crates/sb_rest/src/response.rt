@@ -129,6 +129,7 @@ pub fn fault_response(alloc: Global, fault: RestFault) -> Result<Response, Alloc
     ensures { IfOk result (λ r. said_in r ≡ responses.fault_response fault) }
 {
     match fault {
+        RestFault::Foreign => Ok(bare(alloc, Status::Forbidden)),
         RestFault::NoRoute => Ok(bare(alloc, Status::NotFound)),
         RestFault::BadMethod { route } => method_response(alloc, route),
         RestFault::Bad { key } => refusal_response(alloc, &Refusal::BadCall { key }),

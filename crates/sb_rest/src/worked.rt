@@ -7,7 +7,7 @@ ghost use Rattle.sb_model.specs.declared.message.PropertyValue.TheVariants.{Int,
 ghost use Rattle.sb_machine.specs.declared.call.Part.TheVariants.{Main};
 ghost use Rattle.sb_routes.specs.declared.routes.Address.TheVariants.{Entity};
 ghost use Rattle.sb_routes.specs.declared.routes.Route.TheVariants.{Messages, Locked};
-ghost use Rattle.sb_rest.specs.declared.call.RestFault.TheVariants.{NoRoute, BadMethod, Bad, Script};
+ghost use Rattle.sb_rest.specs.declared.call.RestFault.TheVariants.{Foreign, NoRoute, BadMethod, Bad, Script};
 ghost use Rattle.sb_rest.specs.Batches as batches;
 ghost use Rattle.sb_rest.specs.Brokers.{broker_in};
 ghost use Rattle.sb_rest.specs.Calls.{call_of};
@@ -22,6 +22,9 @@ ghost use Rattle.sb_rest.specs.Worked.{request, sends, takes, takes_as, living, 
 /// The definitions say of these requests what was worked out by hand.
 pub fn worked_calls()
     ensures send { call_of (request (codes "POST") (codes "/Q/messages") ((codes "Content-Length", codes "2") ∷ []) (codes "hi")) ≡ sends (text_alone (codes "hi") ∷ []) }
+    ensures origin { call_of (request (codes "POST") (codes "/$script") ((codes "Origin", codes "null") ∷ []) []) ≡ Err Foreign }
+    ensures another_site { call_of (request (codes "DELETE") (codes "/x/y/z") ((codes "sec-fetch-site", codes "cross-site") ∷ []) []) ≡ Err Foreign }
+    ensures own_site { call_of (request (codes "POST") (codes "/$script") ((codes "Sec-Fetch-Site", codes "same-origin") ∷ (codes "Sec-Fetch-Site", codes "none") ∷ []) []) ≡ Err Script }
     ensures no_property { call_of (request (codes "POST") (codes "/q/messages") ((codes "X-Forwarded-For", codes "1") ∷ (codes "Sec-Fetch-Mode", codes "cors") ∷ (codes "Proxy-Authorization", codes "b") ∷ (codes "DNT", codes "1") ∷ []) (codes "hi")) ≡ sends (text_alone (codes "hi") ∷ []) }
     ensures receive { call_of (request (codes "POST") (codes "/q/messages/head?timeout=0") [] []) ≡ takes 0 }
     ensures waits { call_of (request (codes "POST") (codes "/q/messages/head?a=b&timeout=%31&timeout=x") [] []) ≡ takes 1 }

@@ -18,7 +18,7 @@ use Rattle.sb_rest.specs.Batches.{is_blank}
 use Rattle.sb_rest.specs.Calls.{call_of}
 use Rattle.sb_rest.specs.Responses.{host_in}
 use Rattle.sb_rest.specs.declared.call.RestFault.{RestFault}
-use Rattle.sb_rest.specs.declared.call.RestFault.TheVariants.{NoRoute, BadMethod, Bad, Script, OutOfMemory}
+use Rattle.sb_rest.specs.declared.call.RestFault.TheVariants.{Foreign, NoRoute, BadMethod, Bad, Script, OutOfMemory}
 use Rattle.sb_rest.specs.declared.call.Wanted.{Wanted}
 use Rattle.sb_server.specs.declared.ask.Ask.{Ask}
 use Rattle.sb_server.specs.declared.ask.Ask.TheVariants.{Once, Patient, Line, BadLine, Fault}
@@ -83,6 +83,7 @@ IsNoLine said (Err refusal) = Reads said (Err refusal)
 
 -- why a request is no call; want of memory may come with each
 abbrev pub IsFault : RestFault → RequestMessage → Type 0
+IsFault Foreign m = call_of m ≡ Err Foreign
 IsFault NoRoute m = call_of m ≡ Err NoRoute
 IsFault (BadMethod r) m = call_of m ≡ Err (BadMethod r)
 IsFault (Bad key) m = call_of m ≡ Err (Bad key)

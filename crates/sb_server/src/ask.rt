@@ -51,6 +51,9 @@ pub(crate) fn ask_of(alloc: Global, routes: &Routes, request: &Request) -> Ask
     match call_of(alloc, routes, request) {
         Ok(wanted) => called(alloc, request, wanted),
         Err(RestFault::Script) => line_ask(alloc, request),
+        Err(RestFault::Foreign) => Ask::Fault {
+            fault: RestFault::Foreign,
+        },
         Err(RestFault::NoRoute) => Ask::Fault {
             fault: RestFault::NoRoute,
         },

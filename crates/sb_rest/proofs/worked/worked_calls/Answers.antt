@@ -58,3 +58,15 @@ returns-clause-client_alone c = refl
 pub returns-clause-number_alone : goal.returns-clause-number_alone
 unfolding utf8_lossy utf8_valid_len utf8_error_len matchit_on_literals undollared segment table with_route entities subscriptions scripts is_utf8 chars lib.Utf8.encode form_urlencoded_on_literals address_in sent wanted_by is_reserved heard heard_all is_batch_type
 returns-clause-number_alone c = refl
+
+pub returns-clause-origin : goal.returns-clause-origin
+unfolding utf8_lossy utf8_valid_len utf8_error_len matchit_on_literals undollared segment table with_route entities subscriptions scripts is_utf8 chars lib.Utf8.encode form_urlencoded_on_literals address_in sent wanted_by is_reserved heard heard_all is_batch_type
+returns-clause-origin c = refl
+
+pub returns-clause-another_site : goal.returns-clause-another_site
+unfolding utf8_lossy utf8_valid_len utf8_error_len matchit_on_literals undollared segment table with_route entities subscriptions scripts is_utf8 chars lib.Utf8.encode form_urlencoded_on_literals address_in sent wanted_by is_reserved heard heard_all is_batch_type
+returns-clause-another_site c = refl
+
+pub returns-clause-own_site : goal.returns-clause-own_site
+unfolding utf8_lossy utf8_valid_len utf8_error_len matchit_on_literals undollared segment table with_route entities subscriptions scripts is_utf8 chars lib.Utf8.encode form_urlencoded_on_literals address_in sent wanted_by is_reserved heard heard_all is_batch_type
+returns-clause-own_site c = refl
