@@ -31,7 +31,7 @@ use Rattle.sb_routes.specs.Routes.{route_of}
 use Rattle.sb_rest.specs.declared.asked.Asked.{Asked}
 use Rattle.sb_rest.specs.declared.asked.Asked.TheVariants as asked
 use Rattle.sb_rest.specs.declared.call.RestFault.{RestFault}
-use Rattle.sb_rest.specs.declared.call.RestFault.TheVariants.{BadMethod, Script}
+use Rattle.sb_rest.specs.declared.call.RestFault.TheVariants.{Foreign, BadMethod, Script}
 use Rattle.sb_rest.specs.declared.call.Wanted.{Wanted}
 use Rattle.sb_rest.specs.declared.draft.Broker.{Broker}
 use Rattle.sb_rest.specs.declared.draft.Draft.{Draft}
@@ -39,7 +39,9 @@ use Rattle.sb_rest.specs.Brokers as brokers
 use Rattle.sb_rest.specs.Batches as batches
 use Rattle.sb_rest.specs.Headers as headers
 use Rattle.sb_rest.specs.Calls as calls
-use Rattle.sb_rest.specs.Timeouts.{timeout_in}
+use Rattle.sb_rest.specs.Foreign.{is_foreign}
+use Rattle.sb_rest.specs.Lifetimes.{lifetime_in}
+use Rattle.sb_rest.specs.Reserved.{is_reserved}
 use Rattle.sb_rest.specs.Values.{header_value}
 
 -- ---- what is said of a message
@@ -64,7 +66,7 @@ broker_of_holds : (d : Data) → Holds IsBroker (brokers.broker_of d)
 unfolding brokers.broker_of
 broker_of_holds d =
     then_holds (UpTo 7) IsBroker (msg.broker_texts Absent d) _ (broker_holds Absent d) (λ texts is.
-    known_holds IsBroker (msg.lifetime_at Absent (codes "TimeToLive") d) _ (λ ttl.
+    known_holds IsBroker (lifetime_in d) _ (λ ttl.
     known_holds IsBroker (brokers.schedule_at (codes "ScheduledEnqueueTimeUtc") d) _ (λ schedule. is)))
 
 -- ---- headers
@@ -93,11 +95,11 @@ with_broker_holds value d is =
 heard_holds : (f : Field) (later : List Field) (d : Draft) → IsDraft d → Holds IsDraft (headers.heard f later d)
 unfolding headers.heard
 heard_holds f later d is =
-    either IsDraft (same_word headers.broker_name f.0) (if headers.stands_in later headers.broker_name then Ok d else headers.with_broker f.1 d) (if same_word headers.type_name f.0 then (if headers.stands_in later headers.type_name then Ok d else headers.with_type f.1 d) else (if headers.is_reserved f.0 then Ok d else headers.on_name (as_text f.0) f.1 d))
+    either IsDraft (same_word headers.broker_name f.0) (if headers.stands_in later headers.broker_name then Ok d else headers.with_broker f.1 d) (if same_word headers.type_name f.0 then (if headers.stands_in later headers.type_name then Ok d else headers.with_type f.1 d) else (if is_reserved f.0 then Ok d else headers.on_name (as_text f.0) f.1 d))
     (either IsDraft (headers.stands_in later headers.broker_name) (Ok d) (headers.with_broker f.1 d) is (with_broker_holds f.1 d is))
-    (either IsDraft (same_word headers.type_name f.0) (if headers.stands_in later headers.type_name then Ok d else headers.with_type f.1 d) (if headers.is_reserved f.0 then Ok d else headers.on_name (as_text f.0) f.1 d)
+    (either IsDraft (same_word headers.type_name f.0) (if headers.stands_in later headers.type_name then Ok d else headers.with_type f.1 d) (if is_reserved f.0 then Ok d else headers.on_name (as_text f.0) f.1 d)
     (either IsDraft (headers.stands_in later headers.type_name) (Ok d) (headers.with_type f.1 d) is (with_type_holds f.1 d is))
-    (either IsDraft (headers.is_reserved f.0) (Ok d) (headers.on_name (as_text f.0) f.1 d) is (on_name_holds (as_text f.0) f.1 d is)))
+    (either IsDraft (is_reserved f.0) (Ok d) (headers.on_name (as_text f.0) f.1 d) is (on_name_holds (as_text f.0) f.1 d is)))
 
 heard_all_holds : (fields : List Field) (d : Draft) → IsDraft d → Holds IsDraft (headers.heard_all fields d)
 unfolding headers.heard_all
@@ -160,13 +162,13 @@ sent_holds : (path query : List ℕ) (fields : List Field) (body : List ℕ) →
 unfolding calls.sent
 sent_holds path query fields body =
     known_holds IsWantedInOrder (calls.name_in 1 path) _ (λ name.
-    known_holds IsWantedInOrder (timeout_in query) _ (λ timeout.
+    known_holds IsWantedInOrder (calls.beside query fields) _ (λ b.
     then_holds (Each IsInOrder) IsWantedInOrder (calls.messages_in fields body) _ (all_hold fields body) (λ messages is. is)))
 
-timed_holds : (query : List ℕ) (act : Result Act (List ℕ)) → Holds IsActInOrder act → Holds IsWantedInOrder (calls.with_timeout query act)
-timed_holds query act holds =
-    then_holds IsActInOrder IsWantedInOrder act (λ a. then_by (timeout_in query) (λ timeout. Ok (calls.in_time a timeout))) holds (λ a is.
-    known_holds IsWantedInOrder (timeout_in query) (λ timeout. Ok (calls.in_time a timeout)) (λ timeout. is))
+asked_holds_with : (query : List ℕ) (fields : List Field) (act : Result Act (List ℕ)) → Holds IsActInOrder act → Holds IsWantedInOrder (calls.asked_with query fields act)
+asked_holds_with query fields act holds =
+    then_holds IsActInOrder IsWantedInOrder act (λ a. then_by (calls.beside query fields) (λ b. Ok (calls.in_time b.1 a b.0))) holds (λ a is.
+    known_holds IsWantedInOrder (calls.beside query fields) (λ b. Ok (calls.in_time b.1 a b.0)) (λ b. is))
 
 taken_holds : (a : Address) (mode : Mode) (path : List ℕ) → Holds IsActInOrder (calls.taken a mode path)
 taken_holds a mode path = known_holds IsActInOrder (calls.address_in a path) (λ from. Ok (Receive from mode None)) (λ from. tt)
@@ -180,10 +182,10 @@ locked_holds a path make each =
 wanted_holds : (a : Asked) (path query : List ℕ) (fields : List Field) (body : List ℕ) → Holds IsWantedInOrder (calls.wanted_by a path query fields body)
 unfolding calls.wanted_by
 wanted_holds asked.Send path query fields body = sent_holds path query fields body
-wanted_holds (asked.Take a mode) path query fields body = timed_holds query (calls.taken a mode path) (taken_holds a mode path)
-wanted_holds (asked.Abandon a) path query fields body = timed_holds query (calls.with_locked a path (calls.settled Abandon)) (locked_holds a path (calls.settled Abandon) (λ from id token. tt))
-wanted_holds (asked.Complete a) path query fields body = timed_holds query (calls.with_locked a path (calls.settled Complete)) (locked_holds a path (calls.settled Complete) (λ from id token. tt))
-wanted_holds (asked.Renew a) path query fields body = timed_holds query (calls.with_locked a path calls.renewed) (locked_holds a path calls.renewed (λ from id token. tt))
+wanted_holds (asked.Take a mode) path query fields body = asked_holds_with query fields (calls.taken a mode path) (taken_holds a mode path)
+wanted_holds (asked.Abandon a) path query fields body = asked_holds_with query fields (calls.with_locked a path (calls.settled Abandon)) (locked_holds a path (calls.settled Abandon) (λ from id token. tt))
+wanted_holds (asked.Complete a) path query fields body = asked_holds_with query fields (calls.with_locked a path (calls.settled Complete)) (locked_holds a path (calls.settled Complete) (λ from id token. tt))
+wanted_holds (asked.Renew a) path query fields body = asked_holds_with query fields (calls.with_locked a path calls.renewed) (locked_holds a path calls.renewed (λ from id token. tt))
 
 -- ---- requests
 
@@ -194,22 +196,26 @@ bad_holds : (r : Result Wanted (List ℕ)) → Holds IsWantedInOrder r → AreIn
 bad_holds (Ok w) is = is
 bad_holds (Err key) is = tt
 
-asked_holds : (o : Option Asked) (m : RequestMessage) → AreInOrder (calls.on_asked o m)
-asked_holds None m = tt
-asked_holds (Some a) m =
+asked_holds : (r : Route) (o : Option Asked) (m : RequestMessage) → AreInOrder (calls.on_asked r o m)
+asked_holds r None m = tt
+asked_holds r (Some a) m =
     bad_holds (calls.wanted_by a (path_of m.head.target) (query_of m.head.target) m.head.fields m.body) (wanted_holds a (path_of m.head.target) (query_of m.head.target) m.head.fields m.body)
 
-script_holds : (b : Bool) → AreInOrder (if b then Err Script else Err BadMethod)
+script_holds : (b : Bool) → AreInOrder (if b then Err Script else Err (BadMethod route.Script))
 script_holds true = tt
 script_holds false = tt
 
 route_holds : (o : Option Route) (m : RequestMessage) → AreInOrder (calls.on_route o m)
 route_holds None m = tt
-route_holds (Some route.Messages) m = asked_holds (calls.if_post m.head.method asked.Send) m
-route_holds (Some (route.Head a)) m = asked_holds (calls.at_head a m.head.method) m
-route_holds (Some (route.Locked a)) m = asked_holds (calls.at_locked a m.head.method) m
+route_holds (Some route.Messages) m = asked_holds route.Messages (calls.if_post m.head.method asked.Send) m
+route_holds (Some (route.Head a)) m = asked_holds (route.Head a) (calls.at_head a m.head.method) m
+route_holds (Some (route.Locked a)) m = asked_holds (route.Locked a) (calls.at_locked a m.head.method) m
 route_holds (Some route.Script) m = script_holds (bytes_eq m.head.method (codes "POST"))
 
+calls_hold : (b : Bool) (m : RequestMessage) → AreInOrder (if b then Err Foreign else calls.on_route (route_of (path_of m.head.target)) m)
+calls_hold true m = tt
+calls_hold false m = route_holds (route_of (path_of m.head.target)) m
+
 pub answered_in_order : (m : RequestMessage) (r : Result Wanted RestFault) → calls.Answers r (calls.call_of m) → AreInOrder r
-answered_in_order m (Ok w) said = subst AreInOrder said (route_holds (route_of (path_of m.head.target)) m)
+answered_in_order m (Ok w) said = subst AreInOrder said (calls_hold (is_foreign m.head.fields) m)
 answered_in_order m (Err fault) said = tt

@@ -1,2 +1,5 @@
+mod Escaping
 mod InOrder
+mod Methods
+mod Plain
 mod Whole

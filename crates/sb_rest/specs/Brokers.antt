@@ -6,8 +6,9 @@ use Rattle.serde_json.specs.Find.{as_str, as_object}
 use Rattle.serde_json.specs.Read.{read}
 use Rattle.sb_lines.specs.declared.texts.Nulls.TheVariants.{Absent}
 use Rattle.sb_lines.specs.Faults.{or_key, then_by}
-use Rattle.sb_lines.specs.Messages.{member_at, broker_texts, lifetime_at}
+use Rattle.sb_lines.specs.Messages.{member_at, broker_texts}
 use Rattle.sb_rest.specs.declared.draft.Broker.{Broker}
+use Rattle.sb_rest.specs.Lifetimes.{lifetime_in}
 use Rattle.sb_routes.specs.Paths.{as_text}
 
 -- where nothing is said
@@ -30,7 +31,7 @@ schedule_at key d = schedule_from key (member_at Absent key d)
 unfoldable pub broker_of : Data → Result Broker (List ℕ)
 broker_of d =
     then_by (broker_texts Absent d) (λ texts.
-    then_by (lifetime_at Absent (codes "TimeToLive") d) (λ ttl.
+    then_by (lifetime_in d) (λ ttl.
     then_by (schedule_at (codes "ScheduledEnqueueTimeUtc") d) (λ schedule.
     Ok (record { texts = texts; ttl = ttl; schedule = schedule }))))
 

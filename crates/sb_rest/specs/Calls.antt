@@ -1,9 +1,11 @@
 -- Which request asks for which call, or what is at fault in it.
-use Rattle.std.specs.Prelude.{◌≡◌, ℕ, suc, List, codes, bytes_eq, Option, Some, None, Result, Ok, Err, if◌then◌else◌}
+use Rattle.std.specs.Prelude.{◌≡◌, ℕ, suc, Bool, true, List, [], ◌∷◌, codes, bytes_eq, is_some, Option, Some, None, Result, Ok, Err, if◌then◌else◌}
+use Rattle.std.specs.List.{list_any}
 use Rattle.std.specs.Str.{str_to_ascii_lowercase}
 use Rattle.percent_encoding.specs.Percent.{percent_decode}
 use Rattle.sb_machine.specs.declared.call.Act.{Act}
 use Rattle.sb_machine.specs.declared.call.Act.TheVariants.{Receive, Settle, Renew, Send}
+use Rattle.sb_machine.specs.declared.call.By.{By}
 use Rattle.sb_machine.specs.declared.call.How.{How}
 use Rattle.sb_machine.specs.declared.call.How.TheVariants.{Complete, Abandon}
 use Rattle.sb_machine.specs.declared.call.Mode.{Mode}
@@ -27,10 +29,12 @@ use Rattle.sb_routes.specs.Routes.{route_of}
 use Rattle.sb_rest.specs.declared.asked.Asked.{Asked}
 use Rattle.sb_rest.specs.declared.asked.Asked.TheVariants as asked
 use Rattle.sb_rest.specs.declared.call.RestFault.{RestFault}
-use Rattle.sb_rest.specs.declared.call.RestFault.TheVariants.{NoRoute, BadMethod, Bad, Script, OutOfMemory}
+use Rattle.sb_rest.specs.declared.call.RestFault.TheVariants.{Foreign, NoRoute, BadMethod, Bad, Script, OutOfMemory}
 use Rattle.sb_rest.specs.declared.call.Wanted.{Wanted}
 use Rattle.sb_rest.specs.Batches as batches
+use Rattle.sb_rest.specs.Foreign.{is_foreign}
 use Rattle.sb_rest.specs.Headers.{message_in}
+use Rattle.sb_rest.specs.Repeats.{by_of}
 use Rattle.sb_rest.specs.Timeouts.{timeout_in}
 
 -- ---- methods
@@ -46,6 +50,24 @@ abbrev pub at_locked : Address → List ℕ → Option Asked
 at_locked a method =
     if bytes_eq method (codes "PUT") then Some (asked.Abandon a)
     else (if bytes_eq method (codes "DELETE") then Some (asked.Complete a) else if_post method (asked.Renew a))
+
+-- the methods of a route
+abbrev pub methods_of : Route → List (List ℕ)
+methods_of route.Messages = codes "POST" ∷ []
+methods_of (route.Head a) = codes "DELETE" ∷ codes "POST" ∷ []
+methods_of (route.Locked a) = codes "DELETE" ∷ codes "POST" ∷ codes "PUT" ∷ []
+methods_of route.Script = codes "POST" ∷ []
+
+-- whether a route takes this method
+abbrev pub takes : Route → List ℕ → Bool
+takes route.Messages method = is_some (if_post method asked.Send)
+takes (route.Head a) method = is_some (at_head a method)
+takes (route.Locked a) method = is_some (at_locked a method)
+takes route.Script method = bytes_eq method (codes "POST")
+
+-- those are all
+abbrev pub MethodsAreAll : Type 0
+MethodsAreAll = (r : Route) (method : List ℕ) → takes r method ≡ list_any (bytes_eq method) (methods_of r)
 
 -- ---- what the path says
 
@@ -94,24 +116,28 @@ renewed from id token = Renew from (Id id) token
 abbrev pub taken : Address → Mode → List ℕ → Result Act (List ℕ)
 taken a mode path = then_by (address_in a path) (λ from. Ok (Receive from mode None))
 
-abbrev pub in_time : Act → ℕ → Wanted
-in_time act timeout = record { call = record { by = None; act = act }; timeout = timeout }
+abbrev pub in_time : Option By → Act → ℕ → Wanted
+in_time by act timeout = record { call = record { by = by; act = act }; timeout = timeout }
 
--- the query is judged behind the path
-abbrev pub with_timeout : List ℕ → Result Act (List ℕ) → Result Wanted (List ℕ)
-with_timeout query act = then_by act (λ a. then_by (timeout_in query) (λ timeout. Ok (in_time a timeout)))
+-- how long it may wait, and its number
+abbrev pub beside : List ℕ → List Field → Result (ℕ × Option By) (List ℕ)
+beside query fields = then_by (timeout_in query) (λ timeout. then_by (by_of fields) (λ by. Ok (timeout, by)))
+
+-- the query is judged behind the path, and the number of the call behind that
+abbrev pub asked_with : List ℕ → List Field → Result Act (List ℕ) → Result Wanted (List ℕ)
+asked_with query fields act = then_by act (λ a. then_by (beside query fields) (λ b. Ok (in_time b.1 a b.0)))
 
 -- those of a batch, or the one whose headers and body these are
 abbrev pub messages_in : List Field → List ℕ → Result (List Message) (List ℕ)
 messages_in fields body = if batches.is_batch fields then batches.messages_in body else message_in fields body
 
--- headers and body are judged behind path and query
+-- the message is judged behind these
 unfoldable pub sent : List ℕ → List ℕ → List Field → List ℕ → Result Wanted (List ℕ)
 sent path query fields body =
     then_by (name_in 1 path) (λ name.
-    then_by (timeout_in query) (λ timeout.
+    then_by (beside query fields) (λ b.
     then_by (messages_in fields body) (λ messages.
-    Ok (in_time (Send (record { name = name; subscription = None; part = Main }) messages None) timeout))))
+    Ok (in_time b.1 (Send (record { name = name; subscription = None; part = Main }) messages None) b.0))))
 
 -- ---- the call
 
@@ -123,35 +149,40 @@ or_bad (Ok w) = Ok w
 -- the path, the query, the headers and the body together
 unfoldable pub wanted_by : Asked → List ℕ → List ℕ → List Field → List ℕ → Result Wanted (List ℕ)
 wanted_by asked.Send path query fields body = sent path query fields body
-wanted_by (asked.Take a mode) path query fields body = with_timeout query (taken a mode path)
-wanted_by (asked.Abandon a) path query fields body = with_timeout query (with_locked a path (settled Abandon))
-wanted_by (asked.Complete a) path query fields body = with_timeout query (with_locked a path (settled Complete))
-wanted_by (asked.Renew a) path query fields body = with_timeout query (with_locked a path renewed)
+wanted_by (asked.Take a mode) path query fields body = asked_with query fields (taken a mode path)
+wanted_by (asked.Abandon a) path query fields body = asked_with query fields (with_locked a path (settled Abandon))
+wanted_by (asked.Complete a) path query fields body = asked_with query fields (with_locked a path (settled Complete))
+wanted_by (asked.Renew a) path query fields body = asked_with query fields (with_locked a path renewed)
 
-abbrev pub on_asked : Option Asked → RequestMessage → Result Wanted RestFault
-on_asked None m = Err BadMethod
-on_asked (Some asked) m = or_bad (wanted_by asked (path_of m.head.target) (query_of m.head.target) m.head.fields m.body)
+abbrev pub on_asked : Route → Option Asked → RequestMessage → Result Wanted RestFault
+on_asked r None m = Err (BadMethod r)
+on_asked r (Some asked) m = or_bad (wanted_by asked (path_of m.head.target) (query_of m.head.target) m.head.fields m.body)
 
 -- a script line is no call of its own
 abbrev pub on_script : List ℕ → Result Wanted RestFault
-on_script method = if bytes_eq method (codes "POST") then Err Script else Err BadMethod
+on_script method = if bytes_eq method (codes "POST") then Err Script else Err (BadMethod route.Script)
 
 abbrev pub on_route : Option Route → RequestMessage → Result Wanted RestFault
 on_route None m = Err NoRoute
-on_route (Some route.Messages) m = on_asked (if_post m.head.method asked.Send) m
-on_route (Some (route.Head a)) m = on_asked (at_head a m.head.method) m
-on_route (Some (route.Locked a)) m = on_asked (at_locked a m.head.method) m
+on_route (Some route.Messages) m = on_asked route.Messages (if_post m.head.method asked.Send) m
+on_route (Some (route.Head a)) m = on_asked (route.Head a) (at_head a m.head.method) m
+on_route (Some (route.Locked a)) m = on_asked (route.Locked a) (at_locked a m.head.method) m
 on_route (Some route.Script) m = on_script m.head.method
 
--- the call of a request, or why it is none: first its path, then its method, then the first key at fault
+-- the call of a request, or why it is none: first who made it, then its path, then its method, then the first key at fault
 abbrev pub call_of : RequestMessage → Result Wanted RestFault
-call_of m = on_route (route_of (path_of m.head.target)) m
+call_of m = if is_foreign m.head.fields then Err Foreign else on_route (route_of (path_of m.head.target)) m
+
+-- no page of another origin makes a call
+abbrev pub NoneIsForeign : Type 0
+NoneIsForeign = (m : RequestMessage) → is_foreign m.head.fields ≡ true → call_of m ≡ Err Foreign
 
 -- the result is what is said, or memory was wanting
 abbrev pub Answers : Result Wanted RestFault → Result Wanted RestFault → Type 0
 Answers (Ok w) said = said ≡ Ok w
+Answers (Err Foreign) said = said ≡ Err Foreign
 Answers (Err NoRoute) said = said ≡ Err NoRoute
-Answers (Err BadMethod) said = said ≡ Err BadMethod
+Answers (Err (BadMethod r)) said = said ≡ Err (BadMethod r)
 Answers (Err (Bad key)) said = said ≡ Err (Bad key)
 Answers (Err Script) said = said ≡ Err Script
 Answers (Err OutOfMemory) said = Unit {0}

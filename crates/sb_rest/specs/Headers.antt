@@ -1,5 +1,5 @@
 -- What the headers of a send say of its message.
-use Rattle.std.specs.Prelude.{ℕ, Bool, ◌||◌, List, [], ◌∷◌, codes, Option, Some, None, Result, Ok, Err, if◌then◌else◌}
+use Rattle.std.specs.Prelude.{ℕ, Bool, List, [], ◌∷◌, codes, Option, Some, None, Result, Ok, Err, if◌then◌else◌}
 use Rattle.std.specs.List.{list_any}
 use Rattle.std.specs.Str.{str_to_ascii_lowercase}
 use Rattle.sb_http.specs.Fields.{Field, same_word}
@@ -10,51 +10,9 @@ use Rattle.sb_model.specs.declared.message.Message.{Message}
 use Rattle.sb_model.specs.declared.message.SystemName.TheVariants.{ContentType}
 use Rattle.sb_rest.specs.declared.draft.Draft.{Draft}
 use Rattle.sb_rest.specs.Brokers.{no_broker, broker_in}
+use Rattle.sb_rest.specs.Reserved.{is_reserved}
 use Rattle.sb_rest.specs.Values.{header_value}
 use Rattle.sb_routes.specs.Paths.{as_text}
-
--- ---- reserved names
-
--- how the message goes
-abbrev pub is_framing : List ℕ → Bool
-is_framing name =
-    same_word (codes "host") name
-    || same_word (codes "content-length") name
-    || same_word (codes "content-type") name
-    || same_word (codes "content-encoding") name
-    || same_word (codes "transfer-encoding") name
-    || same_word (codes "connection") name
-    || same_word (codes "keep-alive") name
-    || same_word (codes "te") name
-    || same_word (codes "trailer") name
-
--- what is asked for, and by whom
-abbrev pub is_asking : List ℕ → Bool
-is_asking name =
-    same_word (codes "upgrade") name
-    || same_word (codes "expect") name
-    || same_word (codes "via") name
-    || same_word (codes "date") name
-    || same_word (codes "user-agent") name
-    || same_word (codes "accept") name
-    || same_word (codes "accept-charset") name
-    || same_word (codes "accept-encoding") name
-    || same_word (codes "accept-language") name
-
-abbrev pub is_other : List ℕ → Bool
-is_other name =
-    same_word (codes "cache-control") name
-    || same_word (codes "pragma") name
-    || same_word (codes "authorization") name
-    || same_word (codes "brokerproperties") name
-    || same_word (codes "location") name
-    || same_word (codes "origin") name
-    || same_word (codes "referer") name
-    || same_word (codes "cookie") name
-
--- names of headers that are no user properties
-unfoldable pub is_reserved : List ℕ → Bool
-is_reserved name = is_framing name || is_asking name || is_other name
 
 -- ---- one line
 

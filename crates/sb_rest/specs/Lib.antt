@@ -1,11 +1,16 @@
 pub mod Timeouts
 pub mod Values
+pub mod Lifetimes
 pub mod Brokers
+pub mod Reserved
 pub mod Headers
 pub mod Batches
 pub mod Lines
+pub mod Repeats
+pub mod Foreign
 pub mod Calls
 pub mod Moments
+pub mod Escapes
 pub mod Shown
 pub mod Responses
 pub mod Worked

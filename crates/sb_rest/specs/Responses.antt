@@ -1,5 +1,5 @@
 -- What answers a call over HTTP.
-use Rattle.std.specs.Prelude.{◌≡◌, ℕ, Bool, true, false, List, [], ◌∷◌, codes, Option, Some, None, find, Result, Ok, Err}
+use Rattle.std.specs.Prelude.{◌≡◌, ℕ, Bool, true, false, List, [], ◌∷◌, ◌++◌, codes, Option, Some, None, find, Result, Ok, Err}
 use Rattle.serde_json.specs.Written.{compact_text}
 use Rattle.sb_machine.specs.declared.call.Act.{Act}
 use Rattle.sb_machine.specs.declared.call.Act.TheVariants.{Send, Receive, Settle, Renew}
@@ -18,8 +18,10 @@ use Rattle.sb_http.specs.declared.response.Status.TheVariants as status
 use Rattle.sb_http.specs.Fields.{Field, same_word}
 use Rattle.sb_http.specs.Responses.{ResponseMessage}
 use Rattle.sb_lines.specs.Refusals.{plain, refusal_data}
+use Rattle.sb_routes.specs.declared.routes.Route.{Route}
 use Rattle.sb_rest.specs.declared.call.RestFault.{RestFault}
-use Rattle.sb_rest.specs.declared.call.RestFault.TheVariants.{NoRoute, BadMethod, Bad, Script, OutOfMemory}
+use Rattle.sb_rest.specs.declared.call.RestFault.TheVariants.{Foreign, NoRoute, BadMethod, Bad, Script, OutOfMemory}
+use Rattle.sb_rest.specs.Calls.{methods_of}
 use Rattle.sb_rest.specs.Moments.{IsTime, IsUntil}
 use Rattle.sb_rest.specs.Shown.{message_fields}
 
@@ -40,6 +42,9 @@ refusal_status (refusal.TooLarge size) = status.Forbidden
 refusal_status (refusal.QuotaExceeded copies adds) = status.Forbidden
 refusal_status refusal.LockLost = status.NotFound
 refusal_status (refusal.TxnPending txn) = status.Conflict
+refusal_status (refusal.StaleNumber kept) = status.Conflict
+refusal_status refusal.NumberReused = status.Conflict
+refusal_status refusal.ClientsFull = status.Conflict
 refusal_status refusal.OutOfMemory = status.ServiceUnavailable
 refusal_status _ = status.InternalServerError
 
@@ -57,10 +62,24 @@ refusal_ends _ = false
 abbrev pub refusal_response : Refusal → ResponseMessage
 refusal_response r = record { status = refusal_status r; fields = (codes "Content-Type", codes "application/json") ∷ []; body = refusal_text r; ends = refusal_ends r }
 
+-- words behind each other, as lists of header fields have them (RFC 9110, 5.6.1)
+abbrev pub and_later : List (List ℕ) → List ℕ
+and_later [] = []
+and_later (word ∷ words) = codes ", " ++ word ++ and_later words
+
+abbrev pub listed : List (List ℕ) → List ℕ
+listed [] = []
+listed (word ∷ words) = word ++ and_later words
+
+-- another method than a route's, with those that it has (RFC 9110, 15.5.6)
+abbrev pub method_response : Route → ResponseMessage
+method_response r = record { status = status.MethodNotAllowed; fields = (codes "Allow", listed (methods_of r)) ∷ []; body = []; ends = false }
+
 -- where a request is no call; a script line is answered by its reply
 abbrev pub fault_response : RestFault → ResponseMessage
+fault_response Foreign = bare status.Forbidden
 fault_response NoRoute = bare status.NotFound
-fault_response BadMethod = bare status.MethodNotAllowed
+fault_response (BadMethod r) = method_response r
 fault_response (Bad key) = refusal_response (refusal.BadCall key)
 fault_response Script = bare status.InternalServerError
 fault_response OutOfMemory = refusal_response refusal.OutOfMemory
@@ -106,10 +125,17 @@ GivesReply _ host reply r = r ≡ bare status.InternalServerError
 
 -- ---- answers
 
+-- the response that was due the first time, and that it is that
+abbrev pub as_kept : ResponseMessage → ResponseMessage
+as_kept r = record r { fields = r.fields ++ (codes "Repeat-Kept", codes "true") ∷ [] }
+
+abbrev pub GivesKept : Act → List ℕ → Reply → ResponseMessage → Type 0
+GivesKept act host reply r = (first : ResponseMessage) × GivesReply act host reply first × (r ≡ as_kept first)
+
 -- this is the response to a call that is answered so; host is that of the request
 abbrev pub Gives : Act → Result Answered Refusal → List ℕ → ResponseMessage → Type 0
 Gives act (Err refused) host r = r ≡ refusal_response refused
-Gives act (Ok (Kept reply)) host r = r ≡ bare status.InternalServerError
+Gives act (Ok (Kept reply)) host r = GivesKept act host reply r
 Gives act (Ok (New reply)) host r = GivesReply act host reply r
 
 -- the host of a request, as it was sent

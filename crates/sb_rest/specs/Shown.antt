@@ -1,6 +1,6 @@
 -- A message in a response: its headers, in their order.
 use Rattle.std.specs.Prelude.{ℕ, Bool, true, false, not, ◌&&◌, ◌||◌, nat_le, ◌==◌, List, [], ◌∷◌, ◌++◌, codes, Option, Some, None, if◌then◌else◌}
-use Rattle.std.specs.List.{list_all, list_any, flat_map}
+use Rattle.std.specs.List.{list_all, flat_map}
 use Rattle.std.specs.Fmt.{decimal, signed_decimal}
 use Rattle.json.specs.Print.{quoted}
 use Rattle.httparse.specs.Grammar.{is_token}
@@ -20,13 +20,10 @@ use Rattle.sb_machine.specs.declared.call.Path.{Path}
 use Rattle.sb_machine.specs.declared.call.Token.{Token}
 use Rattle.sb_http.specs.Fields.{Field}
 use Rattle.sb_lines.specs.Tokens.{token_text}
-use Rattle.sb_rest.specs.Headers.{is_reserved}
+use Rattle.sb_rest.specs.Escapes.{ascii_json}
+use Rattle.sb_rest.specs.Reserved.{is_hidden}
 
--- ---- texts that may stand in a header
-
--- JSON escapes every other control
-abbrev pub has_delete : List ℕ → Bool
-has_delete text = list_any (λ b. b == 127) text
+-- ---- texts that may stand in a header as they are
 
 -- no control but a tab
 abbrev pub is_printable : List ℕ → Bool
@@ -36,7 +33,7 @@ is_printable text = list_all (λ b. (nat_le 32 b && not (b == 127)) || (b == 9))
 
 -- ContentType has a header of its own
 abbrev pub is_shown : SystemText → Bool
-is_shown t = not (system_code t.name == 8) && not (has_delete t.text)
+is_shown t = not (system_code t.name == 8)
 
 abbrev pub with_shown : SystemText → Members → Members
 with_shown t ms = if is_shown t then put (system_name t.name) (string t.text) ms else ms
@@ -64,7 +61,7 @@ broker_members enqueued until c =
     (put (codes "DeliveryCount") (number (unsigned c.delivery)) (with_texts c.message.sys no_members))))))
 
 unfoldable pub broker_text : List ℕ → List ℕ → CopyShown → List ℕ
-broker_text enqueued until c = compact_text (object (broker_members enqueued until c))
+broker_text enqueued until c = ascii_json (compact_text (object (broker_members enqueued until c)))
 
 -- ---- Location
 
@@ -103,18 +100,13 @@ type_fields t = if is_type t then (codes "Content-Type", t.text) ∷ [] else []
 -- a text as a JSON string, a number or a truth value as it is
 abbrev pub value_text : PropertyValue → List ℕ
 value_text (Int z) = signed_decimal z
-value_text (Text text) = quoted text
+value_text (Text text) = ascii_json (quoted text)
 value_text (Truth true) = codes "true"
 value_text (Truth false) = codes "false"
 
-abbrev pub value_stands : PropertyValue → Bool
-value_stands (Int z) = true
-value_stands (Text text) = not (has_delete text)
-value_stands (Truth b) = true
-
--- its name is one that a header may have and isn't reserved, and its value may stand there
+-- its name is one that a header may have, and says nothing else there
 unfoldable pub stands : Property → Bool
-stands p = is_token p.name && not (is_reserved p.name) && value_stands p.value
+stands p = is_token p.name && not (is_hidden p.name)
 
 abbrev pub property_fields : Property → List Field
 property_fields p = if stands p then (p.name, value_text p.value) ∷ [] else []

@@ -1,5 +1,5 @@
 -- Requests that were worked out by hand, and what they ask for.
-use Rattle.std.specs.Prelude.{ℕ, List, [], ◌∷◌, codes, None, Result, Ok}
+use Rattle.std.specs.Prelude.{ℕ, List, [], ◌∷◌, codes, Some, None, Result, Ok}
 use Rattle.sb_machine.specs.declared.call.Act.TheVariants.{Receive, Send}
 use Rattle.sb_machine.specs.declared.call.Mode.TheVariants.{Lock}
 use Rattle.sb_machine.specs.declared.call.Part.TheVariants.{Main}
@@ -12,6 +12,7 @@ use Rattle.sb_http.specs.Fields.{Field}
 use Rattle.sb_http.specs.Messages.{RequestMessage}
 use Rattle.sb_rest.specs.declared.call.RestFault.{RestFault}
 use Rattle.sb_rest.specs.declared.call.Wanted.{Wanted}
+use Rattle.sb_rest.specs.declared.draft.Broker.{Broker}
 use Rattle.sb_rest.specs.Calls.{in_time}
 
 -- this request of HTTP/1.1 to the host h
@@ -26,12 +27,27 @@ q = record { name = codes "q"; subscription = None; part = Main }
 abbrev pub text_alone : List ℕ → Message
 text_alone body = record { body = body; sys = []; props = []; ttl = None; schedule = None }
 
+-- a time to live of so many s and no more
+abbrev pub living : ℕ → Broker
+living ttl = record { texts = []; ttl = Some ttl; schedule = None }
+
+-- "für" and U+1F600 in UTF-8
+abbrev pub with_umlaut : List ℕ
+with_umlaut = 102 ∷ 195 ∷ 188 ∷ 114 ∷ []
+
+abbrev pub smile : List ℕ
+smile = 240 ∷ 159 ∷ 152 ∷ 128 ∷ []
+
 -- these messages to q
 abbrev pub sends : List Message → Result Wanted RestFault
-sends messages = Ok (in_time (Send q messages None) 60)
+sends messages = Ok (in_time None (Send q messages None) 60)
 
 abbrev pub takes : ℕ → Result Wanted RestFault
-takes timeout = Ok (in_time (Receive q Lock None) timeout)
+takes timeout = Ok (in_time None (Receive q Lock None) timeout)
+
+-- the same as call 7 of c
+abbrev pub takes_as : ℕ → Result Wanted RestFault
+takes_as timeout = Ok (in_time (Some (record { client = codes "c"; number = 7 })) (Receive q Lock None) timeout)
 
 -- ---- a response
 

@@ -16,10 +16,11 @@ pub enum Asked {
     Renew(Address),
 }
 
-pub(crate) fn is(method: &[u8], word: &[u8]) -> bool
-    ensures { result ≡ bytes_eq method.now word.now }
+/// Whether these are the same bytes.
+pub(crate) fn is(bytes: &[u8], word: &[u8]) -> bool
+    ensures { result ≡ bytes_eq bytes.now word.now }
 {
-    method == word
+    bytes == word
 }
 
 /// At POST, this.

@@ -1,5 +1,5 @@
 // Several messages in one send.
-ghost use Rattle.std.specs.Prelude.{◌≡◌, [], map, All, length, take, drop, option_map, codes};
+ghost use Rattle.std.specs.Prelude.{◌≡◌, [], map, All, length, drop, option_map, codes};
 ghost use Rattle.std.specs.List.{list_all};
 ghost use Rattle.serde_json.specs.Find.{as_array};
 ghost use Rattle.httparse.specs.Spans.{IsHeaderWithin, header_bytes};
@@ -10,6 +10,7 @@ ghost use Rattle.sb_rest.specs.Batches as batches;
 
 use crate::broker::broker_of;
 use crate::draft::{Broker, Draft, message_from, no_broker};
+use crate::reserved::front;
 use crate::value::json_text;
 use httparse::spans::HeaderSpan;
 use sb_http::is_word;
@@ -23,12 +24,6 @@ use std::alloc::Global;
 const BATCH_TYPE: &[u8] = b"application/vnd.microsoft.servicebus.json";
 
 // ---- the media type
-
-fn front(bytes: &[u8], n: usize) -> &[u8]
-    ensures { result.now ≡ take n bytes.now }
-{
-    if n <= bytes.len() { &bytes[..n] } else { bytes }
-}
 
 fn behind(bytes: &[u8], n: usize) -> &[u8]
     ensures { result.now ≡ drop n bytes.now }

@@ -7,15 +7,16 @@ ghost use Rattle.sb_lines.specs.declared.texts.Nulls.TheVariants.{Absent};
 ghost use Rattle.sb_rest.specs.Brokers as brokers;
 
 use crate::draft::Broker;
+use crate::lifetime::lifetime_in;
 use crate::value::json_text;
 use httpdate::HttpDate;
-use sb_lines::{LineFault, Nulls, bad, broker_texts, lifetime_at};
+use sb_lines::{LineFault, Nulls, bad, broker_texts};
 use sb_routes::text_of;
 use serde_json::Value;
 use std::alloc::{AllocError, Global};
 
-// The member of this name; a null counts as absent.
-fn given_at<'a>(value: &'a Value, key: &str) -> Option<&'a Value>
+/// The member of this name; a null counts as absent.
+pub(crate) fn given_at<'a>(value: &'a Value, key: &str) -> Option<&'a Value>
     ensures { option_map (λ v. view v.now) result ≡ member_at Absent key.now (view value.now) }
 {
     let member = value.get(key)?;
@@ -57,7 +58,7 @@ pub(crate) fn broker_of(alloc: Global, value: &Value) -> Result<Broker, LineFaul
     ensures { Answers result (brokers.broker_of (view value.now)) }
 {
     let texts = broker_texts(alloc, value, Nulls::Absent)?;
-    let ttl = lifetime_at(alloc, value, "TimeToLive", Nulls::Absent)?;
+    let ttl = lifetime_in(alloc, value)?;
     let schedule = schedule_at(alloc, value, "ScheduledEnqueueTimeUtc")?;
     Ok(Broker {
         texts,

@@ -1,5 +1,5 @@
 // Requests as calls.
-ghost use Rattle.std.specs.Prelude.{◌≡◌, All, length, map, IfOk, Some};
+ghost use Rattle.std.specs.Prelude.{◌≡◌, All, length, map, IfOk, Ok, Some};
 ghost use Rattle.httparse.specs.Spans.{IsHeaderWithin, header_bytes};
 ghost use Rattle.sb_http.specs.Said.{said_by};
 ghost use Rattle.sb_machine.specs.Ordered.{IsActInOrder};
@@ -10,13 +10,15 @@ ghost use Rattle.sb_rest.specs.Calls as calls;
 use crate::act::{renewed, settled, taken};
 use crate::asked::{Asked, at_head, at_locked, if_post, is};
 use crate::batch::{is_batch, messages_in as batch_in};
+use crate::foreign::is_foreign;
 use crate::header::message_in;
 use crate::path::name_in;
+use crate::repeat::by_in;
 use crate::timeout::timeout_in;
 use httparse::spans::HeaderSpan;
 use sb_http::Request;
 use sb_lines::LineFault;
-use sb_machine::{Act, Call, How, Mode, Part, Path};
+use sb_machine::{Act, By, Call, How, Mode, Part, Path};
 use sb_model::{Message, Rows, Text};
 use sb_routes::{Address, Route, Routes, cut};
 use std::alloc::Global;
@@ -24,10 +26,12 @@ use std::alloc::Global;
 /// Why a request is no call.
 #[derive(Drop)]
 pub enum RestFault {
+    /// A web page of another origin made the request.
+    Foreign,
     /// There is no such path.
     NoRoute,
-    /// The path isn't used with this method.
-    BadMethod,
+    /// The path of this route isn't used with this method.
+    BadMethod { route: Route },
     /// This key is the first at fault.
     Bad { key: Text },
     /// The body is a script line, and the reply to it is the response.
@@ -59,13 +63,27 @@ fn messages_in(
     message_in(alloc, text, lines, body)
 }
 
-fn in_time(act: Act, timeout: u64) -> Wanted
-    ensures { result ≡ calls.in_time act timeout }
+fn in_time(by: Option<By>, act: Act, timeout: u64) -> Wanted
+    ensures { result ≡ calls.in_time by act timeout }
 {
     Wanted {
-        call: Call { by: None, act },
+        call: Call { by, act },
         timeout,
     }
+}
+
+fn beside(
+    alloc: Global,
+    query: &[u8],
+    text: &[u8],
+    lines: &[HeaderSpan],
+) -> Result<(u64, Option<By>), LineFault>
+    requires { All (IsHeaderWithin (length text.now)) lines.now }
+    ensures { Answers result (calls.beside query.now (map (header_bytes text.now) lines.now)) }
+{
+    let timeout = timeout_in(alloc, query)?;
+    let by = by_in(alloc, text, lines)?;
+    Ok((timeout, by))
 }
 
 #[tactic(auto, unfolding(crate::specs::Calls::sent))]
@@ -81,7 +99,7 @@ fn sent(
     ensures { Answers result (calls.sent path.now query.now (map (header_bytes text.now) lines.now) body.now) }
 {
     let name = name_in(alloc, path, 1)?;
-    let timeout = timeout_in(alloc, query)?;
+    let (timeout, by) = beside(alloc, query, text, lines)?;
     let messages = messages_in(alloc, text, lines, body)?;
     let to = Path {
         name,
@@ -93,7 +111,27 @@ fn sent(
         messages,
         txn: None,
     };
-    Ok(in_time(act, timeout))
+    Ok(in_time(by, act, timeout))
+}
+
+// A call of an act, or what is at fault beside it.
+fn finish(
+    alloc: Global,
+    act: Act,
+    query: &[u8],
+    text: &[u8],
+    lines: &[HeaderSpan],
+) -> Result<Wanted, LineFault>
+    requires { All (IsHeaderWithin (length text.now)) lines.now }
+    ensures { Answers result (calls.asked_with query.now (map (header_bytes text.now) lines.now) (Ok act)) }
+{
+    match beside(alloc, query, text, lines) {
+        Ok((timeout, by)) => Ok(in_time(by, act, timeout)),
+        Err(fault) => {
+            drop(act);
+            Err(fault)
+        }
+    }
 }
 
 fn take(
@@ -102,17 +140,14 @@ fn take(
     mode: Mode,
     path: &[u8],
     query: &[u8],
+    text: &[u8],
+    lines: &[HeaderSpan],
 ) -> Result<Wanted, LineFault>
-    ensures { Answers result (calls.with_timeout query.now (calls.taken address mode path.now)) }
+    requires { All (IsHeaderWithin (length text.now)) lines.now }
+    ensures { Answers result (calls.asked_with query.now (map (header_bytes text.now) lines.now) (calls.taken address mode path.now)) }
 {
     let act = taken(alloc, address, mode, path)?;
-    match timeout_in(alloc, query) {
-        Ok(timeout) => Ok(in_time(act, timeout)),
-        Err(fault) => {
-            drop(act);
-            Err(fault)
-        }
-    }
+    finish(alloc, act, query, text, lines)
 }
 
 fn settle(
@@ -121,30 +156,29 @@ fn settle(
     how: How,
     path: &[u8],
     query: &[u8],
+    text: &[u8],
+    lines: &[HeaderSpan],
 ) -> Result<Wanted, LineFault>
-    ensures { Answers result (calls.with_timeout query.now (calls.with_locked address path.now (calls.settled how))) }
+    requires { All (IsHeaderWithin (length text.now)) lines.now }
+    ensures { Answers result (calls.asked_with query.now (map (header_bytes text.now) lines.now) (calls.with_locked address path.now (calls.settled how))) }
 {
     let act = settled(alloc, address, path, how)?;
-    match timeout_in(alloc, query) {
-        Ok(timeout) => Ok(in_time(act, timeout)),
-        Err(fault) => {
-            drop(act);
-            Err(fault)
-        }
-    }
+    finish(alloc, act, query, text, lines)
 }
 
-fn renew(alloc: Global, address: Address, path: &[u8], query: &[u8]) -> Result<Wanted, LineFault>
-    ensures { Answers result (calls.with_timeout query.now (calls.with_locked address path.now calls.renewed)) }
+fn renew(
+    alloc: Global,
+    address: Address,
+    path: &[u8],
+    query: &[u8],
+    text: &[u8],
+    lines: &[HeaderSpan],
+) -> Result<Wanted, LineFault>
+    requires { All (IsHeaderWithin (length text.now)) lines.now }
+    ensures { Answers result (calls.asked_with query.now (map (header_bytes text.now) lines.now) (calls.with_locked address path.now calls.renewed)) }
 {
     let act = renewed(alloc, address, path)?;
-    match timeout_in(alloc, query) {
-        Ok(timeout) => Ok(in_time(act, timeout)),
-        Err(fault) => {
-            drop(act);
-            Err(fault)
-        }
-    }
+    finish(alloc, act, query, text, lines)
 }
 
 // A method and a path that go together, before the query, the headers and the body.
@@ -158,24 +192,23 @@ fn wanted_by(
 ) -> Result<Wanted, LineFault>
     ensures { Answers result (calls.wanted_by asked path.now query.now (said_by request.now).head.fields request.now.body.now) }
 {
+    let (text, lines) = (request.text, request.lines);
     match asked {
-        Asked::Send => sent(
-            alloc,
-            path,
-            query,
-            request.text,
-            request.lines,
-            request.body,
-        ),
-        Asked::Take(address, mode) => take(alloc, address, mode, path, query),
-        Asked::Abandon(address) => settle(alloc, address, How::Abandon, path, query),
-        Asked::Complete(address) => settle(alloc, address, How::Complete, path, query),
-        Asked::Renew(address) => renew(alloc, address, path, query),
+        Asked::Send => sent(alloc, path, query, text, lines, request.body),
+        Asked::Take(address, mode) => take(alloc, address, mode, path, query, text, lines),
+        Asked::Abandon(address) => {
+            settle(alloc, address, How::Abandon, path, query, text, lines)
+        }
+        Asked::Complete(address) => {
+            settle(alloc, address, How::Complete, path, query, text, lines)
+        }
+        Asked::Renew(address) => renew(alloc, address, path, query, text, lines),
     }
 }
 
 fn on_asked(
     alloc: Global,
+    route: Route,
     asked: Option<Asked>,
     path: &[u8],
     query: &[u8],
@@ -183,10 +216,10 @@ fn on_asked(
 ) -> Result<Wanted, RestFault>
     requires path { path.now ≡ path_of request.now.target.now }
     requires query { query.now ≡ query_of request.now.target.now }
-    ensures { calls.Answers result (calls.on_asked asked (said_by request.now)) }
+    ensures { calls.Answers result (calls.on_asked route asked (said_by request.now)) }
 {
     let Some(asked) = asked else {
-        return Err(RestFault::BadMethod);
+        return Err(RestFault::BadMethod { route });
     };
     match wanted_by(alloc, asked, path, query, request) {
         Ok(wanted) => Ok(wanted),
@@ -201,7 +234,9 @@ fn on_script(method: &[u8]) -> Result<Wanted, RestFault>
     if is(method, b"POST") {
         Err(RestFault::Script)
     } else {
-        Err(RestFault::BadMethod)
+        Err(RestFault::BadMethod {
+            route: Route::Script,
+        })
     }
 }
 
@@ -222,12 +257,15 @@ fn on_route(
         Route::Locked(address) => at_locked(address, request.method),
         Route::Script => return on_script(request.method),
     };
-    on_asked(alloc, asked, path, query, request)
+    on_asked(alloc, route, asked, path, query, request)
 }
 
 fn wanted_of(alloc: Global, routes: &Routes, request: &Request) -> Result<Wanted, RestFault>
     ensures { calls.Answers result (calls.call_of (said_by request.now)) }
 {
+    if is_foreign(request.text, request.lines) {
+        return Err(RestFault::Foreign);
+    }
     let (path, query) = cut(request.target, b'?');
     let Ok(route) = routes.of(alloc, path) else {
         return Err(RestFault::OutOfMemory);
@@ -238,9 +276,11 @@ fn wanted_of(alloc: Global, routes: &Routes, request: &Request) -> Result<Wanted
     on_route(alloc, route, path, query, request)
 }
 
-/// The call of a request, or why it is none: first that there is no such path, then that its method
+/// The call of a request, or why it is none: first that a page of another origin made it, then that
+/// there is no such path, then that its method
 /// isn't one of it, then the first key at fault, by its place: the path (`path`, `token`), the query
-/// (`timeout`), the headers as they stand, the body.
+/// (`timeout`), the number of the call (`Repeat-Client`, `Repeat-Number`), the headers as they stand,
+/// the body.
 pub fn call_of(alloc: Global, routes: &Routes, request: &Request) -> Result<Wanted, RestFault>
     ensures call { calls.Answers result (calls.call_of (said_by request.now)) }
     ensures in_order { IfOk result (λ wanted. IsActInOrder wanted.call.act) }

@@ -1,12 +1,16 @@
 // The headers of a message in a response.
-ghost use Rattle.std.specs.Prelude.{◌≡◌, ◌++◌, ◌∷◌, [], map, IfOk, OnOk, codes, string_bytes};
+ghost use Rattle.std.specs.Prelude.{◌≡◌, ◌++◌, ◌∷◌, [], map, IfOk, OnOk, codes};
+ghost use Rattle.std.specs.Fmt.{signed_decimal};
 ghost use Rattle.std.specs.List.{flat_map};
+ghost use Rattle.json.specs.Print.{quoted};
 ghost use Rattle.sb_http.specs.Responses.{field_in};
+ghost use Rattle.sb_rest.specs.Escapes.{ascii_json};
 ghost use Rattle.sb_rest.specs.Shown as shown;
 
+use crate::escape::ascii_json;
 use crate::location::location_text;
-use crate::reserved::is_reserved;
-use crate::shown::{broker_text, has_delete, json_line};
+use crate::reserved::is_hidden;
+use crate::shown::{broker_text, json_line};
 use httparse::is_token;
 use sb_http::Header;
 use sb_machine::{CopyShown, Path, Showing};
@@ -92,26 +96,29 @@ fn push_location(
 
 // ---- user properties
 
-fn value_text(alloc: Global, value: &PropertyValue) -> Result<String, AllocError>
-    ensures { IfOk result (λ s. string_bytes s ≡ shown.value_text value.now) }
+fn quoted(alloc: Global, text: &str) -> Result<Vec<u8>, AllocError>
+    ensures { IfOk result (λ v. v.items ≡ ascii_json (quoted text.now)) }
 {
-    match value {
-        PropertyValue::Int(n) => n.to_string(alloc),
-        PropertyValue::Text(text) => {
-            let value = Value::try_from_str(alloc, text.as_str())?;
-            json_line(alloc, &value)
-        }
-        PropertyValue::Bool(true) => String::from_str(alloc, "true"),
-        PropertyValue::Bool(false) => String::from_str(alloc, "false"),
-    }
+    let value = Value::try_from_str(alloc, text)?;
+    let line = json_line(alloc, &value)?;
+    ascii_json(alloc, line.as_str())
 }
 
-fn value_stands(value: &PropertyValue) -> bool
-    ensures { result ≡ shown.value_stands value.now }
+fn digits(alloc: Global, n: i64) -> Result<Vec<u8>, AllocError>
+    ensures { IfOk result (λ v. v.items ≡ signed_decimal n) }
+{
+    let text = n.to_string(alloc)?;
+    Ok(text.into_bytes())
+}
+
+fn value_text(alloc: Global, value: &PropertyValue) -> Result<Vec<u8>, AllocError>
+    ensures { IfOk result (λ v. v.items ≡ shown.value_text value.now) }
 {
     match value {
-        PropertyValue::Int(_) | PropertyValue::Bool(_) => true,
-        PropertyValue::Text(text) => !has_delete(text.as_str()),
+        PropertyValue::Int(n) => digits(alloc, *n),
+        PropertyValue::Text(text) => quoted(alloc, text.as_str()),
+        PropertyValue::Bool(true) => b"true".to_vec(alloc),
+        PropertyValue::Bool(false) => b"false".to_vec(alloc),
     }
 }
 
@@ -119,9 +126,7 @@ fn value_stands(value: &PropertyValue) -> bool
 fn stands(property: &Property) -> bool
     ensures { result ≡ shown.stands property.now }
 {
-    is_token(property.name.as_bytes())
-        && !is_reserved(property.name.as_bytes())
-        && value_stands(&property.value)
+    is_token(property.name.as_bytes()) && !is_hidden(property.name.as_bytes())
 }
 
 fn push_value(
@@ -133,7 +138,7 @@ fn push_value(
         ≡ map field_in headers.old.items ++ (property.now.name, shown.value_text property.now.value) ∷ []) }
 {
     let value = value_text(alloc, &property.value)?;
-    push_field(alloc, headers, property.name.as_bytes(), value.as_bytes())
+    push_field(alloc, headers, property.name.as_bytes(), &value)
 }
 
 fn push_property(
@@ -179,7 +184,7 @@ pub(crate) fn message_fields(
 {
     let mut headers = Vec::new(alloc);
     let broker = broker_text(alloc, enqueued, until, copy)?;
-    push_field(alloc, &mut headers, b"BrokerProperties", broker.as_bytes())?;
+    push_field(alloc, &mut headers, b"BrokerProperties", &broker)?;
     push_location(alloc, &mut headers, host, from, copy)?;
     push_types(alloc, &mut headers, copy.message.sys.as_slice())?;
     push_properties(alloc, &mut headers, copy.message.props.as_slice())?;

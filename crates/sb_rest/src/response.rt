@@ -5,6 +5,7 @@ ghost use Rattle.serde_json.specs.Written.{compact_text};
 ghost use Rattle.sb_lines.specs.Refusals.{plain, refusal_data};
 ghost use Rattle.sb_http.specs.Responses.{said_in};
 ghost use Rattle.sb_http.specs.Said.{fields_of};
+ghost use Rattle.sb_rest.specs.Calls.{methods_of};
 ghost use Rattle.sb_rest.specs.Responses as responses;
 
 use crate::call::RestFault;
@@ -15,6 +16,7 @@ use httparse::spans::HeaderSpan;
 use sb_http::{Request, Response, Status, is_word};
 use sb_lines::refusal_value;
 use sb_machine::{Act, Answer, Answered, Call, CopyShown, Mode, Path, Refusal, Reply};
+use sb_routes::Route;
 use std::alloc::{AllocError, Global};
 
 fn bare(alloc: Global, status: Status) -> Response
@@ -41,7 +43,10 @@ fn refusal_status(refusal: &Refusal) -> Status
         Refusal::EntityNotFound => Status::Gone,
         Refusal::TooLarge { .. } | Refusal::QuotaExceeded { .. } => Status::Forbidden,
         Refusal::LockLost => Status::NotFound,
-        Refusal::TxnPending { .. } => Status::Conflict,
+        Refusal::TxnPending { .. }
+        | Refusal::StaleNumber { .. }
+        | Refusal::NumberReused
+        | Refusal::ClientsFull => Status::Conflict,
         Refusal::OutOfMemory => Status::ServiceUnavailable,
         _ => Status::InternalServerError,
     }
@@ -93,14 +98,40 @@ fn refusal_response(alloc: Global, refusal: &Refusal) -> Result<Response, AllocE
     })
 }
 
+// The methods of a route as a list.
+fn allowed(route: Route) -> &'static [u8]
+    ensures { result.now ≡ responses.listed (methods_of route) }
+{
+    match route {
+        Route::Messages => b"POST",
+        Route::Head(_) => b"DELETE, POST",
+        Route::Locked(_) => b"DELETE, POST, PUT",
+        Route::Script => b"POST",
+    }
+}
+
+fn method_response(alloc: Global, route: Route) -> Result<Response, AllocError>
+    ensures { IfOk result (λ r. said_in r ≡ responses.method_response route) }
+{
+    let mut headers = Vec::new(alloc);
+    push_field(alloc, &mut headers, b"Allow", allowed(route))?;
+    Ok(Response {
+        status: Status::MethodNotAllowed,
+        headers,
+        body: Vec::new(alloc),
+        closes: false,
+    })
+}
+
 /// The response to a request that is no call. A script line is answered by the line of its reply, so
 /// `Script` has none of its own.
 pub fn fault_response(alloc: Global, fault: RestFault) -> Result<Response, AllocError>
     ensures { IfOk result (λ r. said_in r ≡ responses.fault_response fault) }
 {
     match fault {
+        RestFault::Foreign => Ok(bare(alloc, Status::Forbidden)),
         RestFault::NoRoute => Ok(bare(alloc, Status::NotFound)),
-        RestFault::BadMethod => Ok(bare(alloc, Status::MethodNotAllowed)),
+        RestFault::BadMethod { route } => method_response(alloc, route),
         RestFault::Bad { key } => refusal_response(alloc, &Refusal::BadCall { key }),
         RestFault::Script => Ok(bare(alloc, Status::InternalServerError)),
         RestFault::OutOfMemory => refusal_response(alloc, &Refusal::OutOfMemory),
@@ -201,9 +232,23 @@ fn reply_response(
 
 // ---- answers
 
+// The response that was due the first time, and that it is that.
+fn kept_response(
+    alloc: Global,
+    act: &Act,
+    host: &[u8],
+    reply: &Reply,
+) -> Result<Response, AllocError>
+    ensures { IfOk result (λ r. responses.GivesKept act.now host.now reply.now (said_in r)) }
+{
+    let mut response = reply_response(alloc, act, host, reply)?;
+    push_field(alloc, &mut response.headers, b"Repeat-Kept", b"true")?;
+    Ok(response)
+}
+
 /// The response to a call that is answered so. The host is that of the request (`host_of`): it stands
-/// in the Location of a message under a lock. A reply that no call of a route is answered, and a kept
-/// one, is an error of the server's own. It fails for want of memory alone.
+/// in the Location of a message under a lock. A reply that no call of a route is answered is an error
+/// of the server's own. It fails for want of memory alone.
 pub fn response_of(
     alloc: Global,
     call: &Call,
@@ -214,7 +259,7 @@ pub fn response_of(
 {
     match answer {
         Ok(Answered::New(reply)) => reply_response(alloc, &call.act, host, reply),
-        Ok(Answered::Kept(_)) => Ok(bare(alloc, Status::InternalServerError)),
+        Ok(Answered::Kept(reply)) => kept_response(alloc, &call.act, host, reply),
         Err(refusal) => refusal_response(alloc, refusal),
     }
 }

@@ -5,6 +5,7 @@ ghost use Rattle.serde_json.specs.View.{view, members_view};
 ghost use Rattle.serde_json.specs.Written.{has_float, compact_text};
 ghost use Rattle.sb_rest.specs.Shown as shown;
 
+use crate::escape::ascii_json;
 use sb_lines::token_text;
 use sb_machine::{CopyShown, Showing};
 use sb_model::SystemText;
@@ -13,17 +14,10 @@ use std::alloc::{AllocError, Global};
 
 type Members = Map<String, Value>;
 
-/// Whether a text has U+007F, which JSON doesn't escape and no header may have.
-pub(crate) fn has_delete(text: &str) -> bool
-    ensures { result ≡ shown.has_delete text.now }
-{
-    text.as_bytes().iter().any(|b| *b == 127)
-}
-
 fn is_shown(text: &SystemText) -> bool
     ensures { result ≡ shown.is_shown text.now }
 {
-    text.name.code() != 8 && !has_delete(text.text.as_str())
+    text.name.code() != 8
 }
 
 fn put_text(members: &mut Members, alloc: Global, key: &str, text: &str) -> Result<(), AllocError>
@@ -143,9 +137,10 @@ pub(crate) fn broker_text(
     enqueued: &str,
     until: &str,
     copy: &CopyShown,
-) -> Result<String, AllocError>
-    ensures { IfOk result (λ s. string_bytes s ≡ shown.broker_text enqueued.now until.now copy.now) }
+) -> Result<Vec<u8>, AllocError>
+    ensures { IfOk result (λ v. v.items ≡ shown.broker_text enqueued.now until.now copy.now) }
 {
     let value = broker_value(alloc, enqueued, until, copy)?;
-    json_line(alloc, &value)
+    let text = json_line(alloc, &value)?;
+    ascii_json(alloc, text.as_str())
 }

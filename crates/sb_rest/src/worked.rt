@@ -1,23 +1,39 @@
 // Requests and their calls, worked out by hand.
-ghost use Rattle.std.specs.Prelude.{◌≡◌, ◌∷◌, [], codes, true, Err, Ok, pos, neg_ℤ};
+ghost use Rattle.std.specs.Prelude.{◌≡◌, ◌∷◌, [], codes, true, Err, None, Ok, Some, pos, neg_ℤ};
+ghost use Rattle.serde_json.specs.Data.{string};
+ghost use Rattle.serde_json.specs.Read.{read};
 ghost use Rattle.sb_machine.specs.declared.reply.Refusal.TheVariants.{BadCall, Stopped};
 ghost use Rattle.sb_model.specs.declared.message.PropertyValue.TheVariants.{Int, Text};
-ghost use Rattle.sb_rest.specs.declared.call.RestFault.TheVariants.{NoRoute, BadMethod, Bad, Script};
+ghost use Rattle.sb_machine.specs.declared.call.Part.TheVariants.{Main};
+ghost use Rattle.sb_routes.specs.declared.routes.Address.TheVariants.{Entity};
+ghost use Rattle.sb_routes.specs.declared.routes.Route.TheVariants.{Messages, Locked};
+ghost use Rattle.sb_rest.specs.declared.call.RestFault.TheVariants.{Foreign, NoRoute, BadMethod, Bad, Script};
 ghost use Rattle.sb_rest.specs.Batches as batches;
 ghost use Rattle.sb_rest.specs.Brokers.{broker_in};
 ghost use Rattle.sb_rest.specs.Calls.{call_of};
+ghost use Rattle.sb_rest.specs.Escapes.{ascii_json};
+ghost use Rattle.sb_rest.specs.Lifetimes.{span_in};
 ghost use Rattle.sb_rest.specs.Values.{header_value};
-ghost use Rattle.sb_rest.specs.Responses.{refusal_text};
+ghost use Rattle.sb_rest.specs.Repeats as repeats;
+ghost use Rattle.sb_rest.specs.Responses.{refusal_text, method_response};
 ghost use Rattle.sb_rest.specs.Shown.{broker_text, location_text, property_fields};
-ghost use Rattle.sb_rest.specs.Worked.{request, sends, takes, text_alone, q, first_token, first_copy};
+ghost use Rattle.sb_rest.specs.Worked.{request, sends, takes, takes_as, living, text_alone, q, first_token, first_copy, with_umlaut, smile};
 
 /// The definitions say of these requests what was worked out by hand.
 pub fn worked_calls()
     ensures send { call_of (request (codes "POST") (codes "/Q/messages") ((codes "Content-Length", codes "2") ∷ []) (codes "hi")) ≡ sends (text_alone (codes "hi") ∷ []) }
+    ensures origin { call_of (request (codes "POST") (codes "/$script") ((codes "Origin", codes "null") ∷ []) []) ≡ Err Foreign }
+    ensures another_site { call_of (request (codes "DELETE") (codes "/x/y/z") ((codes "sec-fetch-site", codes "cross-site") ∷ []) []) ≡ Err Foreign }
+    ensures own_site { call_of (request (codes "POST") (codes "/$script") ((codes "Sec-Fetch-Site", codes "same-origin") ∷ (codes "Sec-Fetch-Site", codes "none") ∷ []) []) ≡ Err Script }
+    ensures no_property { call_of (request (codes "POST") (codes "/q/messages") ((codes "X-Forwarded-For", codes "1") ∷ (codes "Sec-Fetch-Mode", codes "cors") ∷ (codes "Proxy-Authorization", codes "b") ∷ (codes "DNT", codes "1") ∷ []) (codes "hi")) ≡ sends (text_alone (codes "hi") ∷ []) }
     ensures receive { call_of (request (codes "POST") (codes "/q/messages/head?timeout=0") [] []) ≡ takes 0 }
     ensures waits { call_of (request (codes "POST") (codes "/q/messages/head?a=b&timeout=%31&timeout=x") [] []) ≡ takes 1 }
+    ensures numbered { call_of (request (codes "POST") (codes "/q/messages/head?timeout=0") ((codes "repeat-client", codes "c") ∷ (codes "Repeat-Number", codes "007") ∷ []) []) ≡ takes_as 0 }
+    ensures client_alone { call_of (request (codes "POST") (codes "/q/messages/head") ((codes "Repeat-Client", codes "c") ∷ []) []) ≡ Err (Bad (codes "Repeat-Client")) }
+    ensures number_alone { call_of (request (codes "POST") (codes "/q/messages/head") ((codes "Repeat-Number", codes "1") ∷ []) []) ≡ Err (Bad (codes "Repeat-Number")) }
     ensures too_long { call_of (request (codes "POST") (codes "/q/messages/head?timeout=3601") [] []) ≡ Err (Bad (codes "timeout")) }
-    ensures method { call_of (request (codes "DELETE") (codes "/q/messages") [] []) ≡ Err BadMethod }
+    ensures method { call_of (request (codes "DELETE") (codes "/q/messages") [] []) ≡ Err (BadMethod Messages) }
+    ensures plain_script { call_of (request (codes "POST") (codes "/script") [] []) ≡ Err Script }
     ensures route { call_of (request (codes "GET") (codes "/x/y/z") [] []) ≡ Err NoRoute }
     ensures script { call_of (request (codes "POST") (codes "/$script") [] []) ≡ Err Script }
 {}
@@ -25,6 +41,20 @@ pub fn worked_calls()
 /// The same of headers and batches.
 pub fn worked_parts()
     ensures half_a_second { broker_in (codes "{\"TimeToLive\":1.5}") ≡ Err (codes "TimeToLive") }
+    ensures whole { broker_in (codes "{\"TimeToLive\":10.0}") ≡ Ok (living 10) }
+    ensures span { broker_in (codes "{\"TimeToLiveTimeSpan\":\"0.00:00:40\"}") ≡ Ok (living 40) }
+    ensures days { span_in (codes "1.02:03:04") ≡ Some 93784 }
+    ensures hour { span_in (codes "1.25:00:00") ≡ None }
+    ensures one_digit { span_in (codes "0.0:00:40") ≡ None }
+    ensures no_days { span_in (codes "00:00:40") ≡ None }
+    ensures fraction { span_in (codes "0.00:00:40.5") ≡ None }
+    ensures no_time { broker_in (codes "{\"TimeToLiveTimeSpan\":\"0.00:00:00\"}") ≡ Err (codes "TimeToLiveTimeSpan") }
+    ensures both_times { broker_in (codes "{\"TimeToLive\":40,\"TimeToLiveTimeSpan\":\"0.00:00:40\"}") ≡ Err (codes "TimeToLiveTimeSpan") }
+    ensures fraction_of_a_number { repeats.numbered (codes "c") (codes "1.5") ≡ Err (codes "Repeat-Number") }
+    ensures no_number { repeats.numbered (codes "c") (codes "0") ≡ Err (codes "Repeat-Number") }
+    ensures greatest { repeats.number_in (codes "9223372036854775807") ≡ Some 9223372036854775807 }
+    ensures above { repeats.number_in (codes "9223372036854775808") ≡ None }
+    ensures no_client { repeats.numbered [] (codes "1") ≡ Err (codes "Repeat-Client") }
     ensures no_object { broker_in (codes "7") ≡ Err (codes "BrokerProperties") }
     ensures number { header_value (codes "-7") ≡ Int (neg_ℤ (pos 7)) }
     ensures zeros { header_value (codes "007") ≡ Int (pos 7) }
@@ -44,5 +74,14 @@ pub fn worked_responses()
     ensures refused { refusal_text (BadCall (codes "TimeToLive")) ≡ codes "{\"key\":\"TimeToLive\",\"refused\":\"BadCall\"}" }
     ensures stopped { refusal_text (Stopped 1) ≡ codes "{\"refused\":\"Stopped\"}" }
     ensures property { property_fields (record { name = codes "a"; value = Text (codes "x") }) ≡ (codes "a", codes "\"x\"") ∷ [] }
+    ensures allow { (method_response (Locked (Entity Main))).fields ≡ (codes "Allow", codes "DELETE, POST, PUT") ∷ [] }
+    ensures umlaut { ascii_json with_umlaut ≡ codes "f\\u00fcr" }
+    ensures pair { ascii_json smile ≡ codes "\\ud83d\\ude00" }
+    ensures delete { ascii_json (126 ∷ 127 ∷ []) ≡ codes "~\\u007f" }
+    ensures same_umlaut { read (codes "\"f\\u00fcr\"") ≡ Some (string with_umlaut) }
+    ensures same_smile { read (codes "\"\\ud83d\\ude00\"") ≡ Some (string smile) }
+    ensures escaped { property_fields (record { name = codes "a"; value = Text with_umlaut }) ≡ (codes "a", codes "\"f\\u00fcr\"") ∷ [] }
+    ensures cookie { property_fields (record { name = codes "set-cookie"; value = Text (codes "x") }) ≡ [] }
+    ensures proxy { property_fields (record { name = codes "x-accel-redirect"; value = Text (codes "x") }) ≡ [] }
     ensures reserved { property_fields (record { name = codes "host"; value = Text (codes "x") }) ≡ [] }
 {}

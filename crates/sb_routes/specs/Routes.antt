@@ -58,8 +58,12 @@ with_row rows row = with_route row.0 row.1 rows
 abbrev pub with_rows : List (List ℕ × Route) → Table → Table
 with_rows new rows = fold with_row rows new
 
+-- of script lines: a shell takes a dollar sign for itself
+unfoldable pub scripts : List (List ℕ × Route)
+scripts = (codes "/$script", Script) ∷ (codes "/script", Script) ∷ []
+
 unfoldable pub table : Table
-table = with_route (codes "/$script") Script (with_rows subscriptions (with_rows entities []))
+table = with_rows scripts (with_rows subscriptions (with_rows entities []))
 
 -- ---- a path
 

@@ -1,7 +1,7 @@
 // The routes, and the one that a path has.
 ghost use Rattle.std.specs.Prelude.{◌≡◌, [], OnOk, IfOk, option_map};
 ghost use Rattle.matchit.specs.Seek.{first};
-ghost use Rattle.sb_routes.specs.Routes.{with_route, with_rows, entities, subscriptions, table, route_at, route_of};
+ghost use Rattle.sb_routes.specs.Routes.{with_route, with_rows, entities, subscriptions, scripts, table, route_at, route_of};
 
 use crate::path::{looked, text_of};
 use matchit::Router;
@@ -133,6 +133,16 @@ fn add_subscriptions(router: &mut Router<Route>) -> Result<(), AllocError>
     Ok(())
 }
 
+// The routes of script lines.
+#[tactic(auto, unfolding(crate::specs::Routes::scripts))]
+fn add_scripts(router: &mut Router<Route>) -> Result<(), AllocError>
+    ensures { OnOk result (router.new ≡ with_rows scripts router.old) }
+{
+    add(router, "/$script", Route::Script)?;
+    add(router, "/script", Route::Script)?;
+    Ok(())
+}
+
 impl Routes {
     /// The table of all routes. It fails for want of memory alone.
     #[tactic(auto, unfolding(crate::specs::Routes::table))]
@@ -140,7 +150,7 @@ impl Routes {
         let mut router = Router::new(alloc);
         add_entities(&mut router)?;
         add_subscriptions(&mut router)?;
-        add(&mut router, "/$script", Route::Script)?;
+        add_scripts(&mut router)?;
         Ok(Routes { router })
     }
 

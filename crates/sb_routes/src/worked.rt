@@ -11,6 +11,7 @@ pub fn worked_routes()
     ensures send { route_of (codes "/Q/messages") ≡ Some Messages }
     ensures head { route_of (codes "/q/messages/head") ≡ Some (Head (Entity Main)) }
     ensures script { route_of (codes "/$script") ≡ Some Script }
+    ensures plain_script { route_of (codes "/Script") ≡ Some Script }
     ensures none { route_of (codes "/x/y/z") ≡ None }
     ensures path { path_of (codes "/q?a=1?b") ≡ codes "/q" }
     ensures query { query_of (codes "/q?a=1?b") ≡ codes "a=1?b" }

@@ -9,7 +9,7 @@ use sb_rest::{RestFault, Wanted, call_of};
 use sb_routes::Routes;
 use std::alloc::{AllocError, Global};
 
-/// Rows of a request, and of `404`, `405`, `400 KEY`, `script`, or the script line of its call, before
+/// Rows of a request, and of `403`, `404`, `405`, `400 KEY`, `script`, or the script line of its call, before
 /// which stands its timeout where that isn't 60 seconds. Before them stands `front TEXT`, with which each
 /// request begins.
 #[derive(Drop)]
@@ -58,8 +58,9 @@ fn came(
     match call_of(alloc, routes, request) {
         Ok(found) if is_call(alloc, &found, wanted) => String::from_str(alloc, wanted),
         Ok(found) => format!(in alloc; "another call, with {} s", found.timeout),
+        Err(RestFault::Foreign) => String::from_str(alloc, "403"),
         Err(RestFault::NoRoute) => String::from_str(alloc, "404"),
-        Err(RestFault::BadMethod) => String::from_str(alloc, "405"),
+        Err(RestFault::BadMethod { .. }) => String::from_str(alloc, "405"),
         Err(RestFault::Script) => String::from_str(alloc, "script"),
         Err(RestFault::Bad { key }) => format!(in alloc; "400 {}", key.as_str()),
         Err(RestFault::OutOfMemory) => Err(AllocError),

@@ -1,11 +1,12 @@
 -- What a request asks for, and whether its connection ends with the response.
-use Rattle.std.specs.Prelude.{◌≡◌, ℕ, ◌*◌, ◌-◌, ◌^◌, min, List, [], length, take, drop, codes, Bool, true, false, not, ◌&&◌, ◌||◌, ◌==◌, if◌then◌else◌, Result, Ok, Err}
+use Rattle.std.specs.Prelude.{◌≡◌, ℕ, ◌*◌, ◌-◌, ◌^◌, min, List, [], length, take, drop, codes, Bool, true, false, not, ◌&&◌, ◌||◌, ◌==◌, if◌then◌else◌, is_none, Result, Ok, Err}
 use Rattle.std.specs.List.{list_all, list_any, position_or_len}
 use Rattle.std.specs.Str.{is_utf8}
 use Rattle.form_urlencoded.specs.Form.{split}
 use Rattle.sb_machine.specs.Ordered.{IsActInOrder}
 use Rattle.sb_machine.specs.declared.call.Act.{Act}
 use Rattle.sb_machine.specs.declared.call.Act.TheVariants.{Receive}
+use Rattle.sb_machine.specs.declared.call.Call.{Call}
 use Rattle.sb_machine.specs.declared.call.TimedCall.{TimedCall}
 use Rattle.sb_machine.specs.declared.reply.Answered.{Answered}
 use Rattle.sb_machine.specs.declared.reply.Refusal.{Refusal}
@@ -17,7 +18,7 @@ use Rattle.sb_rest.specs.Batches.{is_blank}
 use Rattle.sb_rest.specs.Calls.{call_of}
 use Rattle.sb_rest.specs.Responses.{host_in}
 use Rattle.sb_rest.specs.declared.call.RestFault.{RestFault}
-use Rattle.sb_rest.specs.declared.call.RestFault.TheVariants.{NoRoute, BadMethod, Bad, Script, OutOfMemory}
+use Rattle.sb_rest.specs.declared.call.RestFault.TheVariants.{Foreign, NoRoute, BadMethod, Bad, Script, OutOfMemory}
 use Rattle.sb_rest.specs.declared.call.Wanted.{Wanted}
 use Rattle.sb_server.specs.declared.ask.Ask.{Ask}
 use Rattle.sb_server.specs.declared.ask.Ask.TheVariants.{Once, Patient, Line, BadLine, Fault}
@@ -51,10 +52,14 @@ asks_close m = (m.head.minor == 0) || list_any is_close m.head.fields
 
 -- ---- what it asks for
 
--- a receive waits where there is nothing yet
 abbrev pub is_receive : Act → Bool
 is_receive (Receive from mode session) = true
 is_receive _ = false
+
+-- A receive waits where there is nothing yet. One with a number is made once: that there was nothing is an
+-- answer, too, and is kept under its number.
+abbrev pub waits : Call → Bool
+waits call = is_receive call.act && is_none call.by
 
 -- so many s in ms, which stand still at 2^64 - 1
 abbrev pub ms_in : ℕ → ℕ
@@ -78,18 +83,19 @@ IsNoLine said (Err refusal) = Reads said (Err refusal)
 
 -- why a request is no call; want of memory may come with each
 abbrev pub IsFault : RestFault → RequestMessage → Type 0
+IsFault Foreign m = call_of m ≡ Err Foreign
 IsFault NoRoute m = call_of m ≡ Err NoRoute
-IsFault BadMethod m = call_of m ≡ Err BadMethod
+IsFault (BadMethod r) m = call_of m ≡ Err (BadMethod r)
 IsFault (Bad key) m = call_of m ≡ Err (Bad key)
 IsFault Script m = ⊥
 IsFault OutOfMemory m = Unit {0}
 
--- a call, the host that its request names, and whether it is a receive
-pub record IsCall (m : RequestMessage) (w : Wanted) (host : List ℕ) (receives : Bool) : Type 0 where
+-- a call, the host that its request names, and whether it waits
+pub record IsCall (m : RequestMessage) (w : Wanted) (host : List ℕ) (is_patient : Bool) : Type 0 where
   pub call : call_of m ≡ Ok w
   pub in_order : IsActInOrder w.call.act
   pub host_is : host ≡ host_in m.head.fields
-  pub receives_is : is_receive w.call.act ≡ receives
+  pub waits_is : waits w.call ≡ is_patient
 
 -- the request asks for this
 abbrev pub AsksFor : RequestMessage → Ask → Type 0

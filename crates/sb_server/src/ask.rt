@@ -9,7 +9,7 @@ ghost use Rattle.sb_server.specs.Asks as asks;
 
 use sb_http::Request;
 use sb_lines::{LineFault, read_line};
-use sb_machine::{Act, Answer, Refusal, TimedCall};
+use sb_machine::{Act, Answer, Call, Refusal, TimedCall};
 use sb_model::Text;
 use sb_outside::Bytes;
 use sb_rest::{RestFault, Wanted, call_of, host_of};
@@ -51,11 +51,14 @@ pub(crate) fn ask_of(alloc: Global, routes: &Routes, request: &Request) -> Ask
     match call_of(alloc, routes, request) {
         Ok(wanted) => called(alloc, request, wanted),
         Err(RestFault::Script) => line_ask(alloc, request),
+        Err(RestFault::Foreign) => Ask::Fault {
+            fault: RestFault::Foreign,
+        },
         Err(RestFault::NoRoute) => Ask::Fault {
             fault: RestFault::NoRoute,
         },
-        Err(RestFault::BadMethod) => Ask::Fault {
-            fault: RestFault::BadMethod,
+        Err(RestFault::BadMethod { route }) => Ask::Fault {
+            fault: RestFault::BadMethod { route },
         },
         Err(RestFault::Bad { key }) => Ask::Fault {
             fault: RestFault::Bad { key },
@@ -79,6 +82,13 @@ fn is_receive(act: &Act) -> bool
     )
 }
 
+// Whether a call is made again while it finds nothing: a receive without a number.
+fn waits(call: &Call) -> bool
+    ensures { result ≡ asks.waits call.now }
+{
+    is_receive(&call.act) && call.by.is_none()
+}
+
 // A call that may wait.
 fn called(alloc: Global, request: &Request, wanted: Wanted) -> Ask
     requires said { call_of (said_by request.now) ≡ Ok wanted }
@@ -91,7 +101,7 @@ fn called(alloc: Global, request: &Request, wanted: Wanted) -> Ask
             fault: RestFault::OutOfMemory,
         };
     };
-    if is_receive(&wanted.call.act) {
+    if waits(&wanted.call) {
         let limit_ms = wanted.timeout.saturating_mul(1000);
         return Ask::Patient {
             wanted,

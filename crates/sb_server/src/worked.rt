@@ -1,11 +1,17 @@
 // Connections, worked out by hand.
-ghost use Rattle.std.specs.Prelude.{◌≡◌, ◌∷◌, [], codes, true, false};
+ghost use Rattle.std.specs.Prelude.{◌≡◌, ◌∷◌, [], codes, true, false, None, Some};
+ghost use Rattle.sb_machine.specs.declared.call.Act.TheVariants.{Receive};
+ghost use Rattle.sb_machine.specs.declared.call.Mode.TheVariants.{Lock};
+ghost use Rattle.sb_machine.specs.declared.call.Part.TheVariants.{Main};
+ghost use Rattle.sb_routes.specs.declared.routes.Address.TheVariants.{Entity};
+ghost use Rattle.sb_routes.specs.declared.routes.Route.TheVariants.{Head};
 ghost use Rattle.sb_http.specs.declared.fault.HttpFault.TheVariants.{HeadTooLarge};
 ghost use Rattle.sb_rest.specs.declared.call.RestFault.TheVariants.{BadMethod};
 ghost use Rattle.sb_server.specs.declared.answer.Turn.TheVariants.{Goes, Closes, Stops};
 ghost use Rattle.sb_server.specs.declared.ending.ServeEnding.TheVariants.{Done, DoorFault, OutOfMemory};
 ghost use Rattle.sb_server.specs.declared.work.Stop.TheVariants.{Enough, Ended, Fault, Stopped, OutOfMemory as NoMemory};
-ghost use Rattle.sb_server.specs.Asks.{is_close, lists_close, ms_in};
+ghost use Rattle.sb_rest.specs.Worked.{q};
+ghost use Rattle.sb_server.specs.Asks.{is_close, lists_close, ms_in, waits};
 ghost use Rattle.sb_server.specs.Responds.{fault_bytes, turn_of};
 ghost use Rattle.sb_server.specs.Serves.{serve_ending};
 ghost use Rattle.sb_server.specs.Talks.{refusal_bytes};
@@ -21,7 +27,9 @@ pub fn worked_connections()
     ensures closes { turn_of true false ≡ Closes }
     ensures stops_first { turn_of true true ≡ Stops }
     ensures too_large { refusal_bytes HeadTooLarge ≡ codes "HTTP/1.1 431 Request Header Fields Too Large\r\nContent-Length: 0\r\nConnection: close\r\n\r\n" }
-    ensures no_method { fault_bytes BadMethod false ≡ codes "HTTP/1.1 405 Method Not Allowed\r\nContent-Length: 0\r\n\r\n" }
+    ensures no_method { fault_bytes (BadMethod (Head (Entity Main))) false ≡ codes "HTTP/1.1 405 Method Not Allowed\r\nAllow: DELETE, POST\r\nContent-Length: 0\r\n\r\n" }
+    ensures patient { waits (record { by = None; act = Receive q Lock None }) ≡ true }
+    ensures numbered { waits (record { by = Some (record { client = codes "c"; number = 1 }); act = Receive q Lock None }) ≡ false }
     ensures door_first { serve_ending (NoMemory ∷ Fault ∷ Stopped ∷ []) ≡ DoorFault }
     ensures lost { serve_ending (Enough ∷ NoMemory ∷ []) ≡ OutOfMemory }
     ensures done { serve_ending (Enough ∷ Ended ∷ Stopped ∷ []) ≡ Done }

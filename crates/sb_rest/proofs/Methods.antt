@@ -1,0 +1,42 @@
+-- The methods of a route are those that it takes, and a page of another origin makes no call.
+use Rattle.std.proofs.Common.{◌≡◌, ℕ, Bool, true, false, ◌||◌, List, refl, ap}
+use Rattle.std.specs.Prelude.{codes, bytes_eq, is_some, Some, None, Err, if◌then◌else◌}
+use Rattle.std.specs.List.{list_any}
+use Rattle.sb_machine.specs.declared.call.Mode.TheVariants.{Lock, Delete}
+use Rattle.sb_routes.specs.declared.routes.Address.{Address}
+use Rattle.sb_routes.specs.declared.routes.Route.{Route}
+use Rattle.sb_routes.specs.declared.routes.Route.TheVariants as route
+use Rattle.sb_rest.specs.declared.asked.Asked.{Asked}
+use Rattle.sb_rest.specs.declared.asked.Asked.TheVariants as asked
+use Rattle.sb_routes.specs.Paths.{path_of}
+use Rattle.sb_routes.specs.Routes.{route_of}
+use Rattle.sb_rest.specs.declared.call.RestFault.TheVariants.{Foreign}
+use Rattle.sb_rest.specs.Calls.{methods_of, takes, on_route, NoneIsForeign}
+
+pub all_methods : (r : Route) (method : List ℕ) → takes r method ≡ list_any (bytes_eq method) (methods_of r)
+all_methods route.Messages method = by_post (bytes_eq method (codes "POST")) where
+  by_post : (p : Bool) → is_some (if p then Some asked.Send else None) ≡ (p || false)
+  by_post true = refl
+  by_post false = refl
+all_methods (route.Head a) method = by_both (bytes_eq method (codes "DELETE")) (bytes_eq method (codes "POST")) where
+  by_both : (d p : Bool) → is_some (if d then Some (asked.Take a Delete) else (if p then Some (asked.Take a Lock) else None)) ≡ (d || (p || false))
+  by_both true p = refl
+  by_both false true = refl
+  by_both false false = refl
+all_methods (route.Locked a) method = by_all (bytes_eq method (codes "PUT")) (bytes_eq method (codes "DELETE")) (bytes_eq method (codes "POST")) where
+  by_all : (u d p : Bool) → is_some (if u then Some (asked.Abandon a) else (if d then Some (asked.Complete a) else (if p then Some (asked.Renew a) else None))) ≡ (d || (p || (u || false)))
+  by_all true true p = refl
+  by_all true false true = refl
+  by_all true false false = refl
+  by_all false true p = refl
+  by_all false false true = refl
+  by_all false false false = refl
+all_methods route.Script method = by_post (bytes_eq method (codes "POST")) where
+  by_post : (p : Bool) → p ≡ (p || false)
+  by_post true = refl
+  by_post false = refl
+
+-- ---- who made a request
+
+pub none_foreign : NoneIsForeign
+none_foreign m is = ap (λ (b : Bool). if b then Err Foreign else on_route (route_of (path_of m.head.target)) m) is

@@ -1,0 +1,20 @@
+// What holds of all texts and methods.
+ghost use Rattle.std.specs.Prelude.{◌≡◌, ℕ, List, true, nat_le};
+ghost use Rattle.std.specs.List.{list_all};
+ghost use Rattle.sb_rest.specs.Calls.{MethodsAreAll, NoneIsForeign};
+ghost use Rattle.sb_rest.specs.Escapes.{ascii_json};
+
+/// JSON that is escaped has no character beyond ASCII, and no U+007F.
+pub fn escaped_is_ascii()
+    ensures { (text : List ℕ) → list_all (λ b. nat_le b 126) (ascii_json text) ≡ true }
+{}
+
+/// Each route takes just the methods that are told of it.
+pub fn methods_are_told()
+    ensures { MethodsAreAll }
+{}
+
+/// What a page of another origin has a browser send is no call.
+pub fn foreign_is_no_call()
+    ensures { NoneIsForeign }
+{}
