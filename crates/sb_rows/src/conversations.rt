@@ -42,6 +42,37 @@ struct Conversation<'a> {
     sizes: Vec<usize>,
 }
 
+impl<'a> Conversation<'a> {
+    fn new(alloc: Global) -> Result<Conversation<'a>, AllocError> {
+        Ok(Conversation {
+            exchanges: Vec::new(alloc),
+            disk: Vec::new(alloc),
+            failing: Vec::new(alloc),
+            cut: Vec::new(alloc),
+            sizes: SIZES.to_vec(alloc)?,
+        })
+    }
+
+    // Takes a line of the case, behind what was asked last.
+    fn take(
+        &mut self,
+        alloc: Global,
+        asked: &str,
+        line: Line<'a>,
+        journals: &Journals,
+    ) -> Result<()> {
+        match line.key {
+            "<" => self.exchanges.push(exchange_of(alloc, asked, line)?)?,
+            "over" => self.disk = journals.left_by(line.value)?.to_vec(alloc)?,
+            "fails" => self.failing.push(line.value.parse::<u64>()?)?,
+            "cut" => self.cut = http_bytes(alloc, line.value)?,
+            "pieces" => self.sizes = sizes_of(alloc, line.value)?,
+            _ => return Err(no_such_key(line)),
+        }
+        Ok(())
+    }
+}
+
 fn exchange_of<'a>(alloc: Global, asked: &str, line: Line<'a>) -> Result<Exchange<'a>> {
     let (moment, request) = asked
         .split_once(' ')
@@ -67,23 +98,13 @@ fn conversation_of<'a>(
     case: &Case<'a>,
     journals: &Journals,
 ) -> Result<Conversation<'a>> {
-    let mut read = Conversation {
-        exchanges: Vec::new(alloc),
-        disk: Vec::new(alloc),
-        failing: Vec::new(alloc),
-        cut: Vec::new(alloc),
-        sizes: SIZES.to_vec(alloc)?,
-    };
+    let mut read = Conversation::new(alloc)?;
     let mut asked = "";
     for line in &case.lines {
+        let line = *line;
         match line.key {
             ">" => asked = line.value,
-            "<" => read.exchanges.push(exchange_of(alloc, asked, *line)?)?,
-            "over" => read.disk = journals.left_by(line.value)?.to_vec(alloc)?,
-            "fails" => read.failing.push(line.value.parse::<u64>()?)?,
-            "cut" => read.cut = http_bytes(alloc, line.value)?,
-            "pieces" => read.sizes = sizes_of(alloc, line.value)?,
-            _ => return Err(no_such_key(*line)),
+            _ => read.take(alloc, asked, line, journals)?,
         }
     }
     Ok(read)

@@ -116,17 +116,19 @@ fn ending_of(alloc: Global, run: &Run<'_>) -> Result<Ending> {
 
 // The first line of the output that is another one than the case has, or the line behind them.
 fn other_line(alloc: Global, case: &Case<'_>, output: &[u8]) -> Result<Outcome> {
-    let output = std::str::from_utf8(output)?;
-    let mut lines = output.lines();
+    let told: Vec<&str> = std::str::from_utf8(output)?.lines().collect(alloc)?;
+    let mut place: usize = 0;
     for line in &case.lines {
+        let line = *line;
         if line.key == "<" {
-            let came = lines.next().unwrap_or("no line");
+            let came = told.get(place).copied().unwrap_or("no line");
             if came != line.value {
-                return Ok(differing(alloc, *line, came)?);
+                return Ok(differing(alloc, line, came)?);
             }
+            place = place.saturating_add(1);
         }
     }
-    let more = lines.next().unwrap_or("");
+    let more = told.get(place).copied().unwrap_or("");
     let told = format!(in alloc; "more is written: {more}")?;
     Ok(Outcome::Differs(told))
 }
