@@ -1,0 +1,9 @@
+pub mod Utf8
+pub mod Widths
+pub mod Fronts
+pub mod Begins
+pub mod Passed
+pub mod Walked
+pub mod Left
+pub mod Only
+pub mod WorkedRows

@@ -1,0 +1,18 @@
+use Rattle.std.proofs.Common.{sym}
+use Rattle.std.proofs.lemmas.Result.{err_from_is_err_and}
+use Rattle.sb_amqp.proofs.Left.{section_on, section_ends, sections_done}
+use Rattle.sb_amqp.proofs.read.say_sections.Goals as goal
+
+pub returns-in_err-message : goal.returns-in_err-message
+returns-in_err-message c ss are text =
+    let p = err_from_is_err_and c.from_residual.result c.from_residual.ensures.1 in
+    rw (p.1, p.2) (section_ends c.loop-section.message c.loop-section.rest.now _ (c.in-Some.section.code, (c.in-Some.section.value.now, c.in-Some.section.rest.now)) c.in_err-message.field-0.0
+    (c.loop-section.invariant ss are text) (sym c.in-Some.ensures.value) (λ vs has. c.in_err-message.ensures vs has))
+
+pub loop-section-preserved : goal.loop-section-preserved
+loop-section-preserved c ss are text =
+    section_on c.loop-section.message c.loop-section.rest.now _ (c.in-Some.section.code, (c.in-Some.section.value.now, c.in-Some.section.rest.now)) c.in_ok-message.message
+    (c.loop-section.invariant ss are text) (sym c.in-Some.ensures.value) (λ vs has. c.in_ok-message.ensures vs has)
+
+pub returns : goal.returns
+returns c ss are text = sections_done c.loop-section.message c.loop-section.rest.now _ (c.loop-section.invariant ss are text) (sym c.in_default.ensures.value)

@@ -1,0 +1,278 @@
+// What the items of a list or a map add to a message.
+ghost use Rattle.std.specs.Prelude.{◌≡◌, ◌<◌, ◌^◌, [], List, ℕ, IfOk, length};
+ghost use Rattle.sb_amqp.specs.Meaning as meaning;
+ghost use Rattle.sb_amqp.specs.Meaning.{Says};
+ghost use Rattle.sb_amqp.specs.Values.{AreValues, joined};
+
+use crate::fields::{ANNOTATIONS, HEADER, PROPERTIES, SCHEDULE_KEY, field_name};
+use crate::numbers::unsigned_in;
+use crate::properties::{with_text, with_user};
+use crate::taken::value_at;
+use crate::texts::{is_null, plain_text, property_from, text_from};
+use crate::unread::Unread;
+use crate::values::{Kind, content_of, kind_of};
+use sb_model::{Message, PropertyValue, SystemName, Text};
+use std::alloc::{AllocError, Global};
+
+fn seconds(ms: u64) -> u64
+    ensures { result ≡ meaning.seconds ms }
+{
+    ms.saturating_sub(1) / 1000 + 1
+}
+
+fn ttl_from(kind: Kind, content: &[u8], ttl: Option<u64>) -> Option<Option<u64>>
+    ensures { result ≡ meaning.ttl_from kind content.now ttl }
+{
+    match kind {
+        Kind::Null => Some(ttl),
+        Kind::Uint => Some(Some(seconds(unsigned_in(content)))),
+        _ => None,
+    }
+}
+
+fn header_item(index: usize, value: &[u8], message: Message) -> Option<Message>
+    ensures { result ≡ meaning.header_item index value.now message }
+{
+    if index != 2 {
+        return Some(message);
+    }
+    let Some(ttl) = ttl_from(kind_of(value), content_of(value), message.ttl) else {
+        drop(message);
+        return None;
+    };
+    let mut message = message;
+    message.ttl = ttl;
+    Some(message)
+}
+
+fn is_schedule_key(kind: Kind, content: &[u8]) -> bool
+    ensures { result ≡ meaning.is_schedule_key kind content.now }
+{
+    match kind {
+        Kind::String | Kind::Symbol => content == SCHEDULE_KEY.as_bytes(),
+        _ => false,
+    }
+}
+
+fn moment_in(number: u64) -> Option<u64>
+    ensures { result ≡ meaning.moment_in number }
+{
+    if number > i64::MAX as u64 {
+        return None;
+    }
+    Some(number)
+}
+
+fn moment_from(kind: Kind, content: &[u8]) -> Option<u64>
+    ensures { result ≡ meaning.moment_from kind content.now }
+{
+    match kind {
+        Kind::Timestamp => moment_in(unsigned_in(content)),
+        _ => None,
+    }
+}
+
+fn annotation_item(index: usize, key: &[u8], value: &[u8], message: Message) -> Option<Message>
+    ensures { result ≡ meaning.annotation_item index key.now value.now message }
+{
+    if index % 2 != 1 || !is_schedule_key(kind_of(key), content_of(key)) {
+        return Some(message);
+    }
+    let Some(moment) = moment_from(kind_of(value), content_of(value)) else {
+        drop(message);
+        return None;
+    };
+    let mut message = message;
+    message.schedule = Some(moment);
+    Some(message)
+}
+
+fn with_system_text(name: SystemName, text: Text, message: Message) -> Result<Message, AllocError>
+    ensures { IfOk result (λ m. m ≡ record message { sys = meaning.with_text name text message.sys }) }
+{
+    let Message {
+        body,
+        sys,
+        props,
+        ttl,
+        schedule,
+    } = message;
+    let sys = with_text(name, text, sys)?;
+    Ok(Message {
+        body,
+        sys,
+        props,
+        ttl,
+        schedule,
+    })
+}
+
+fn named_item(
+    alloc: Global,
+    name: Option<SystemName>,
+    value: &[u8],
+    message: Message,
+) -> Result<Option<Message>, AllocError>
+    ensures { IfOk result (λ o. o ≡ meaning.named_item name value.now message) }
+{
+    let Some(name) = name else {
+        return Ok(Some(message));
+    };
+    let Some(text) = text_from(alloc, name, kind_of(value), content_of(value))? else {
+        drop(message);
+        return Ok(None);
+    };
+    let message = with_system_text(name, text, message)?;
+    Ok(Some(message))
+}
+
+fn key_of(key: &[u8], message: Message) -> Option<Message>
+    ensures { result ≡ meaning.key_of key.now message }
+{
+    if plain_text(kind_of(key), content_of(key)).is_none() {
+        drop(message);
+        return None;
+    }
+    Some(message)
+}
+
+fn with_property(
+    alloc: Global,
+    name: &str,
+    value: PropertyValue,
+    message: Message,
+) -> Result<Message, AllocError>
+    ensures { IfOk result (λ m. m ≡ meaning.with_property name.now value message) }
+{
+    let Message {
+        body,
+        sys,
+        props,
+        ttl,
+        schedule,
+    } = message;
+    let mut folded = Text::of(alloc, name)?;
+    folded.fold();
+    let props = with_user(folded, value, props)?;
+    Ok(Message {
+        body,
+        sys,
+        props,
+        ttl,
+        schedule,
+    })
+}
+
+fn entry_named(
+    alloc: Global,
+    name: &str,
+    value: &[u8],
+    message: Message,
+) -> Result<Option<Message>, AllocError>
+    ensures { IfOk result (λ o. o ≡ meaning.entry_named name.now value.now message) }
+{
+    let Some(value) = property_from(alloc, kind_of(value), content_of(value))? else {
+        drop(message);
+        return Ok(None);
+    };
+    let message = with_property(alloc, name, value, message)?;
+    Ok(Some(message))
+}
+
+fn entry_of(
+    alloc: Global,
+    key: &[u8],
+    value: &[u8],
+    message: Message,
+) -> Result<Option<Message>, AllocError>
+    ensures { IfOk result (λ o. o ≡ meaning.entry_of key.now value.now message) }
+{
+    if is_null(kind_of(value)) {
+        return Ok(Some(message));
+    }
+    let Some(name) = plain_text(kind_of(key), content_of(key)) else {
+        drop(message);
+        return Ok(None);
+    };
+    entry_named(alloc, name, value, message)
+}
+
+fn application_item(
+    alloc: Global,
+    index: usize,
+    key: &[u8],
+    value: &[u8],
+    message: Message,
+) -> Result<Option<Message>, AllocError>
+    ensures { IfOk result (λ o. o ≡ meaning.application_item index key.now value.now message) }
+{
+    if index % 2 == 0 {
+        return Ok(key_of(value, message));
+    }
+    entry_of(alloc, key, value, message)
+}
+
+/// What an item of such a section adds, by its place and the item before it. None where it can't be
+/// used.
+#[tactic(auto, unfolding(crate::specs::Meaning::with_item))]
+fn with_item(
+    alloc: Global,
+    code: u8,
+    index: usize,
+    before: &[u8],
+    value: &[u8],
+    message: Message,
+) -> Result<Option<Message>, AllocError>
+    requires { index < 2 ^ 63 }
+    ensures { IfOk result (λ o. o ≡ meaning.with_item code index before.now value.now message) }
+{
+    match code {
+        HEADER => Ok(header_item(index, value, message)),
+        ANNOTATIONS => Ok(annotation_item(index, before, value, message)),
+        PROPERTIES => named_item(alloc, field_name(index + 1), value, message),
+        _ => application_item(alloc, index, before, value, message),
+    }
+}
+
+/// The same, or where it begins that can't be used.
+fn use_item(
+    alloc: Global,
+    code: u8,
+    index: usize,
+    before: &[u8],
+    value: &[u8],
+    message: Message,
+    left: usize,
+) -> Result<Message, Unread>
+    requires { index < 2 ^ 63 }
+    ensures { Says result (meaning.or_left left (meaning.with_item code index before.now value.now message)) }
+{
+    let Some(message) = with_item(alloc, code, index, before, value, message)? else {
+        return Err(Unread::At(left));
+    };
+    Ok(message)
+}
+
+/// What the items that stand in these bytes add, so many bytes before the end.
+pub(crate) fn say_items(
+    alloc: Global,
+    code: u8,
+    message: Message,
+    items: &[u8],
+    behind: &[u8],
+) -> Result<Message, Unread>
+    ensures { (vs : List (List ℕ)) → AreValues vs → items.now ≡ joined vs → Says result (meaning.items_say code 0 [] message vs (length behind.now)) }
+{
+    let mut message = message;
+    let mut index = 0;
+    let mut before: &[u8] = &[];
+    let mut rest = items;
+    while let Some((value, after)) = value_at(rest) {
+        let left = rest.len() + behind.len();
+        message = use_item(alloc, code, index, before, value, message, left)?;
+        index += 1;
+        before = value;
+        rest = after;
+    }
+    Ok(message)
+}
