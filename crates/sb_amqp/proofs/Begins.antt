@@ -1,16 +1,15 @@
 -- Sections at the front of bytes: what is taken is one, and one that stands there is taken, whatever follows.
-use Rattle.std.proofs.Common.{◌≡◌, ℕ, zero, suc, ◌+◌, ◌^◌, ◌<◌, ◌≤◌, Bool, true, false, cond, ltb, List, [], ◌∷◌, ◌++◌, length, take, drop, Option, Some, None, refl, sym, ap, subst, ◌∙◌, append_assoc, arith, inl, inr, ◌⊎◌}
+use Rattle.std.proofs.Common.{◌≡◌, ℕ, zero, suc, ◌^◌, ◌<◌, ◌≤◌, Bool, true, false, cond, ltb, List, [], ◌∷◌, ◌++◌, length, Option, Some, None, refl, sym, ap, subst, ◌∙◌, append_assoc, arith, inl, inr, ◌⊎◌}
 use Rattle.std.specs.Prelude.{◌&&◌, ◌==◌, option_and_then}
 use Rattle.std.specs.Int.{w32, w64, to_be_bytes}
 use Rattle.std.proofs.lemmas.Bool.{eqb-true, ltb-false, le-ltb}
-use Rattle.std.proofs.lemmas.List.{take_at}
 use Rattle.sb_amqp.specs.declared.values.Extent.{Extent}
 use Rattle.sb_amqp.specs.declared.values.Extent.TheVariants.{Described, Fixed, Short, Long, Unknown}
-use Rattle.sb_amqp.specs.Reading.{number_at, value_at, counted, are_values, is_some_and, is_filled, is_filled_if, code_at, if_small, small_at, coded_at, descriptor_at, if_filled, section_at, if_next, next_at}
+use Rattle.sb_amqp.specs.Reading.{number_at, value_at, counted, are_values, is_filled, is_filled_if, code_at, if_small, small_at, descriptor_at, if_filled, section_at, if_next, next_at}
 use Rattle.sb_amqp.specs.Sections.{Section, spelled, descriptor, count_bytes, FitsCount, HasItems, HasUsedItems, has_used_items, pairs_up, IsSection, may_follow}
 use Rattle.sb_amqp.specs.Values.{joined, extent_of, extent_at, behind_length, content_of, kind_of}
 use Rattle.sb_amqp.proofs.Fronts.{then_some, filled_by, cut_gives, cut_again, values_give, values_again}
-use Rattle.sb_amqp.proofs.Widths.{IsBytes, IsBytes-drop, IsBytes-rest, IsBytes-behind, IsBytes-front, unless_some, when_some, wide32, wide64, number_takes, number_again}
+use Rattle.sb_amqp.proofs.Widths.{IsBytes, IsBytes-drop, IsBytes-rest, IsBytes-front, unless_some, when_some, wide32, wide64, number_takes, number_again}
 
 and_both : (a b : Bool) → (a && b) ≡ true → (a ≡ true) × (b ≡ true)
 and_both true b e = (refl, e)

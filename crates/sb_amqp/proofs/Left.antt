@@ -1,5 +1,5 @@
 -- What is said so far, and what is left to say.
-use Rattle.std.proofs.Common.{◌≡◌, ℕ, zero, suc, ◌+◌, Bool, true, false, List, [], ◌∷◌, ◌++◌, length, Option, Some, None, Result, Ok, Err, refl, sym, ap, subst, ◌∙◌, arith}
+use Rattle.std.proofs.Common.{◌≡◌, ℕ, suc, ◌+◌, Bool, true, false, List, [], ◌∷◌, ◌++◌, length, Option, Some, None, Result, Ok, Err, refl, sym, ap, subst, ◌∙◌, arith}
 use Rattle.sb_model.specs.declared.message.Message.{Message}
 use Rattle.sb_amqp.specs.declared.unread.Unread.{Unread}
 use Rattle.sb_amqp.specs.declared.unread.Unread.TheVariants.{At, Memory}
@@ -7,7 +7,7 @@ use Rattle.sb_amqp.specs.declared.values.Extent.{Extent}
 use Rattle.sb_amqp.specs.declared.values.Extent.TheVariants.{Described, Fixed, Short, Long, Unknown}
 use Rattle.sb_amqp.specs.Meaning.{or_left, and_then, with_item, items_if, items_say, section_says, sections_say, Says}
 use Rattle.sb_amqp.specs.Reading.{after_value, value_at, descriptor_at, section_at, item_bytes}
-use Rattle.sb_amqp.specs.Sections.{Section, spelled, all_spelled, IsSection, AreSections, FitsCount, HasUsedItems, count_bytes, has_used_items}
+use Rattle.sb_amqp.specs.Sections.{Section, all_spelled, IsSection, AreSections, FitsCount, HasUsedItems, count_bytes, has_used_items}
 use Rattle.sb_amqp.specs.Values.{joined, content_of, extent_at, kind_of, AreValues}
 use Rattle.sb_amqp.proofs.Begins.{section_again}
 use Rattle.sb_amqp.proofs.Fronts.{cut_again}

@@ -7,3 +7,9 @@ pub mod Walked
 pub mod Left
 pub mod Only
 pub mod WorkedRows
+pub mod Tails
+pub mod Texted
+pub mod Entries
+pub mod FieldsBack
+pub mod Parts
+pub mod Finished

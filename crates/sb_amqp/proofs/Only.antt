@@ -1,12 +1,12 @@
 -- Nothing else is said of bytes than what was answered.
-use Rattle.std.proofs.Common.{◌≡◌, ℕ, ◌+◌, ◌-◌, Bool, true, false, List, [], ◌∷◌, ◌++◌, length, Option, Some, None, Result, Ok, Err, refl, sym, ap, subst, ◌∙◌, append_assoc, arith}
+use Rattle.std.proofs.Common.{◌≡◌, ℕ, ◌-◌, Bool, true, false, List, [], ◌∷◌, ◌++◌, length, Option, Some, Result, Ok, Err, refl, sym, ap, subst, ◌∙◌, append_assoc, arith}
 use Rattle.std.proofs.lemmas.List.{append-nil, length-append}
 use Rattle.sb_model.specs.declared.message.Message.{Message}
 use Rattle.sb_amqp.specs.declared.fault.AmqpFault.{AmqpFault}
 use Rattle.sb_amqp.specs.declared.fault.AmqpFault.TheVariants.{BadMessage, Unsupported, OutOfMemory}
 use Rattle.sb_amqp.specs.Meaning.{sections_say, no_message}
 use Rattle.sb_amqp.specs.Reading.{section_at}
-use Rattle.sb_amqp.specs.Reads.{Spells, Reads, IsUnsupported, BeginNone, IsBad, Tells, Answers, IsAnswer, AnswersOnly}
+use Rattle.sb_amqp.specs.Reads.{Spells, IsBad, Tells, Answers, IsAnswer, AnswersOnly}
 use Rattle.sb_amqp.specs.Sections.{Section, spelled, all_spelled, descriptor, IsSection, AreSections, AreInOrder, before_all, last_code, may_follow, may_end}
 use Rattle.sb_amqp.proofs.Begins.{section_again}
 

@@ -1,10 +1,9 @@
 -- Sections passed one after the other, up to where none begins.
-use Rattle.std.proofs.Common.{◌≡◌, ℕ, zero, suc, ◌+◌, ◌-◌, ◌≤◌, Bool, true, false, ltb, List, [], ◌∷◌, ◌++◌, length, Option, Some, None, Ok, Err, refl, sym, ap, subst, ◌∙◌, append_assoc, arith}
-use Rattle.std.specs.Prelude.{◌&&◌, ◌==◌, nat_le}
-use Rattle.std.proofs.lemmas.Bool.{eqb-true}
+use Rattle.std.proofs.Common.{◌≡◌, ℕ, ◌-◌, Bool, true, false, List, [], ◌∷◌, ◌++◌, length, Option, Some, None, Ok, Err, refl, sym, ap, subst, ◌∙◌, append_assoc, arith}
+use Rattle.std.specs.Prelude.{◌&&◌, ◌==◌}
 use Rattle.std.proofs.lemmas.List.{append-nil, length-append}
 use Rattle.sb_amqp.specs.Reading.{next_at}
-use Rattle.sb_amqp.specs.Reads.{Spells, BeginNone, IsBad, Checked}
+use Rattle.sb_amqp.specs.Reads.{BeginNone, Checked}
 use Rattle.sb_amqp.specs.Sections.{Section, spelled, all_spelled, IsSection, AreInOrder, before_all, last_code, may_follow, may_end}
 use Rattle.sb_amqp.proofs.Begins.{next_gives, next_again}
 use Rattle.sb_amqp.proofs.Fronts.{all_gone}

@@ -1,5 +1,5 @@
 -- Rows that were worked out by hand hold.
-use Rattle.std.proofs.Common.{◌≡◌, ◌<◌, ◌^◌, ℕ, true, List, [], ◌∷◌, refl, arith}
+use Rattle.std.proofs.Common.{true, [], ◌∷◌, refl, arith}
 use Rattle.sb_amqp.specs.Meaning.{with_item, unsigned_in}
 use Rattle.sb_amqp.specs.Reads.{Reads, IsUnsupported, IsBad}
 use Rattle.sb_amqp.specs.Sections.{Section, IsSection, before_all}

@@ -5,4 +5,5 @@ pub mod Sections
 pub mod Meaning
 pub mod Reads
 pub mod Reading
+pub mod Laws
 pub mod Worked

@@ -7,7 +7,7 @@ use Rattle.sb_amqp.specs.declared.values.Extent.TheVariants.{Described, Fixed, S
 use Rattle.sb_amqp.specs.declared.values.Kind.{Kind}
 use Rattle.sb_amqp.specs.declared.values.Kind.TheVariants as kind
 use Rattle.sb_amqp.specs.Fields.{header_code, annotations_code, properties_code, application_code, data_code, footer_code}
-use Rattle.sb_amqp.specs.Values.{joined, IsValue, AreValues, max_nesting, extent_of, extent_at, kind_of, content_of}
+use Rattle.sb_amqp.specs.Values.{joined, IsValue, AreValues, max_nesting, extent_at, kind_of, content_of}
 
 pub record Section : Type 0 where
   -- the descriptor's number

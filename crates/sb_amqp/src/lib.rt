@@ -15,6 +15,7 @@
 mod fault;
 mod fields;
 mod items;
+mod laws;
 mod numbers;
 mod order;
 mod properties;
@@ -30,6 +31,7 @@ mod worked;
 mod write;
 
 pub use fault::AmqpFault;
+pub use laws::written_is_read;
 pub use read::read_message;
 pub use worked::worked_messages;
 pub use write::write_message;

@@ -1,6 +1,6 @@
 use Rattle.std.proofs.Common.{sym, arith}
 use Rattle.std.proofs.lemmas.Result.{err_from_is_err_and}
-use Rattle.sb_amqp.proofs.Left.{ItemsLeft, item_on, item_ends, items_done}
+use Rattle.sb_amqp.proofs.Left.{item_on, item_ends, items_done}
 use Rattle.sb_amqp.proofs.items.say_items.Goals as goal
 
 pub returns-in_err-message : goal.returns-in_err-message
