@@ -215,6 +215,71 @@ fn answers_each_fault_of_the_disk(rt: HostRuntime) -> Result<(), Fail> {
 }
 
 #[test]
+fn seals_records_together(rt: HostRuntime) -> Result<(), Fail> {
+    let alloc = rt.alloc();
+    let long = sevens(alloc, 900_000)?;
+    let (mut journal, found) = opened(alloc, disk_of(alloc, &[])?, disk_of(alloc, &[])?, SALT)?;
+    drop(found);
+    assert!(rt; journal.seal() == Ok(1));
+    assert!(rt; journal.add(b"one") == Ok(()));
+    assert!(rt; journal.add(b"") == Ok(()));
+    assert!(rt; journal.seal() == Ok(1));
+    // More than is kept until it is written.
+    assert!(rt; journal.add(&long) == Ok(()));
+    assert!(rt; journal.add(&long) == Ok(()));
+    assert!(rt; journal.add(b"five") == Ok(()));
+    assert!(rt; journal.seal() == Ok(3));
+    assert!(rt; journal.append(b"six") == Ok(6));
+    let (a, b) = journal.close();
+    assert_eq!(rt; a.bytes().len(), 43 + 6 * 13 + 2 * 900_000 + 10);
+    let (journal, found) = opened(alloc, a, b, SALT)?;
+    drop(journal);
+    assert_eq!(rt; found.payloads.len(), 6);
+    assert_eq!(rt; found.payloads[1].as_slice(), b"".as_slice());
+    assert!(rt; found.payloads[3].as_slice() == long.as_slice());
+    assert_eq!(rt; found.payloads[4].as_slice(), b"five".as_slice());
+    drop(found);
+    Ok(())
+}
+
+// The disk on which the call of this number failed while three records were sealed.
+fn stopped_group(rt: &impl Abort, alloc: Global, call: u64) -> Result<MemDisk, Fail> {
+    let a = MemDisk::new(alloc, Vec::new(alloc), vec![in alloc; call]?)?;
+    let (mut journal, found) = opened(alloc, a, disk_of(alloc, &[])?, SALT)?;
+    drop(found);
+    assert!(rt; journal.add(b"one") == Ok(()));
+    assert!(rt; journal.add(b"two") == Ok(()));
+    assert!(rt; journal.add(b"three") == Ok(()));
+    assert!(rt; journal.seal().is_err());
+    assert_eq!(rt; journal.faults(), 1);
+    let (a, b) = journal.close();
+    drop(b);
+    Ok(a)
+}
+
+// None of three records is found, or all where the crash left their gate open.
+fn found_of_three(call: u64, fill: u8) -> usize {
+    if call >= 13 && fill == 1 { 3 } else { 0 }
+}
+
+#[test]
+fn a_group_stops(rt: HostRuntime) -> Result<(), Fail> {
+    let alloc = rt.alloc();
+    for call in 11..15_u64 {
+        let a = stopped_group(&rt, alloc, call)?;
+        for fill in [0xff, 1_u8] {
+            let left = MemDisk::new(alloc, a.image(alloc, fill)?, Vec::new(alloc))?;
+            let (journal, found) = opened(alloc, left, disk_of(alloc, &[])?, SALT)?;
+            drop(journal);
+            assert_eq!(rt; found.payloads.len(), found_of_three(call, fill));
+            drop(found);
+        }
+        drop(a);
+    }
+    Ok(())
+}
+
+#[test]
 fn makes_a_file_with_a_base(rt: HostRuntime) -> Result<(), Fail> {
     let mut disk = disk_of(rt.alloc(), &NEW_FILE)?;
     assert!(rt; create(&mut disk, SALT, 2, 3, b"base").is_ok());
