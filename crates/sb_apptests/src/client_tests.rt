@@ -23,12 +23,14 @@ const MADE: &str = "HTTP/1.1 200 OK\r\nContent-Length: 14\r\n\r\n{\"ok\":\"done\
 const MISSING: &str =
     "HTTP/1.1 200 OK\r\nContent-Length: 29\r\n\r\n{\"refused\":\"EntityNotFound\"}\n";
 
+const FAILED: &str = "HTTP/1.1 200 OK\r\nContent-Length: 24\r\n\r\n{\"refused\":\"DiskFault\"}\n";
+
 const CREATE: &str = "{\"do\":\"create-queue\",\"name\":\"q\"}";
 
 const REQUEST: &str =
     "POST /$script HTTP/1.1\r\nHost: localhost\r\nContent-Length: 32\r\nConnection: close\r\n\r\n{\"do\":\"create-queue\",\"name\":\"q\"}";
 
-const CASES: [Case<'static>; 7] = [
+const CASES: [Case<'static>; 8] = [
     Case {
         input: CREATE,
         replies: &[MADE],
@@ -41,6 +43,13 @@ const CASES: [Case<'static>; 7] = [
         replies: &[MADE, MISSING],
         failing: &[],
         told: "{\"ok\":\"done\"}\n{\"refused\":\"EntityNotFound\"}\n",
+        status: 1,
+    },
+    Case {
+        input: CREATE,
+        replies: &[FAILED],
+        failing: &[],
+        told: "{\"refused\":\"DiskFault\"}\n",
         status: 1,
     },
     Case {

@@ -11,7 +11,9 @@ mod ending;
 mod reply;
 mod request;
 mod running;
+mod worked;
 
 pub use ending::ClientEnding;
 pub use request::request_of;
 pub use running::run_script;
+pub use worked::worked_replies;

@@ -1,7 +1,6 @@
 // The reply line in a response.
-ghost use Rattle.std.specs.Prelude.{◌≡◌, ◌⊎◌, ◌++◌, ◌∷◌, [], ℕ, List, IfOk, IfErr, IfSome, None, Err, option_map, option_and_then, codes, true, false};
+ghost use Rattle.std.specs.Prelude.{◌≡◌, ◌⊎◌, ◌++◌, ◌∷◌, [], ℕ, List, IfOk, IfErr, IfSome, None, Err, true, false};
 ghost use Rattle.serde_json.specs.Data.{Data};
-ghost use Rattle.serde_json.specs.Find.{get, as_str};
 ghost use Rattle.serde_json.specs.View.{view};
 ghost use Rattle.sb_client.specs.Replies as replies;
 ghost use Rattle.sb_client.specs.Replies.{IsReplyLine, MayBeReply, TakesLine, HasNoLine};
@@ -67,69 +66,12 @@ fn reply_value(alloc: Global, line: &[u8]) -> Result<Option<Value>, AllocError>
     }
 }
 
-fn is_of_entities(name: &str) -> bool
-    ensures { result ≡ replies.is_of_entities name.now }
-{
-    name == "BadCall"
-        || name == "EntityNotFound"
-        || name == "EntityExists"
-        || name == "BadName"
-        || name == "BadDescription"
-        || name == "BadFilter"
-        || name == "WrongKind"
-        || name == "TooLarge"
-        || name == "QuotaExceeded"
-}
-
-fn is_of_copies(name: &str) -> bool
-    ensures { result ≡ replies.is_of_copies name.now }
-{
-    name == "SessionRequired"
-        || name == "SessionNotAllowed"
-        || name == "SessionHeld"
-        || name == "SessionLost"
-        || name == "LockLost"
-        || name == "NotDeferred"
-        || name == "NotScheduled"
-}
-
-fn is_of_numbers(name: &str) -> bool
-    ensures { result ≡ replies.is_of_numbers name.now }
-{
-    name == "TxnNotFound"
-        || name == "TxnPending"
-        || name == "TxnScope"
-        || name == "TxnFull"
-        || name == "StaleNumber"
-        || name == "NumberReused"
-        || name == "ClientsFull"
-        || name == "TxnsFull"
-        || name == "Exhausted"
-}
-
-// Whether a refusal of a call has this name.
-#[tactic(auto, unfolding(crate::specs::Replies::is_refusal_name))]
-fn is_refusal_name(name: &str) -> bool
-    ensures { result ≡ replies.is_refusal_name name.now }
-{
-    is_of_entities(name) || is_of_copies(name) || is_of_numbers(name)
-}
-
-fn refused_name(value: &Value) -> Option<&str>
-    ensures { option_map (λ s. s.now) result ≡ option_and_then as_str (get (codes "refused") (view value.now)) }
-{
-    value.get("refused").and_then(Value::as_str)
-}
-
-// Whether the reply refuses the call.
+// Whether the reply is a refusal.
 #[tactic(auto, unfolding(crate::specs::Replies::refuses))]
 fn refuses(value: &Value) -> bool
     ensures { result ≡ replies.refuses (view value.now) }
 {
-    match refused_name(value) {
-        Some(name) => is_refusal_name(name),
-        None => false,
-    }
+    value.get("refused").is_some()
 }
 
 /// The reply line in the bytes of a response, and whether it is a refusal.

@@ -73,7 +73,7 @@ fn says_how_it_ended(rt: HostRuntime) -> Result<(), Fail> {
         ),
         (
             b"HTTP/1.1 200 OK\r\nContent-Length: 24\r\n\r\n{\"refused\":\"DiskFault\"}\n".as_slice(),
-            ClientEnding::Done { refused: false },
+            ClientEnding::Done { refused: true },
         ),
         (
             b"HTTP/1.1 200 OK\r\nContent-Length: 15\r\n\r\n{\"ok\": \"done\"}\n".as_slice(),
