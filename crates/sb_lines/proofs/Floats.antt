@@ -99,7 +99,7 @@ bytes_whole key hex_key bytes ms whole =
     let digits : Members = put hex_key (string (encode_lower bytes)) ms in
     chosen (is_utf8 bytes) text digits (put_whole key (string bytes) ms refl whole) (put_whole hex_key (string (encode_lower bytes)) ms refl whole)
 
-shown_whole : (c : CopyShown) → has_float (shown_data c) ≡ false
+pub shown_whole : (c : CopyShown) → has_float (shown_data c) ≡ false
 shown_whole c =
     let ttl : Members = with_ttl c.message.ttl (common_members c) in
     let showing : Members = with_showing c.showing ttl in

@@ -4,6 +4,7 @@ use Rattle.std.specs.Str.{is_utf8}
 use Rattle.hex.specs.Hex.{encode_lower}
 use Rattle.serde_json.specs.Data.{Data, number, unsigned, boolean, string, object, Members, no_members, member, put}
 use Rattle.serde_json.specs.Find.{of_integer}
+use Rattle.serde_json.specs.Written.{compact_text}
 use Rattle.sb_model.specs.SystemNames.{system_name}
 use Rattle.sb_model.specs.declared.message.Property.{Property}
 use Rattle.sb_model.specs.declared.message.PropertyValue.{PropertyValue}
@@ -77,3 +78,7 @@ with_showing (Browsed state) ms = put (codes "state") (string (state_name state)
 
 abbrev pub shown_data : CopyShown → Data
 shown_data c = object (with_bytes (codes "body") (codes "body_hex") c.message.body (with_showing c.showing (with_ttl c.message.ttl (common_members c))))
+
+-- that object as text, without a line feed
+unfoldable pub message_text : CopyShown → List ℕ
+message_text c = compact_text (shown_data c)

@@ -41,6 +41,6 @@ pub use line::read_line;
 pub use properties::{property_value, put_property};
 pub use refusals::refusal_value;
 pub use reply::{disk_fault_line, out_of_memory_line, reply_line};
-pub use shown::property_data;
+pub use shown::{message_text, property_data};
 pub use texts::{Nulls, broker_texts, lifetime_at};
 pub use token::{token_of, token_text};

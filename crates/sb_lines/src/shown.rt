@@ -1,5 +1,5 @@
 // A copy of a message as a reply shows it.
-ghost use Rattle.std.specs.Prelude.{◌≡◌, IfOk, OnOk};
+ghost use Rattle.std.specs.Prelude.{◌≡◌, IfOk, OnOk, string_bytes};
 ghost use Rattle.serde_json.specs.Data.{object, no_members};
 ghost use Rattle.serde_json.specs.View.{view, members_view};
 ghost use Rattle.sb_lines.specs.Shown as shown;
@@ -9,6 +9,16 @@ use sb_machine::{CopyShown, CopyState, Showing};
 use sb_model::{Property, PropertyValue, SystemText};
 use serde_json::{Map, Value, put};
 use std::alloc::{AllocError, Global};
+
+/// A message as the line of a reply shows it, under `message`: one JSON object, without a line feed.
+#[tactic(auto, unfolding(crate::specs::Shown::message_text))]
+pub fn message_text(alloc: Global, copy: &CopyShown) -> Result<String, AllocError>
+    ensures { IfOk result (λ s. string_bytes s ≡ shown.message_text copy.now) }
+{
+    let value = shown_value(alloc, copy)?;
+    let text = value.to_string(alloc)?;
+    Ok(text)
+}
 
 /// A property's value as JSON.
 pub fn property_data(alloc: Global, value: &PropertyValue) -> Result<Value, AllocError>

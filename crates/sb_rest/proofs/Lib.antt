@@ -3,3 +3,4 @@ mod InOrder
 mod Methods
 mod Plain
 mod Whole
+mod Listed

@@ -28,9 +28,9 @@ lock_whole until (Locked token moment) ms whole = put_whole (codes "LockToken") 
 lock_whole until Removed ms whole = whole
 lock_whole until (Browsed state) ms whole = whole
 
-pub broker_whole : (enqueued until : List ℕ) (c : CopyShown) → has_float (object (broker_members enqueued until c)) ≡ false
-broker_whole enqueued until c =
-    let m0 : Members = with_texts c.message.sys no_members in
+pub broker_whole : (texts : List SystemText) (enqueued until : List ℕ) (c : CopyShown) → has_float (object (broker_members texts enqueued until c)) ≡ false
+broker_whole texts enqueued until c =
+    let m0 : Members = with_texts texts no_members in
     let m1 : Members = put (codes "DeliveryCount") (number (unsigned c.delivery)) m0 in
     let m2 : Members = put (codes "EnqueuedSequenceNumber") (number (unsigned c.enqueued_seq)) m1 in
     let m3 : Members = put (codes "EnqueuedTimeUtc") (string enqueued) m2 in
@@ -39,4 +39,4 @@ broker_whole enqueued until c =
     (put_whole (codes "SequenceNumber") (number (unsigned c.number)) m3 refl
     (put_whole (codes "EnqueuedTimeUtc") (string enqueued) m2 refl
     (put_whole (codes "EnqueuedSequenceNumber") (number (unsigned c.enqueued_seq)) m1 refl
-    (put_whole (codes "DeliveryCount") (number (unsigned c.delivery)) m0 refl (texts_whole c.message.sys no_members refl))))))
+    (put_whole (codes "DeliveryCount") (number (unsigned c.delivery)) m0 refl (texts_whole texts no_members refl))))))

@@ -12,5 +12,6 @@ pub mod Calls
 pub mod Moments
 pub mod Escapes
 pub mod Shown
+pub mod Forms
 pub mod Responses
 pub mod Worked

@@ -1,5 +1,5 @@
 -- What answers a call over HTTP.
-use Rattle.std.specs.Prelude.{◌≡◌, ℕ, Bool, true, false, List, [], ◌∷◌, ◌++◌, codes, Option, Some, None, find, Result, Ok, Err}
+use Rattle.std.specs.Prelude.{◌≡◌, ℕ, Bool, true, false, not, ◌&&◌, if◌then◌else◌, List, [], ◌∷◌, ◌++◌, codes, Option, Some, None, find, Result, Ok, Err}
 use Rattle.serde_json.specs.Written.{compact_text}
 use Rattle.sb_machine.specs.declared.call.Act.{Act}
 use Rattle.sb_machine.specs.declared.call.Act.TheVariants.{Send, Receive, Settle, Renew}
@@ -18,10 +18,12 @@ use Rattle.sb_http.specs.declared.response.Status.TheVariants as status
 use Rattle.sb_http.specs.Fields.{Field, same_word}
 use Rattle.sb_http.specs.Responses.{ResponseMessage}
 use Rattle.sb_lines.specs.Refusals.{plain, refusal_data}
+use Rattle.sb_lines.specs.Shown.{message_text}
 use Rattle.sb_routes.specs.declared.routes.Route.{Route}
 use Rattle.sb_rest.specs.declared.call.RestFault.{RestFault}
 use Rattle.sb_rest.specs.declared.call.RestFault.TheVariants.{Foreign, NoRoute, BadMethod, Bad, Script, OutOfMemory}
 use Rattle.sb_rest.specs.Calls.{methods_of}
+use Rattle.sb_rest.specs.Forms.{json_fields, unasked, fits_head}
 use Rattle.sb_rest.specs.Moments.{IsTime, IsUntil}
 use Rattle.sb_rest.specs.Shown.{message_fields}
 
@@ -102,26 +104,39 @@ abbrev pub taken_status : Mode → Status
 taken_status Lock = status.Created
 taken_status Delete = status.Ok
 
+-- a message whose texts and properties are fields, with the texts of its moments
+abbrev pub plain_message : Path → Mode → List ℕ → List ℕ → List ℕ → CopyShown → ResponseMessage
+plain_message from mode host enqueued until c = record { status = taken_status mode; fields = message_fields host enqueued until from c; body = c.message.body; ends = false }
+
+-- a message that is all in the body, asked for or not
+abbrev pub json_message : Bool → Path → Mode → List ℕ → List ℕ → List ℕ → CopyShown → ResponseMessage
+json_message json from mode host enqueued until c = record { status = taken_status mode; fields = json_fields host enqueued until from c ++ unasked json; body = message_text c; ends = false }
+
+-- JSON where that is asked for, or where the head would be too large without it
+abbrev pub message_response : Bool → Path → Mode → List ℕ → List ℕ → List ℕ → CopyShown → ResponseMessage
+message_response json from mode host enqueued until c =
+    if not json && fits_head (message_fields host enqueued until from c) then plain_message from mode host enqueued until c else json_message json from mode host enqueued until c
+
 -- this is the response with a message that was received there
-pub record GivesMessage (from : Path) (mode : Mode) (host : List ℕ) (c : CopyShown) (r : ResponseMessage) : Type 0 where
+pub record GivesMessage (from : Path) (mode : Mode) (host : List ℕ) (json : Bool) (c : CopyShown) (r : ResponseMessage) : Type 0 where
   pub enqueued : List ℕ
   pub until : List ℕ
   pub entered : IsTime c.enqueued enqueued
   pub locked : IsUntil c.showing until
-  pub whole : r ≡ record { status = taken_status mode; fields = message_fields host enqueued until from c; body = c.message.body; ends = false }
+  pub whole : r ≡ message_response json from mode host enqueued until c
 
-abbrev pub GivesTaken : Path → Mode → List ℕ → Reply → ResponseMessage → Type 0
-GivesTaken from mode host (Message c) r = GivesMessage from mode host c r
-GivesTaken from mode host Empty r = r ≡ bare status.NoContent
-GivesTaken from mode host _ r = r ≡ bare status.InternalServerError
+abbrev pub GivesTaken : Path → Mode → List ℕ → Bool → Reply → ResponseMessage → Type 0
+GivesTaken from mode host json (Message c) r = GivesMessage from mode host json c r
+GivesTaken from mode host json Empty r = r ≡ bare status.NoContent
+GivesTaken from mode host json _ r = r ≡ bare status.InternalServerError
 
 -- this is the response to a call that was accepted
-abbrev pub GivesReply : Act → List ℕ → Reply → ResponseMessage → Type 0
-GivesReply (Send to messages txn) host reply r = r ≡ bare (sent_status reply)
-GivesReply (Receive from mode session) host reply r = GivesTaken from mode host reply r
-GivesReply (Settle from which token session how txn) host reply r = r ≡ bare (settled_status reply)
-GivesReply (Renew from which token) host reply r = r ≡ bare (renewed_status reply)
-GivesReply _ host reply r = r ≡ bare status.InternalServerError
+abbrev pub GivesReply : Act → List ℕ → Bool → Reply → ResponseMessage → Type 0
+GivesReply (Send to messages txn) host json reply r = r ≡ bare (sent_status reply)
+GivesReply (Receive from mode session) host json reply r = GivesTaken from mode host json reply r
+GivesReply (Settle from which token session how txn) host json reply r = r ≡ bare (settled_status reply)
+GivesReply (Renew from which token) host json reply r = r ≡ bare (renewed_status reply)
+GivesReply _ host json reply r = r ≡ bare status.InternalServerError
 
 -- ---- answers
 
@@ -129,14 +144,15 @@ GivesReply _ host reply r = r ≡ bare status.InternalServerError
 abbrev pub as_kept : ResponseMessage → ResponseMessage
 as_kept r = record r { fields = r.fields ++ (codes "Repeat-Kept", codes "true") ∷ [] }
 
-abbrev pub GivesKept : Act → List ℕ → Reply → ResponseMessage → Type 0
-GivesKept act host reply r = (first : ResponseMessage) × GivesReply act host reply first × (r ≡ as_kept first)
+-- in the form that the request which repeats it asks for
+abbrev pub GivesKept : Act → List ℕ → Bool → Reply → ResponseMessage → Type 0
+GivesKept act host json reply r = (first : ResponseMessage) × GivesReply act host json reply first × (r ≡ as_kept first)
 
--- this is the response to a call that is answered so; host is that of the request
-abbrev pub Gives : Act → Result Answered Refusal → List ℕ → ResponseMessage → Type 0
-Gives act (Err refused) host r = r ≡ refusal_response refused
-Gives act (Ok (Kept reply)) host r = GivesKept act host reply r
-Gives act (Ok (New reply)) host r = GivesReply act host reply r
+-- this is the response to a call that is answered so; host is that of the request, and json whether it asks for messages as JSON
+abbrev pub Gives : Act → Result Answered Refusal → List ℕ → Bool → ResponseMessage → Type 0
+Gives act (Err refused) host json r = r ≡ refusal_response refused
+Gives act (Ok (Kept reply)) host json r = GivesKept act host json reply r
+Gives act (Ok (New reply)) host json r = GivesReply act host json reply r
 
 -- the host of a request, as it was sent
 abbrev pub host_from : Option Field → List ℕ

@@ -51,17 +51,17 @@ with_lock until (Locked token moment) ms = put (codes "LockToken") (string (toke
 with_lock until Removed ms = ms
 with_lock until (Browsed state) ms = ms
 
--- keys stand in byte order, in whichever order they are put
-abbrev pub broker_members : List ℕ → List ℕ → CopyShown → Members
-broker_members enqueued until c =
+-- these texts, numbers, moments and the token; keys stand in byte order, in whichever order they are put
+abbrev pub broker_members : List SystemText → List ℕ → List ℕ → CopyShown → Members
+broker_members texts enqueued until c =
     with_lock until c.showing (with_ttl c.message.ttl
     (put (codes "SequenceNumber") (number (unsigned c.number))
     (put (codes "EnqueuedTimeUtc") (string enqueued)
     (put (codes "EnqueuedSequenceNumber") (number (unsigned c.enqueued_seq))
-    (put (codes "DeliveryCount") (number (unsigned c.delivery)) (with_texts c.message.sys no_members))))))
+    (put (codes "DeliveryCount") (number (unsigned c.delivery)) (with_texts texts no_members))))))
 
-unfoldable pub broker_text : List ℕ → List ℕ → CopyShown → List ℕ
-broker_text enqueued until c = ascii_json (compact_text (object (broker_members enqueued until c)))
+unfoldable pub broker_text : List SystemText → List ℕ → List ℕ → CopyShown → List ℕ
+broker_text texts enqueued until c = ascii_json (compact_text (object (broker_members texts enqueued until c)))
 
 -- ---- Location
 
@@ -116,4 +116,4 @@ property_fields p = if stands p then (p.name, value_text p.value) ∷ [] else []
 -- with the texts of the message's moments
 abbrev pub message_fields : List ℕ → List ℕ → List ℕ → Path → CopyShown → List Field
 message_fields host enqueued until from c =
-    (codes "BrokerProperties", broker_text enqueued until c) ∷ (location_under c.showing host from c.number ++ flat_map type_fields c.message.sys ++ flat_map property_fields c.message.props)
+    (codes "BrokerProperties", broker_text c.message.sys enqueued until c) ∷ (location_under c.showing host from c.number ++ flat_map type_fields c.message.sys ++ flat_map property_fields c.message.props)

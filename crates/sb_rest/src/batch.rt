@@ -25,22 +25,32 @@ const BATCH_TYPE: &[u8] = b"application/vnd.microsoft.servicebus.json";
 
 // ---- the media type
 
-fn behind(bytes: &[u8], n: usize) -> &[u8]
+/// What stands behind so many bytes.
+pub(crate) fn behind(bytes: &[u8], n: usize) -> &[u8]
     ensures { result.now ≡ drop n bytes.now }
 {
     if n <= bytes.len() { &bytes[n..] } else { &[] }
 }
 
-fn is_blank(bytes: &[u8]) -> bool
+/// A space or a tab.
+pub(crate) fn is_blank(byte: u8) -> bool
+    ensures { result ≡ batches.is_blank byte }
+{
+    byte == b' ' || byte == b'\t'
+}
+
+/// Whether these are spaces and tabs alone.
+pub(crate) fn are_blank(bytes: &[u8]) -> bool
     ensures { result ≡ list_all batches.is_blank bytes.now }
 {
-    bytes.iter().all(|b| *b == b' ' || *b == b'\t')
+    bytes.iter().all(|b| is_blank(*b))
 }
 
 fn is_batch_word(value: &[u8]) -> bool
     ensures { result ≡ batches.is_batch_word value.now }
 {
-    is_word(BATCH_TYPE, front(value, BATCH_TYPE.len())) && is_blank(behind(value, BATCH_TYPE.len()))
+    is_word(BATCH_TYPE, front(value, BATCH_TYPE.len()))
+        && are_blank(behind(value, BATCH_TYPE.len()))
 }
 
 #[tactic(auto, unfolding(crate::specs::Batches::is_batch_type))]

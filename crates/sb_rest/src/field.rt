@@ -75,7 +75,8 @@ fn push_types(
 
 // ---- Location
 
-fn push_location(
+/// Adds the header with the URL of a message under a lock.
+pub(crate) fn push_location(
     alloc: Global,
     headers: &mut Vec<Header>,
     host: &[u8],
@@ -183,10 +184,11 @@ pub(crate) fn message_fields(
         ≡ shown.message_fields host.now enqueued.now until.now from.now copy.now) }
 {
     let mut headers = Vec::new(alloc);
-    let broker = broker_text(alloc, enqueued, until, copy)?;
+    let texts = copy.message.sys.as_slice();
+    let broker = broker_text(alloc, texts, enqueued, until, copy)?;
     push_field(alloc, &mut headers, b"BrokerProperties", &broker)?;
     push_location(alloc, &mut headers, host, from, copy)?;
-    push_types(alloc, &mut headers, copy.message.sys.as_slice())?;
+    push_types(alloc, &mut headers, texts)?;
     push_properties(alloc, &mut headers, copy.message.props.as_slice())?;
     Ok(headers)
 }

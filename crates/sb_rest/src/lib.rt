@@ -11,7 +11,10 @@
 //!
 //! ```rust
 //! let response = match call_of(alloc, &routes, &request) {
-//!     Ok(wanted) => response_of(alloc, &wanted.call, answer, host_of(&request))?,
+//!     Ok(wanted) => {
+//!         let asker = Asker { host: host_of(&request), json: wants_json(&request) };
+//!         response_of(alloc, &wanted.call, answer, asker)?
+//!     }
 //!     Err(fault) => fault_response(alloc, fault)?,
 //! };
 //! Ok(write_response(alloc, &response)?)
@@ -27,6 +30,7 @@ mod draft;
 mod escape;
 mod field;
 mod foreign;
+mod form;
 mod header;
 mod laws;
 mod lifetime;
@@ -42,6 +46,7 @@ mod value;
 mod worked;
 
 pub use call::{RestFault, Wanted, call_of};
+pub use form::wants_json;
 pub use laws::{escaped_is_ascii, foreign_is_no_call, methods_are_told};
-pub use response::{fault_response, host_of, line_response, response_of};
-pub use worked::{worked_calls, worked_parts, worked_responses};
+pub use response::{Asker, fault_response, host_of, line_response, response_of};
+pub use worked::{worked_calls, worked_forms, worked_parts, worked_responses};

@@ -1,20 +1,21 @@
 // Answers as responses.
-ghost use Rattle.std.specs.Prelude.{◌≡◌, IfOk, All, map, length, codes, string_bytes};
+ghost use Rattle.std.specs.Prelude.{◌≡◌, false, IfOk, All, map, length, codes, string_bytes};
 ghost use Rattle.httparse.specs.Spans.{IsHeaderWithin, header_bytes};
 ghost use Rattle.serde_json.specs.Written.{compact_text};
 ghost use Rattle.sb_lines.specs.Refusals.{plain, refusal_data};
-ghost use Rattle.sb_http.specs.Responses.{said_in};
+ghost use Rattle.sb_http.specs.Responses.{said_in, field_in};
 ghost use Rattle.sb_http.specs.Said.{fields_of};
 ghost use Rattle.sb_rest.specs.Calls.{methods_of};
 ghost use Rattle.sb_rest.specs.Responses as responses;
 
 use crate::call::RestFault;
 use crate::field::{message_fields, push_field};
+use crate::form::{fits_head, json_fields, push_unasked};
 use crate::moment::{time_text, until_text};
 use crate::shown::json_line;
 use httparse::spans::HeaderSpan;
-use sb_http::{Request, Response, Status, is_word};
-use sb_lines::refusal_value;
+use sb_http::{Header, Request, Response, Status, is_word};
+use sb_lines::{message_text, refusal_value};
 use sb_machine::{Act, Answer, Answered, Call, CopyShown, Mode, Path, Refusal, Reply};
 use sb_routes::Route;
 use std::alloc::{AllocError, Global};
@@ -176,18 +177,15 @@ fn taken_status(mode: Mode) -> Status
     }
 }
 
-fn message_response(
+// A message whose texts and properties are fields, with these.
+fn plain_message(
     alloc: Global,
-    from: &Path,
     mode: Mode,
-    host: &[u8],
+    headers: Vec<Header>,
     copy: &CopyShown,
 ) -> Result<Response, AllocError>
-    ensures { IfOk result (λ r. responses.GivesMessage from.now mode host.now copy.now (said_in r)) }
+    ensures { IfOk result (λ r. said_in r ≡ record { status = responses.taken_status mode; fields = map field_in headers.items; body = copy.now.message.body; ends = false }) }
 {
-    let enqueued = time_text(alloc, copy.enqueued)?;
-    let until = until_text(alloc, copy.showing)?;
-    let headers = message_fields(alloc, host, enqueued.as_str(), until.as_str(), from, copy)?;
     let body = copy.message.body.as_slice().to_vec(alloc)?;
     Ok(Response {
         status: taken_status(mode),
@@ -197,17 +195,78 @@ fn message_response(
     })
 }
 
+// A message that is all in the body.
+fn json_message(
+    alloc: Global,
+    from: &Path,
+    mode: Mode,
+    asker: Asker,
+    enqueued: &str,
+    until: &str,
+    copy: &CopyShown,
+) -> Result<Response, AllocError>
+    ensures { IfOk result (λ r. said_in r ≡ responses.json_message asker.json from.now mode asker.host.now enqueued.now until.now copy.now) }
+{
+    let mut headers = json_fields(alloc, asker.host, enqueued, until, from, copy)?;
+    push_unasked(alloc, &mut headers, asker.json)?;
+    let body = message_text(alloc, copy)?;
+    Ok(Response {
+        status: taken_status(mode),
+        headers,
+        body: body.into_bytes(),
+        closes: false,
+    })
+}
+
+// A message with the texts of its moments.
+fn timed_message(
+    alloc: Global,
+    from: &Path,
+    mode: Mode,
+    asker: Asker,
+    enqueued: &str,
+    until: &str,
+    copy: &CopyShown,
+) -> Result<Response, AllocError>
+    ensures { IfOk result (λ r. said_in r ≡ responses.message_response asker.json from.now mode asker.host.now enqueued.now until.now copy.now) }
+{
+    if asker.json {
+        return json_message(alloc, from, mode, asker, enqueued, until, copy);
+    }
+    let headers = message_fields(alloc, asker.host, enqueued, until, from, copy)?;
+    if fits_head(&headers) {
+        return plain_message(alloc, mode, headers, copy);
+    }
+    drop(headers);
+    json_message(alloc, from, mode, asker, enqueued, until, copy)
+}
+
+fn message_response(
+    alloc: Global,
+    from: &Path,
+    mode: Mode,
+    asker: Asker,
+    copy: &CopyShown,
+) -> Result<Response, AllocError>
+    ensures { IfOk result (λ r. responses.GivesMessage from.now mode asker.host.now asker.json copy.now (said_in r)) }
+{
+    let enqueued = time_text(alloc, copy.enqueued)?;
+    let until = until_text(alloc, copy.showing)?;
+    let (enqueued, until) = (enqueued.as_str(), until.as_str());
+    timed_message(alloc, from, mode, asker, enqueued, until, copy)
+}
+
 fn taken_response(
     alloc: Global,
     from: &Path,
     mode: Mode,
-    host: &[u8],
+    asker: Asker,
     reply: &Reply,
 ) -> Result<Response, AllocError>
-    ensures { IfOk result (λ r. responses.GivesTaken from.now mode host.now reply.now (said_in r)) }
+    ensures { IfOk result (λ r. responses.GivesTaken from.now mode asker.host.now asker.json reply.now (said_in r)) }
 {
     match reply {
-        Reply::Message(copy) => message_response(alloc, from, mode, host, copy),
+        Reply::Message(copy) => message_response(alloc, from, mode, asker, copy),
         Reply::Empty => Ok(bare(alloc, Status::NoContent)),
         _ => Ok(bare(alloc, Status::InternalServerError)),
     }
@@ -216,14 +275,14 @@ fn taken_response(
 fn reply_response(
     alloc: Global,
     act: &Act,
-    host: &[u8],
+    asker: Asker,
     reply: &Reply,
 ) -> Result<Response, AllocError>
-    ensures { IfOk result (λ r. responses.GivesReply act.now host.now reply.now (said_in r)) }
+    ensures { IfOk result (λ r. responses.GivesReply act.now asker.host.now asker.json reply.now (said_in r)) }
 {
     match act {
         Act::Send { .. } => Ok(bare(alloc, sent_status(reply))),
-        Act::Receive { from, mode, .. } => taken_response(alloc, from, *mode, host, reply),
+        Act::Receive { from, mode, .. } => taken_response(alloc, from, *mode, asker, reply),
         Act::Settle { .. } => Ok(bare(alloc, settled_status(reply))),
         Act::Renew { .. } => Ok(bare(alloc, renewed_status(reply))),
         _ => Ok(bare(alloc, Status::InternalServerError)),
@@ -236,30 +295,31 @@ fn reply_response(
 fn kept_response(
     alloc: Global,
     act: &Act,
-    host: &[u8],
+    asker: Asker,
     reply: &Reply,
 ) -> Result<Response, AllocError>
-    ensures { IfOk result (λ r. responses.GivesKept act.now host.now reply.now (said_in r)) }
+    ensures { IfOk result (λ r. responses.GivesKept act.now asker.host.now asker.json reply.now (said_in r)) }
 {
-    let mut response = reply_response(alloc, act, host, reply)?;
+    let mut response = reply_response(alloc, act, asker, reply)?;
     push_field(alloc, &mut response.headers, b"Repeat-Kept", b"true")?;
     Ok(response)
 }
 
-/// The response to a call that is answered so. The host is that of the request (`host_of`): it stands
-/// in the Location of a message under a lock. A reply that no call of a route is answered is an error
+/// The response to a call that is answered so, to who asks. A message that is received has its texts
+/// and properties as fields, or is all in the body as JSON where that is asked for, or where an
+/// ordinary client could not take the head (64 lines of fields, 16,384 bytes). A reply that no call of a route is answered is an error
 /// of the server's own. It fails for want of memory alone.
 pub fn response_of(
     alloc: Global,
     call: &Call,
     answer: &Answer,
-    host: &[u8],
+    asker: Asker,
 ) -> Result<Response, AllocError>
-    ensures { IfOk result (λ r. responses.Gives call.now.act answer.now host.now (said_in r)) }
+    ensures { IfOk result (λ r. responses.Gives call.now.act answer.now asker.host.now asker.json (said_in r)) }
 {
     match answer {
-        Ok(Answered::New(reply)) => reply_response(alloc, &call.act, host, reply),
-        Ok(Answered::Kept(reply)) => kept_response(alloc, &call.act, host, reply),
+        Ok(Answered::New(reply)) => reply_response(alloc, &call.act, asker, reply),
+        Ok(Answered::Kept(reply)) => kept_response(alloc, &call.act, asker, reply),
         Err(refusal) => refusal_response(alloc, refusal),
     }
 }
@@ -274,6 +334,16 @@ fn host_in<'a>(text: &'a [u8], lines: &[HeaderSpan]) -> &'a [u8]
         }
     }
     b"localhost"
+}
+
+/// What a response has of who asks.
+#[derive(Clone, Copy)]
+pub struct Asker<'a> {
+    /// The host that the request names (`host_of`): it stands in the Location of a message under a
+    /// lock.
+    pub host: &'a [u8],
+    /// Whether the request asks for messages as JSON (`wants_json`).
+    pub json: bool,
 }
 
 /// The host that a request names, as it was sent; `localhost` where it names none.

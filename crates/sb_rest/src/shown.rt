@@ -87,14 +87,15 @@ fn put_lock(
 
 fn broker_members(
     alloc: Global,
+    texts: &[SystemText],
     enqueued: &str,
     until: &str,
     copy: &CopyShown,
 ) -> Result<Members, AllocError>
-    ensures { IfOk result (λ m. members_view m.entries ≡ shown.broker_members enqueued.now until.now copy.now) }
+    ensures { IfOk result (λ m. members_view m.entries ≡ shown.broker_members texts.now enqueued.now until.now copy.now) }
 {
     let mut members = Map::new(alloc);
-    put_texts(&mut members, alloc, copy.message.sys.as_slice())?;
+    put_texts(&mut members, alloc, texts)?;
     put_number(&mut members, alloc, "DeliveryCount", copy.delivery)?;
     put_number(
         &mut members,
@@ -111,13 +112,14 @@ fn broker_members(
 
 fn broker_value(
     alloc: Global,
+    texts: &[SystemText],
     enqueued: &str,
     until: &str,
     copy: &CopyShown,
 ) -> Result<Value, AllocError>
-    ensures { IfOk result (λ v. view v ≡ object (shown.broker_members enqueued.now until.now copy.now)) }
+    ensures { IfOk result (λ v. view v ≡ object (shown.broker_members texts.now enqueued.now until.now copy.now)) }
 {
-    let members = broker_members(alloc, enqueued, until, copy)?;
+    let members = broker_members(alloc, texts, enqueued, until, copy)?;
     Ok(Value::Object(members))
 }
 
@@ -130,17 +132,18 @@ pub(crate) fn json_line(alloc: Global, value: &Value) -> Result<String, AllocErr
     Ok(text)
 }
 
-/// BrokerProperties of a message, with the texts of its moments.
+/// BrokerProperties of a message, with these of its texts and the texts of its moments.
 #[tactic(auto, unfolding(crate::specs::Shown::broker_text))]
 pub(crate) fn broker_text(
     alloc: Global,
+    texts: &[SystemText],
     enqueued: &str,
     until: &str,
     copy: &CopyShown,
 ) -> Result<Vec<u8>, AllocError>
-    ensures { IfOk result (λ v. v.items ≡ shown.broker_text enqueued.now until.now copy.now) }
+    ensures { IfOk result (λ v. v.items ≡ shown.broker_text texts.now enqueued.now until.now copy.now) }
 {
-    let value = broker_value(alloc, enqueued, until, copy)?;
+    let value = broker_value(alloc, texts, enqueued, until, copy)?;
     let text = json_line(alloc, &value)?;
     ascii_json(alloc, text.as_str())
 }

@@ -1,9 +1,10 @@
 // Requests and their calls, worked out by hand.
-ghost use Rattle.std.specs.Prelude.{◌≡◌, ◌∷◌, [], codes, true, Err, None, Ok, Some, pos, neg_ℤ};
+ghost use Rattle.std.specs.Prelude.{◌≡◌, ◌∷◌, [], codes, true, false, replicate, Err, None, Ok, Some, pos, neg_ℤ};
 ghost use Rattle.serde_json.specs.Data.{string};
 ghost use Rattle.serde_json.specs.Read.{read};
 ghost use Rattle.sb_machine.specs.declared.reply.Refusal.TheVariants.{BadCall, Stopped};
 ghost use Rattle.sb_model.specs.declared.message.PropertyValue.TheVariants.{Int, Text};
+ghost use Rattle.sb_lines.specs.Shown.{message_text};
 ghost use Rattle.sb_machine.specs.declared.call.Part.TheVariants.{Main};
 ghost use Rattle.sb_routes.specs.declared.routes.Address.TheVariants.{Entity};
 ghost use Rattle.sb_routes.specs.declared.routes.Route.TheVariants.{Messages, Locked};
@@ -12,6 +13,7 @@ ghost use Rattle.sb_rest.specs.Batches as batches;
 ghost use Rattle.sb_rest.specs.Brokers.{broker_in};
 ghost use Rattle.sb_rest.specs.Calls.{call_of};
 ghost use Rattle.sb_rest.specs.Escapes.{ascii_json};
+ghost use Rattle.sb_rest.specs.Forms.{fits_head, is_json_asked, lists_json, unasked};
 ghost use Rattle.sb_rest.specs.Lifetimes.{span_in};
 ghost use Rattle.sb_rest.specs.Values.{header_value};
 ghost use Rattle.sb_rest.specs.Repeats as repeats;
@@ -68,7 +70,7 @@ pub fn worked_parts()
 
 /// The same of the parts of responses.
 pub fn worked_responses()
-    ensures broker { broker_text (codes "Thu, 01 Jan 1970 00:00:01 GMT") (codes "Thu, 01 Jan 1970 00:01:01 GMT") first_copy
+    ensures broker { broker_text [] (codes "Thu, 01 Jan 1970 00:00:01 GMT") (codes "Thu, 01 Jan 1970 00:01:01 GMT") first_copy
         ≡ codes "{\"DeliveryCount\":1,\"EnqueuedSequenceNumber\":1,\"EnqueuedTimeUtc\":\"Thu, 01 Jan 1970 00:00:01 GMT\",\"LockToken\":\"a1b2c3d4-e5f6-0718-0000-000000000001\",\"LockedUntilUtc\":\"Thu, 01 Jan 1970 00:01:01 GMT\",\"SequenceNumber\":1}" }
     ensures location { location_text (codes "h") q 1 first_token ≡ codes "http://h/q/messages/1/a1b2c3d4-e5f6-0718-0000-000000000001" }
     ensures refused { refusal_text (BadCall (codes "TimeToLive")) ≡ codes "{\"key\":\"TimeToLive\",\"refused\":\"BadCall\"}" }
@@ -84,4 +86,19 @@ pub fn worked_responses()
     ensures cookie { property_fields (record { name = codes "set-cookie"; value = Text (codes "x") }) ≡ [] }
     ensures proxy { property_fields (record { name = codes "x-accel-redirect"; value = Text (codes "x") }) ≡ [] }
     ensures reserved { property_fields (record { name = codes "host"; value = Text (codes "x") }) ≡ [] }
+{}
+
+/// The same of messages as JSON.
+pub fn worked_forms()
+    ensures among { lists_json (codes "text/plain, Application/JSON ;q=0.9") ≡ true }
+    ensures longer { lists_json (codes "application/json-patch, application/jsonx, text/json") ≡ false }
+    ensures any { lists_json (codes "*/*") ≡ false }
+    ensures accept { is_json_asked (codes "ACCEPT", codes "application/json") ≡ true }
+    ensures another { is_json_asked (codes "Content-Type", codes "application/json") ≡ false }
+    ensures body { message_text first_copy
+        ≡ codes "{\"body\":\"hi\",\"delivery\":1,\"enqueued\":1000,\"enqueued_seq\":1,\"props\":{},\"seq\":1,\"sys\":{},\"token\":\"a1b2c3d4-e5f6-0718-0000-000000000001\",\"until\":61000}" }
+    ensures small { fits_head ((codes "a", codes "bc") ∷ []) ≡ true }
+    ensures many { fits_head (replicate 61 (codes "a", [])) ≡ true }
+    ensures too_many { fits_head (replicate 62 (codes "a", [])) ≡ false }
+    ensures unasked { unasked false ≡ (codes "Message-Form", codes "json") ∷ [] }
 {}

@@ -13,7 +13,9 @@ use sb_machine::{Answer, Call, Refusal};
 use sb_model::Text;
 use sb_node::Node;
 use sb_outside::MemDisk;
-use sb_rest::{RestFault, call_of, fault_response, host_of, line_response, response_of};
+use sb_rest::{
+    Asker, RestFault, call_of, fault_response, host_of, line_response, response_of, wants_json,
+};
 use sb_routes::Routes;
 use std::alloc::{AllocError, Global};
 
@@ -148,13 +150,13 @@ fn response_to_call(
     alloc: Global,
     node: &mut Node<MemDisk>,
     call: &Call,
-    host: &[u8],
+    asker: Asker<'_>,
     moment: u64,
 ) -> Result<Response, AllocError>
     requires order { IsActInOrder call.now.act }
 {
     let answer = node.step(moment, call);
-    let response = response_of(alloc, call, &answer, host);
+    let response = response_of(alloc, call, &answer, asker);
     drop(answer);
     response
 }
@@ -168,7 +170,11 @@ fn response_to(
 ) -> Result<Response, AllocError> {
     match call_of(alloc, routes, request) {
         Ok(wanted) => {
-            let response = response_to_call(alloc, node, &wanted.call, host_of(request), moment);
+            let asker = Asker {
+                host: host_of(request),
+                json: wants_json(request),
+            };
+            let response = response_to_call(alloc, node, &wanted.call, asker, moment);
             drop(wanted);
             response
         }
