@@ -35,7 +35,7 @@ counted_gives Long content x bounds e = let t = number_takes w32 (2 ^ 32) wide32
 counted_gives Described content x bounds e = absurd cc
 counted_gives Unknown content x bounds e = absurd cc
 
-counted_again : (e : Extent) (n : ℕ) (items : List ℕ) → FitsCount e n → counted e (count_bytes e n ++ items) ≡ Some (n, items)
+pub counted_again : (e : Extent) (n : ℕ) (items : List ℕ) → FitsCount e n → counted e (count_bytes e n ++ items) ≡ Some (n, items)
 unfolding counted
 counted_again (Fixed k) n items fits = rw fits refl
 counted_again Short n items fits = refl

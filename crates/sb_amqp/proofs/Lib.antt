@@ -13,3 +13,5 @@ pub mod Entries
 pub mod FieldsBack
 pub mod Parts
 pub mod Finished
+pub mod Agreed
+pub mod Standing

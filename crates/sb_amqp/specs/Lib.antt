@@ -7,3 +7,4 @@ pub mod Reads
 pub mod Reading
 pub mod Laws
 pub mod Worked
+pub mod Found

@@ -2,8 +2,8 @@
 //!
 //! Systems around the broker keep and exchange messages as the sections of that format. The crate
 //! stands on `sb_model` alone. [`read_message`] gives a message exactly where the grammar of
-//! `specs/Values` and `specs/Sections` spells one, and else the fault with its place (`specs/Reads`);
-//! [`write_message`] gives the one spelling of `specs/Written`. The bytes are gone over twice: are
+//! `specs/Values` and `specs/Sections` spells one, and else the fault with its place (`specs/Reads`), which
+//! is what `specs/Found` computes; [`write_message`] gives the one spelling of `specs/Written`. The bytes are gone over twice: are
 //! they sections in their order (`order.rt`), and what do those say that are used (`read.rt`).
 //!
 //! ```text
@@ -34,4 +34,4 @@ pub use fault::AmqpFault;
 pub use laws::written_is_read;
 pub use read::read_message;
 pub use worked::worked_messages;
-pub use write::write_message;
+pub use write::{write_message, write_scheduled};

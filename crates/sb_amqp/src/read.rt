@@ -1,5 +1,7 @@
 // From bytes to the message that they spell.
 ghost use Rattle.std.specs.Prelude.{◌≡◌, ◌++◌, List, ℕ, IfOk, length, option_map};
+ghost use Rattle.sb_model.specs.Orders.{IsInOrder};
+ghost use Rattle.sb_amqp.specs.Found.{IsFound, message_in};
 ghost use Rattle.sb_amqp.specs.Meaning as meaning;
 ghost use Rattle.sb_amqp.specs.Meaning.{Says};
 ghost use Rattle.sb_amqp.specs.Reads.{Answers, AnswersOnly, Spells, Tells};
@@ -169,6 +171,8 @@ fn said_message(alloc: Global, bytes: &[u8]) -> Result<Message, AmqpFault>
 pub fn read_message(alloc: Global, bytes: &[u8]) -> Result<Message, AmqpFault>
     ensures found { Answers bytes.now result }
     ensures only { AnswersOnly bytes.now result }
+    ensures value { IsFound result (message_in bytes.now) }
+    ensures in_order { IfOk result IsInOrder }
 {
     match check_sections(bytes) {
         Ok(()) => said_message(alloc, bytes),

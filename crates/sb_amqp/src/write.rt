@@ -208,13 +208,24 @@ fn put_data(body: &[u8], out: &mut Vec<u8>) -> Result<(), AllocError>
 
 /// The one spelling in which a message is written. A time to live above 4,294,967 s is left out,
 /// since a header says it in milliseconds of 32 bits.
-#[tactic(auto, unfolding(crate::specs::Written::written))]
 pub fn write_message(alloc: Global, message: &Message) -> Result<Vec<u8>, AllocError>
     ensures { IfOk result (λ bytes. bytes.items ≡ written.written message.now) }
 {
+    write_scheduled(alloc, message, message.schedule)
+}
+
+/// The same of the message with this schedule in place of its own.
+#[tactic(auto, unfolding(crate::specs::Written::written))]
+pub fn write_scheduled(
+    alloc: Global,
+    message: &Message,
+    schedule: Option<u64>,
+) -> Result<Vec<u8>, AllocError>
+    ensures { IfOk result (λ bytes. bytes.items ≡ written.written (record message.now { schedule = schedule })) }
+{
     let mut out = Vec::new(alloc);
     put_header(alloc, message.ttl, &mut out)?;
-    put_annotations(alloc, message.schedule, &mut out)?;
+    put_annotations(alloc, schedule, &mut out)?;
     put_properties(alloc, message.sys.as_slice(), &mut out)?;
     put_application(alloc, message.props.as_slice(), &mut out)?;
     put_data(message.body.as_slice(), &mut out)?;

@@ -16,6 +16,8 @@ use Rattle.sb_node.specs.Nodes.{IsOneOf, StayOneOf}
 use Rattle.sb_node.specs.Steps.{IsStep, entries_with, log_of}
 use Rattle.sb_app.specs.Outside.{Input, Output, Outside}
 use Rattle.sb_lines.specs.Replies.{answer_line}
+use Rattle.sb_lines.specs.declared.form.Form.{Form}
+use Rattle.sb_lines.specs.declared.form.Form.TheVariants.{Plain}
 use Rattle.sb_input.specs.declared.partial_line.PartialLine.{PartialLine}
 use Rattle.sb_input.specs.declared.reader.Reader.{Reader}
 use Rattle.sb_input.specs.declared.reader.ReadEnd.{ReadEnd}
@@ -27,7 +29,7 @@ use Rattle.sb_app.specs.declared.dispatch.AnswerKind.TheVariants.{Failed, Wantin
 use Rattle.sb_app.specs.declared.ending.RunEnd.{RunEnd}
 use Rattle.sb_app.specs.declared.ending.RunEnd.TheVariants.{ReadFault, WriteFault, DiskFault, OutOfMemory, LongInput}
 use Rattle.sb_input.specs.Lines.{lines_of, AreWhole}
-use Rattle.sb_app.specs.Lines.{script_line, script_lines}
+use Rattle.sb_app.specs.Lines.{form_of, script_line, script_lines}
 use Rattle.sb_input.specs.Taking.{Took, IsLong, AreFirst as AreFirstTaken, IsAhead as IsReadAhead}
 use Rattle.sb_app.specs.Taking.{IsAhead, IsTaken, end_of_reading}
 use Rattle.sb_input.specs.Readers.{pending_of, IsAt, ReadsLine}
@@ -64,7 +66,7 @@ reply_cut line was now part rose = by_given was.given part
 -- ---- at a line
 
 -- its answer's line wasn't written, or in part
-pub reply_cut_at : (s after : State) (x : ScriptLine) (tick : Option ℕ) (answer : Result Answered Refusal) (was now : Output) (end : RunEnd) → IsAnswer s x tick answer → is_fault answer ≡ false → after ≡ state_after s (entries_by x tick answer) → IsReplyCut (answer_line answer) was now end → IsCutAt s x was now after end
+pub reply_cut_at : (s after : State) (x : ScriptLine) (tick : Option ℕ) (answer : Result Answered Refusal) (was now : Output) (end : RunEnd) → IsAnswer s x tick answer → is_fault answer ≡ false → after ≡ state_after s (entries_by x tick answer) → IsReplyCut (answer_line (form_of x) answer) was now end → IsCutAt s x was now after end
 reply_cut_at s after x tick answer was now WriteFault is sound leads cut = record {
   tick = tick;
   answer = answer;
@@ -88,13 +90,13 @@ reply_cut_at s after x tick answer was now DiskFault is sound leads cut = absurd
 reply_cut_at s after x tick answer was now LongInput is sound leads cut = absurd cut
 
 -- the same of a line that is no call
-pub malformed_cut : (s : State) (x : ScriptLine) (key : List ℕ) (was now : Output) (end : RunEnd) → x ≡ Malformed key → IsReplyCut (answer_line (Err (BadCall key))) was now end → IsCutAt s x was now s end
+pub malformed_cut : (s : State) (x : ScriptLine) (key : List ℕ) (was now : Output) (end : RunEnd) → x ≡ Malformed key → IsReplyCut (answer_line Plain (Err (BadCall key))) was now end → IsCutAt s x was now s end
 malformed_cut s x key was now end is cut = subst (λ (y : ScriptLine). IsCutAt s y was now s end) (sym is) (reply_cut_at s s (Malformed key) None (Err (BadCall key)) was now end (refl, refl) refl refl cut)
 
 -- a step of a running node
-pub step_at : (s after : State) (before stopped tick : Option ℕ) (asked : TimedCall) (a : Result Answered Refusal) → before ≡ None → IfSome tick (λ t. t ≡ moment_of s asked.reading) → IsStep (log_of s before) (entries_with tick 0 asked.reading asked.call a) (log_of after stopped)
-    → IsAnswer s (Request asked) tick a × (after ≡ state_after s (entries_by (Request asked) tick a))
-step_at s after before stopped tick asked a running at step =
+pub step_at : (s after : State) (before stopped tick : Option ℕ) (asked : TimedCall) (form : Form) (a : Result Answered Refusal) → before ≡ None → IfSome tick (λ t. t ≡ moment_of s asked.reading) → IsStep (log_of s before) (entries_with tick 0 asked.reading asked.call a) (log_of after stopped)
+    → IsAnswer s (Request asked form) tick a × (after ≡ state_after s (entries_by (Request asked form) tick a))
+step_at s after before stopped tick asked form a running at step =
     let step' : IsStep (fresh_log s) (entries_with tick 0 asked.reading asked.call a) (log_of after stopped) = subst (λ (o : Option ℕ). IsStep (log_of s o) (entries_with tick 0 asked.reading asked.call a) (log_of after stopped)) running step in
     ((at, step'.legal), ap (λ (l : Log). l.state) step'.leads)
 
@@ -123,26 +125,26 @@ failed_answer (Err r) stopped running only is = ap Err (by_refusal r (λ n e. on
     by_refusal WantsMemory only is = absurd cc
     by_refusal _ only is = absurd cc
 
-pub disk_cut : (s after : State) (asked : TimedCall) (tick : Option ℕ) (a : Result Answered Refusal) (line : List ℕ) (was now : Output) → a ≡ Err FailedDisk → line ≡ answer_line (Err FailedDisk) → IsLineWritten line was now → IsAnswer s (Request asked) tick a → after ≡ state_after s (entries_by (Request asked) tick a)
-    → IsCutAt s (Request asked) was now after DiskFault
-disk_cut s after asked tick a line was now failed is written allowed leads = record {
+pub disk_cut : (s after : State) (asked : TimedCall) (form : Form) (tick : Option ℕ) (a : Result Answered Refusal) (line : List ℕ) (was now : Output) → a ≡ Err FailedDisk → line ≡ answer_line Plain (Err FailedDisk) → IsLineWritten line was now → IsAnswer s (Request asked form) tick a → after ≡ state_after s (entries_by (Request asked form) tick a)
+    → IsCutAt s (Request asked form) was now after DiskFault
+disk_cut s after asked form tick a line was now failed is written allowed leads = record {
   tick = tick;
   answer = a;
   is = allowed;
   part = written.part;
-  cause = (failed, subst (λ (l : List ℕ). IsWritten l written.part was.faults now.faults) (is ∙ ap answer_line (sym failed)) written.is);
+  cause = (failed, subst (λ (l : List ℕ). IsWritten l written.part was.faults now.faults) (is ∙ ap (λ x. answer_line form x) (sym failed)) written.is);
   written = written.written;
   leads = leads;
 }
 
-pub memory_cut : (s after : State) (asked : TimedCall) (tick : Option ℕ) (a : Result Answered Refusal) (line : List ℕ) (was now : Output) → a ≡ Err WantsMemory → line ≡ answer_line (Err WantsMemory) → IsLineWritten line was now → IsAnswer s (Request asked) tick a → after ≡ state_after s (entries_by (Request asked) tick a)
-    → IsCutAt s (Request asked) was now after OutOfMemory
-memory_cut s after asked tick a line was now wants is written allowed leads = record {
+pub memory_cut : (s after : State) (asked : TimedCall) (form : Form) (tick : Option ℕ) (a : Result Answered Refusal) (line : List ℕ) (was now : Output) → a ≡ Err WantsMemory → line ≡ answer_line Plain (Err WantsMemory) → IsLineWritten line was now → IsAnswer s (Request asked form) tick a → after ≡ state_after s (entries_by (Request asked form) tick a)
+    → IsCutAt s (Request asked form) was now after OutOfMemory
+memory_cut s after asked form tick a line was now wants is written allowed leads = record {
   tick = tick;
   answer = a;
   is = allowed;
   part = written.part;
-  cause = inl (wants, subst (λ (l : List ℕ). IsWritten l written.part was.faults now.faults) (is ∙ ap answer_line (sym wants)) written.is);
+  cause = inl (wants, subst (λ (l : List ℕ). IsWritten l written.part was.faults now.faults) (is ∙ ap (λ x. answer_line form x) (sym wants)) written.is);
   written = written.written;
   leads = leads;
 }
@@ -179,18 +181,18 @@ nothing_taken input = record {
   is_ahead = record { line = []; rest = []; split = refl; no_feed = tt; fits = omega arith };
 }
 
-ahead_at : (end : RunEnd) (answer : Result Answered Refusal) (part : List ℕ) (before now : ℕ) (r : Reader) → IsCause end answer part before now → IsAhead end (pending_of r)
-ahead_at ReadFault answer part before now r cause = absurd cause
-ahead_at WriteFault answer part before now r cause = pending_fits r
-ahead_at DiskFault answer part before now r cause = pending_fits r
-ahead_at OutOfMemory answer part before now r cause = record {
+ahead_at : (form : Form) (end : RunEnd) (answer : Result Answered Refusal) (part : List ℕ) (before now : ℕ) (r : Reader) → IsCause form end answer part before now → IsAhead end (pending_of r)
+ahead_at form ReadFault answer part before now r cause = absurd cause
+ahead_at form WriteFault answer part before now r cause = pending_fits r
+ahead_at form DiskFault answer part before now r cause = pending_fits r
+ahead_at form OutOfMemory answer part before now r cause = record {
   line = [];
   rest = pending_of r;
   split = refl;
   no_feed = tt;
   fits = omega (arith, pending_fits r);
 }
-ahead_at LongInput answer part before now r cause = absurd cause
+ahead_at form LongInput answer part before now r cause = absurd cause
 
 -- ---- the run
 
@@ -231,12 +233,12 @@ cut_at_once Safe s was = record {
     no_lines None = tt
     no_lines (Some all) = (script_lines all, refl)
 
-not_long : (end : RunEnd) (answer : Result Answered Refusal) (part : List ℕ) (before now : ℕ) (P : Type 0) → IsCause end answer part before now → end ≡ LongInput → P
-not_long LongInput answer part before now P cause e = absurd cause
-not_long ReadFault answer part before now P cause e = absurd cause
-not_long WriteFault answer part before now P cause e = absurd cc
-not_long DiskFault answer part before now P cause e = absurd cc
-not_long OutOfMemory answer part before now P cause e = absurd cc
+not_long : (form : Form) (end : RunEnd) (answer : Result Answered Refusal) (part : List ℕ) (before now : ℕ) (P : Type 0) → IsCause form end answer part before now → end ≡ LongInput → P
+not_long form LongInput answer part before now P cause e = absurd cause
+not_long form ReadFault answer part before now P cause e = absurd cause
+not_long form WriteFault answer part before now P cause e = absurd cc
+not_long form DiskFault answer part before now P cause e = absurd cc
+not_long form OutOfMemory answer part before now P cause e = absurd cc
 
 -- at one line more
 pub cut_at_line : (Safe : Type 0) (s state after : State) (was on now : Outside) (r next : Reader) (refused : Bool) (end : RunEnd) (partial : PartialLine) (x : ScriptLine) (so_far : RunsSoFar s was.input.left on.input.left was.output.given on.output.given r state refused)
@@ -254,11 +256,11 @@ cut_at_line Safe s state after was on now r next refused end partial x so_far re
         ahead = pending_of next;
         took = subst (Took was.input.left now.input.left) adv.split reads.at.took;
         says = all;
-        is_ahead = ahead_at end cut.answer cut.part on.output.faults now.output.faults next cut.cause;
+        is_ahead = ahead_at (form_of x) end cut.answer cut.part on.output.faults now.output.faults next cut.cause;
       };
-      long = not_long end cut.answer cut.part on.output.faults now.output.faults (IsLong was.input.left now.input.left) cut.cause;
+      long = not_long (form_of x) end cut.answer cut.part on.output.faults now.output.faults (IsLong was.input.left now.input.left) cut.cause;
       part = cut.part;
-      ends = (subst (λ (y : State). IsAnswer y x cut.tick cut.answer) so_far.leads cut.is, subst (λ n. IsCause end cut.answer cut.part n now.output.faults) same cut.cause);
+      ends = (subst (λ (y : State). IsAnswer y x cut.tick cut.answer) so_far.leads cut.is, subst (λ n. IsCause (form_of x) end cut.answer cut.part n now.output.faults) same cut.cause);
       written = gains-gains was.output.given on.output.given now.output.given (replies_to s (script_lines so_far.done)) cut.part so_far.written cut.written;
       leads = cut.leads ∙ ap (λ (y : State). state_after y (entries_by x cut.tick cut.answer)) so_far.leads;
       undecided = λ safe failed. subst (λ (y : State). IsUndecided now.disks y (Some (record { line = x; tick = cut.tick; answer = cut.answer }))) so_far.leads (undecided safe failed);

@@ -37,7 +37,7 @@ legal_to s ls (Some last) part before now end consistent ends = at_line last.lin
     at_line : (x : ScriptLine) → IsAnswer (state_after_all s ls) x last.tick last.answer → IsLegal s (history_of s ls ++ entries_by x last.tick last.answer)
     at_line Blank is = absurd is
     at_line (Malformed key) is = legal_on s ls [] consistent refl
-    at_line (Request a) is = legal_on s ls (entries_by (Request a) last.tick last.answer) consistent is.1
+    at_line (Request a form) is = legal_on s ls (entries_by (Request a form) last.tick last.answer) consistent is.1
 
 -- ---- the run
 

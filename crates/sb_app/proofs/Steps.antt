@@ -22,6 +22,7 @@ use Rattle.sb_node.specs.Nodes.{StayOneOf}
 use Rattle.sb_node.specs.Steps.{IsStep, called_at, entries_with, log_of, time_to}
 use Rattle.sb_app.specs.Outside.{Output}
 use Rattle.sb_lines.specs.Replies.{answer_line}
+use Rattle.sb_lines.specs.declared.form.Form.{Form}
 use Rattle.sb_app.specs.declared.script_line.ScriptLine.TheVariants.{Request}
 use Rattle.sb_app.specs.declared.dispatch.AnswerKind.TheVariants.{Accepted, Refused}
 use Rattle.sb_app.specs.Runs.{answer_at, kind_of, state_by, states_of, IsAnswered}
@@ -124,10 +125,10 @@ stepped s after before stopped tick reading call a consistent running at step so
       runs = none_of stopped (ap (λ (l : Log). l.stopped) step'.leads ∙ stops_by s tick reading call a ∙ going_on a sound);
     }
 
-pub answered_call : (s after : State) (asked : TimedCall) (a : Result Answered Refusal) (stopped : Option ℕ) (was now : Output) (refused : Bool) → Stepped s asked.reading asked.call a stopped after → Gains was.given now.given (answer_line a) → is_err a ≡ refused
-    → IsAnswered s (Request asked) was now after refused
-answered_call s after asked a stopped was now refused step gains is = record {
-  written = subst (λ (x : Result Answered Refusal). Gains was.given now.given (answer_line x)) step.says gains;
+pub answered_call : (s after : State) (asked : TimedCall) (form : Form) (a : Result Answered Refusal) (stopped : Option ℕ) (was now : Output) (refused : Bool) → Stepped s asked.reading asked.call a stopped after → Gains was.given now.given (answer_line form a) → is_err a ≡ refused
+    → IsAnswered s (Request asked form) was now after refused
+answered_call s after asked form a stopped was now refused step gains is = record {
+  written = subst (λ (x : Result Answered Refusal). Gains was.given now.given (answer_line form x)) step.says gains;
   leads = step.leads;
   says = sym is ∙ ap is_err step.says;
 }
@@ -141,19 +142,19 @@ still_runs_wanting s after before stopped tick reading call a running step wants
 -- ---- what a crash leaves
 
 -- the last of the states of a step is the one after its line
-called_after : (s : State) (asked : TimedCall) → called_at (moment_of s asked.reading) asked.call (time_to (moment_of s asked.reading) s) ≡ state_by s (Request asked)
-called_after s asked = by_tests (is_due t s.space) (is_spent s t) refl refl
+called_after : (s : State) (asked : TimedCall) (form : Form) → called_at (moment_of s asked.reading) asked.call (time_to (moment_of s asked.reading) s) ≡ state_by s (Request asked form)
+called_after s asked form = by_tests (is_due t s.space) (is_spent s t) refl refl
   where
     t : ℕ
     t = moment_of s asked.reading
 
-    by_tests : (b c : Bool) → is_due t s.space ≡ b → is_spent s t ≡ c → called_at t asked.call (time_to t s) ≡ state_by s (Request asked)
+    by_tests : (b c : Bool) → is_due t s.space ≡ b → is_spent s t ≡ c → called_at t asked.call (time_to t s) ≡ state_by s (Request asked form)
     by_tests false c calm any = rw (calm, answers_no_fault s t asked.call) refl
     by_tests true true due spent = rw (due, spent) refl
     by_tests true false due goes =
         let same : moment_of (advanced s t) asked.reading ≡ t = there (min asked.reading max_moment) s.now t refl in
         rw (due, goes, answers_no_fault (advanced s t) t asked.call, same) refl
 
-pub called_moments : (s : State) (asked : TimedCall) (was now : Disks) → StayOneOf was now (s ∷ time_to (moment_of s asked.reading) s ∷ called_at (moment_of s asked.reading) asked.call (time_to (moment_of s asked.reading) s) ∷ [])
-    → StayOneOf was now (states_of s (Request asked))
-called_moments s asked was now run = subst (λ (x : State). StayOneOf was now (s ∷ time_to (moment_of s asked.reading) s ∷ x ∷ [])) (called_after s asked) run
+pub called_moments : (s : State) (asked : TimedCall) (form : Form) (was now : Disks) → StayOneOf was now (s ∷ time_to (moment_of s asked.reading) s ∷ called_at (moment_of s asked.reading) asked.call (time_to (moment_of s asked.reading) s) ∷ [])
+    → StayOneOf was now (states_of s (Request asked form))
+called_moments s asked form was now run = subst (λ (x : State). StayOneOf was now (s ∷ time_to (moment_of s asked.reading) s ∷ x ∷ [])) (called_after s asked form) run

@@ -52,7 +52,7 @@ pub led_log : (s : State) (ls : List ScriptLine) → after_entries (fresh_log s)
 led_log s [] = refl
 led_log s (Blank ∷ ls) = led_log s ls
 led_log s (Malformed key ∷ ls) = led_log s ls
-led_log s (Request a ∷ ls) =
+led_log s (Request a form ∷ ls) =
     let here = entries_at 0 s a.reading a.call in
     let after = state_after s here in
     after_append (fresh_log s) here (history_of after ls) ∙ ap (λ (l : Log). after_entries l (history_of after ls)) (machine_goes s a.reading a.call) ∙ led_log after ls

@@ -10,6 +10,7 @@ use Rattle.sb_machine.specs.declared.reply.Refusal.{Refusal}
 use Rattle.sb_machine.specs.declared.reply.Refusal.TheVariants.{BadCall, DiskFault as FailedDisk, OutOfMemory as WantsMemory}
 use Rattle.sb_machine.specs.declared.state.State.{State}
 use Rattle.sb_lines.specs.Replies.{answer_line}
+use Rattle.sb_lines.specs.declared.form.Form.{Form}
 use Rattle.sb_app.specs.declared.script_line.ScriptLine.{ScriptLine}
 use Rattle.sb_app.specs.declared.script_line.ScriptLine.TheVariants.{Blank, Malformed, Request}
 use Rattle.sb_app.specs.declared.ending.RunEnd.{RunEnd}
@@ -19,7 +20,7 @@ use Rattle.sb_node.specs.Nodes.{IsOneOf}
 use Rattle.sb_node.specs.Steps.{entries_with}
 use Rattle.sb_app.specs.Outside.{Output, Outside}
 use Rattle.sb_app.specs.Runs.{replies_to, state_after_all, states_of, history_of, FollowLines}
-use Rattle.sb_app.specs.Lines.{script_lines}
+use Rattle.sb_app.specs.Lines.{form_of, script_lines}
 use Rattle.sb_input.specs.Taking.{IsLong}
 use Rattle.sb_app.specs.Taking.{IsTaken}
 
@@ -59,22 +60,22 @@ pub record LastLine : Type 0 where
 abbrev pub entries_by : ScriptLine → Option ℕ → Result Answered Refusal → List Entry
 entries_by Blank tick answer = []
 entries_by (Malformed key) tick answer = []
-entries_by (Request a) tick answer = entries_with tick 0 a.reading a.call answer
+entries_by (Request a form) tick answer = entries_with tick 0 a.reading a.call answer
 
 -- A line got this answer, behind this tick: a call the machine's, or a fault; what is no call the key at fault.
 abbrev pub IsAnswer : State → ScriptLine → Option ℕ → Result Answered Refusal → Type 0
 IsAnswer s Blank tick answer = ⊥
 IsAnswer s (Malformed key) tick answer = (tick ≡ None) × (answer ≡ Err (BadCall key))
-IsAnswer s (Request a) tick answer = IfSome tick (λ t. t ≡ moment_of s a.reading) × IsLegal s (entries_with tick 0 a.reading a.call answer)
+IsAnswer s (Request a form) tick answer = IfSome tick (λ t. t ≡ moment_of s a.reading) × IsLegal s (entries_with tick 0 a.reading a.call answer)
 
--- A run ends at a line for this answer and so much of its line. After a failed disk, or want of memory in the call, the line of
+-- A run ends at a line for this answer and so much of its line in the form that was asked for. After a failed disk, or want of memory in the call, the line of
 -- that answer is written; where an answer's line found no memory nothing of it is.
-abbrev pub IsCause : RunEnd → Result Answered Refusal → (part : List ℕ) → (before now : ℕ) → Type 0
-IsCause ReadFault answer part before now = ⊥
-IsCause WriteFault answer part before now = (is_fault answer ≡ false) × IsFront part (answer_line answer) × RoseByOne before now
-IsCause DiskFault answer part before now = (answer ≡ Err FailedDisk) × IsWritten (answer_line answer) part before now
-IsCause OutOfMemory answer part before now = ((answer ≡ Err WantsMemory) × IsWritten (answer_line answer) part before now) ⊎ ((is_fault answer ≡ false) × (part ≡ []) × (now ≡ before))
-IsCause LongInput answer part before now = ⊥
+abbrev pub IsCause : Form → RunEnd → Result Answered Refusal → (part : List ℕ) → (before now : ℕ) → Type 0
+IsCause form ReadFault answer part before now = ⊥
+IsCause form WriteFault answer part before now = (is_fault answer ≡ false) × IsFront part (answer_line form answer) × RoseByOne before now
+IsCause form DiskFault answer part before now = (answer ≡ Err FailedDisk) × IsWritten (answer_line form answer) part before now
+IsCause form OutOfMemory answer part before now = ((answer ≡ Err WantsMemory) × IsWritten (answer_line form answer) part before now) ⊎ ((is_fault answer ≡ false) × (part ≡ []) × (now ≡ before))
+IsCause form LongInput answer part before now = ⊥
 
 -- a run may end between two lines so
 abbrev pub IsBetween : RunEnd → Type 0
@@ -90,7 +91,7 @@ pub record IsCutAt (s : State) (line : ScriptLine) (was now : Output) (after : S
   pub answer : Result Answered Refusal
   pub is : IsAnswer s line tick answer
   pub part : List ℕ
-  pub cause : IsCause end answer part was.faults now.faults
+  pub cause : IsCause (form_of line) end answer part was.faults now.faults
   pub written : Gains was.given now.given part
   pub leads : after ≡ state_after s (entries_by line tick answer)
 
@@ -107,7 +108,7 @@ entries_of_last (Some last) = entries_by last.line last.tick last.answer
 -- it ended at this line, or between two lines, for this reason
 abbrev pub EndsAt : State → Option LastLine → (part : List ℕ) → (before now : ℕ) → RunEnd → Type 0
 EndsAt s None part before now end = IsBetween end × (part ≡ []) × (now ≡ before)
-EndsAt s (Some last) part before now end = IsAnswer s last.line last.tick last.answer × IsCause end last.answer part before now
+EndsAt s (Some last) part before now end = IsAnswer s last.line last.tick last.answer × IsCause (form_of last.line) end last.answer part before now
 
 -- these are the first lines of what a source has left, where it tells
 abbrev pub AreFirst : Option (List ℕ) → List ScriptLine → Type 0

@@ -2,15 +2,17 @@
 use Rattle.std.specs.Prelude.{ℕ, List, [], length, map, nat_lt, if◌then◌else◌, codes, Result, Ok, Err}
 use Rattle.std.specs.Str.{is_utf8}
 use Rattle.sb_machine.specs.Ordered.{IsActInOrder}
-use Rattle.sb_machine.specs.declared.call.TimedCall.{TimedCall}
 use Rattle.sb_app.specs.declared.script_line.ScriptLine.{ScriptLine}
 use Rattle.sb_app.specs.declared.script_line.ScriptLine.TheVariants.{Blank, Malformed, Request}
 use Rattle.sb_lines.specs.Lines.{line_of}
+use Rattle.sb_lines.specs.declared.form.Form.{Form}
+use Rattle.sb_lines.specs.declared.form.Form.TheVariants.{Plain}
+use Rattle.sb_lines.specs.declared.line.Line.{Line}
 use Rattle.sb_input.specs.Limits.{max_line}
 use Rattle.sb_input.specs.Lines.{lines_of, is_blank}
 
-abbrev pub script_line_of : Result TimedCall (List ℕ) → ScriptLine
-script_line_of (Ok call) = Request call
+abbrev pub script_line_of : Result Line (List ℕ) → ScriptLine
+script_line_of (Ok line) = Request line.timed line.form
 script_line_of (Err key) = Malformed key
 
 -- What a line asks for: blank first, then the length, then whether it is text, then what the text says.
@@ -21,7 +23,13 @@ script_line line = if is_blank line then Blank else (if nat_lt max_line (length 
 abbrev pub IsLineInOrder : ScriptLine → Type 0
 IsLineInOrder Blank = Unit {0}
 IsLineInOrder (Malformed key) = Unit {0}
-IsLineInOrder (Request a) = IsActInOrder a.call.act
+IsLineInOrder (Request a form) = IsActInOrder a.call.act
+
+-- the form in which its reply shows copies
+abbrev pub form_of : ScriptLine → Form
+form_of Blank = Plain
+form_of (Malformed key) = Plain
+form_of (Request a form) = form
 
 -- what the lines of an input ask for
 abbrev pub script_lines : List ℕ → List ScriptLine

@@ -12,6 +12,7 @@ use Rattle.sb_machine.specs.declared.reply.Refusal.{Refusal}
 use Rattle.sb_machine.specs.declared.state.State.{State}
 use Rattle.sb_outside.specs.Streams.{Gains}
 use Rattle.sb_lines.specs.Replies.{answer_line}
+use Rattle.sb_lines.specs.declared.form.Form.TheVariants.{Plain}
 use Rattle.sb_app.specs.declared.dispatch.AnswerKind.{AnswerKind}
 use Rattle.sb_app.specs.declared.dispatch.AnswerKind.TheVariants.{Accepted, Refused, Failed, Wanting}
 use Rattle.sb_app.specs.declared.script_line.ScriptLine.{ScriptLine}
@@ -46,26 +47,26 @@ answer_at s reading call =
 -- the reply line to a line, if it has one
 abbrev pub reply_to : State → ScriptLine → List ℕ
 reply_to s Blank = []
-reply_to s (Malformed key) = answer_line (Err (BadCall key))
-reply_to s (Request a) = answer_line (answer_at s a.reading a.call)
+reply_to s (Malformed key) = answer_line Plain (Err (BadCall key))
+reply_to s (Request a form) = answer_line form (answer_at s a.reading a.call)
 
 -- the state after a line: a call's, behind the tick that is due first
 abbrev pub state_by : State → ScriptLine → State
 state_by s Blank = s
 state_by s (Malformed key) = s
-state_by s (Request a) = state_after s (entries_at 0 s a.reading a.call)
+state_by s (Request a form) = state_after s (entries_at 0 s a.reading a.call)
 
 abbrev pub refuses_it : State → ScriptLine → Bool
 refuses_it s Blank = false
 refuses_it s (Malformed key) = true
-refuses_it s (Request a) = is_err (answer_at s a.reading a.call)
+refuses_it s (Request a form) = is_err (answer_at s a.reading a.call)
 
 -- the states to which a crash may lead while a line is answered: the one before it, that with the tick which is due first, and the one
 -- after it
 abbrev pub states_of : State → ScriptLine → List State
 states_of s Blank = s ∷ []
 states_of s (Malformed key) = s ∷ []
-states_of s (Request a) = s ∷ time_to (moment_of s a.reading) s ∷ state_by s (Request a) ∷ []
+states_of s (Request a form) = s ∷ time_to (moment_of s a.reading) s ∷ state_by s (Request a form) ∷ []
 
 -- the line was answered: its reply was written, and the state is the one after it
 pub record IsAnswered (s : State) (line : ScriptLine) (was now : Output) (after : State) (refused : Bool) : Type 0 where
@@ -92,7 +93,7 @@ abbrev pub calls_in : List ScriptLine → List TimedCall
 calls_in [] = []
 calls_in (Blank ∷ ls) = calls_in ls
 calls_in (Malformed key ∷ ls) = calls_in ls
-calls_in (Request a ∷ ls) = a ∷ calls_in ls
+calls_in (Request a form ∷ ls) = a ∷ calls_in ls
 
 -- what they add to a history: for each call an entry of seat 0 with the machine's answer, and before it a tick where one is due
 abbrev pub history_of : State → List ScriptLine → List Entry

@@ -16,7 +16,7 @@ ghost use Rattle.sb_app.specs.declared.script_line.ScriptLine.TheVariants.{Reque
 use crate::ending::RunEnd;
 use crate::final_line::write_final_line;
 use crate::script_line::ScriptLine;
-use sb_lines::{disk_fault_line, out_of_memory_line, reply_line};
+use sb_lines::{Form, disk_fault_line, out_of_memory_line, reply_line};
 use sb_machine::{Answer, Refusal, TimedCall};
 use sb_model::Text;
 use sb_node::Node;
@@ -43,13 +43,18 @@ fn kind_of_answer(answer: &Answer) -> AnswerKind
     }
 }
 
-// Writes the line of an answer.
-fn write_answer<K: Sink>(alloc: Global, answer: Answer, output: &mut K) -> Result<(), RunEnd>
-    ensures ok { OnOk result (Gains (K.given output.old) (K.given output.new) (answer_line answer)) }
-    ensures err { IfErr result (λ e. IsReplyCut (answer_line answer) (output_of K.Sink output.old) (output_of K.Sink output.new) e) }
+// Writes the line of an answer in this form.
+fn write_answer<K: Sink>(
+    alloc: Global,
+    form: Form,
+    answer: Answer,
+    output: &mut K,
+) -> Result<(), RunEnd>
+    ensures ok { OnOk result (Gains (K.given output.old) (K.given output.new) (answer_line form answer)) }
+    ensures err { IfErr result (λ e. IsReplyCut (answer_line form answer) (output_of K.Sink output.old) (output_of K.Sink output.new) e) }
     ensures passed { OnOk result (K.count output.new ≡ K.count output.old) }
 {
-    let spelled = reply_line(alloc, &answer);
+    let spelled = reply_line(alloc, form, &answer);
     drop(answer);
     let Ok(line) = spelled else {
         return Err(RunEnd::OutOfMemory);
@@ -65,20 +70,21 @@ fn dispatch_call<D: Disk, K: Sink>(
     alloc: Global,
     node: &mut Node<D>,
     asked: &TimedCall,
+    form: Form,
     output: &mut K,
 ) -> Result<bool, RunEnd>
     requires running { node_stopped node.old ≡ None }
     requires consistent { IsConsistent (node_state node.old) }
     requires order { IsActInOrder asked.now.call.act }
-    ensures done { IfOk result (IsAnswered (node_state node.old) (Request asked.now) (output_of K.Sink output.old) (output_of K.Sink output.new) (node_state node.new)) }
-    ensures cut { IfErr result (IsCutAt (node_state node.old) (Request asked.now) (output_of K.Sink output.old) (output_of K.Sink output.new) (node_state node.new)) }
+    ensures done { IfOk result (IsAnswered (node_state node.old) (Request asked.now form) (output_of K.Sink output.old) (output_of K.Sink output.new) (node_state node.new)) }
+    ensures cut { IfErr result (IsCutAt (node_state node.old) (Request asked.now form) (output_of K.Sink output.old) (output_of K.Sink output.new) (node_state node.new)) }
     ensures running { OnOk result (node_stopped node.new ≡ None) }
     ensures consistent { IsConsistent (node_state node.new) }
     ensures kept { IsKept node.old → result ≢ Err DiskFault → IsKept node.new }
-    ensures undecided { IsKept node.old → result ≡ Err DiskFault → IsOneOf (node_disks node.new) (states_of (node_state node.old) (Request asked.now)) }
+    ensures undecided { IsKept node.old → result ≡ Err DiskFault → IsOneOf (node_disks node.new) (states_of (node_state node.old) (Request asked.now form)) }
 
     // At each moment a crash leads to the state before the line, to that with its tick or to the one after it.
-    ensures any_moment { IsKept node.old → StayOneOf (node_disks node.old) (node_disks node.new) (states_of (node_state node.old) (Request asked.now)) }
+    ensures any_moment { IsKept node.old → StayOneOf (node_disks node.old) (node_disks node.new) (states_of (node_state node.old) (Request asked.now form)) }
     ensures passed { OnOk result (AreQuiet (node_disks node.old) (node_disks node.new) × (K.count output.new ≡ K.count output.old)) }
     ensures disk_fault { result ≡ Err DiskFault → HaveFailed (node_disks node.old) (node_disks node.new) }
     ensures disk_quiet { IfErr result (λ e. e ≢ DiskFault → AreQuiet (node_disks node.old) (node_disks node.new)) }
@@ -98,11 +104,11 @@ fn dispatch_call<D: Disk, K: Sink>(
             Err(RunEnd::OutOfMemory)
         }
         AnswerKind::Accepted => {
-            write_answer(alloc, answer, output)?;
+            write_answer(alloc, form, answer, output)?;
             Ok(false)
         }
         AnswerKind::Refused => {
-            write_answer(alloc, answer, output)?;
+            write_answer(alloc, form, answer, output)?;
             Ok(true)
         }
     }
@@ -137,11 +143,11 @@ pub fn dispatch_line<D: Disk, K: Sink>(
         ScriptLine::Blank => Ok(false),
         ScriptLine::Malformed(key) => {
             let answer = Err(Refusal::BadCall { key });
-            write_answer(alloc, answer, output)?;
+            write_answer(alloc, Form::Plain, answer, output)?;
             Ok(true)
         }
-        ScriptLine::Request(asked) => {
-            let answered = dispatch_call(alloc, node, &asked, output);
+        ScriptLine::Request(asked, form) => {
+            let answered = dispatch_call(alloc, node, &asked, form, output);
             drop(asked);
             answered
         }

@@ -6,17 +6,17 @@ ghost use Rattle.sb_input.specs.PartialLines.{StandsFor};
 ghost use Rattle.sb_lines.specs.Lines.{line_of};
 
 use sb_input::{PartialLine, is_blank_line};
-use sb_lines::{LineFault, read_line};
+use sb_lines::{Form, Line, LineFault, read_line};
 use sb_machine::TimedCall;
 use sb_model::Text;
 use std::alloc::{AllocError, Global};
 
-/// What a line asks for: nothing, no call by the fault of a key, or a call.
+/// What a line asks for: nothing, no call by the fault of a key, or a call and the form of its reply.
 #[derive(Drop)]
 pub enum ScriptLine {
     Blank,
     Malformed(Text),
-    Request(TimedCall),
+    Request(TimedCall, Form),
 }
 
 fn parse_text(alloc: Global, text: &str) -> Result<ScriptLine, AllocError>
@@ -24,7 +24,7 @@ fn parse_text(alloc: Global, text: &str) -> Result<ScriptLine, AllocError>
     ensures order { IfOk result IsLineInOrder }
 {
     match read_line(alloc, text) {
-        Ok(call) => Ok(ScriptLine::Request(call)),
+        Ok(Line { timed, form }) => Ok(ScriptLine::Request(timed, form)),
         Err(LineFault::BadKey { key }) => Ok(ScriptLine::Malformed(key)),
         Err(LineFault::OutOfMemory) => Err(AllocError),
     }

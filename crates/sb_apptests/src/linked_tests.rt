@@ -11,7 +11,7 @@ use crate::server_tests::SERVE;
 use crate::tests::{ONE_EVENT, SALT};
 use sb_app::{top, top_alone};
 use sb_desk::{Desk, NewFault, Pass, Served};
-use sb_lines::{read_line, reply_line};
+use sb_lines::{Form, read_line, reply_line};
 use sb_machine::{Answer, TimedCall};
 use sb_node::Node;
 use sb_outside::{
@@ -121,14 +121,14 @@ fn line_of(rt: &HostRuntime, line: &str) -> Result<TimedCall, Fail>
     ensures { IfOk result (λ timed. IsActInOrder timed.call.act) }
 {
     match read_line(rt.alloc(), line) {
-        Ok(timed) => Ok(timed),
+        Ok(line) => Ok(line.timed),
         Err(_) => Err(Fail::from("the line is a call")),
     }
 }
 
 // Whether this is the reply line of an answer.
 fn is_told(rt: &HostRuntime, answer: &Answer, told: &str) -> Result<bool, Fail> {
-    let line = reply_line(rt.alloc(), answer)?;
+    let line = reply_line(rt.alloc(), Form::Plain, answer)?;
     Ok(line.as_str().trim_end() == told)
 }
 

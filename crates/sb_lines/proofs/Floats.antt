@@ -25,7 +25,9 @@ use Rattle.sb_machine.specs.declared.reply.Reply.{Reply}
 use Rattle.sb_machine.specs.declared.reply.Reply.TheVariants.{Done, Sent, Message, Empty, Copies, Expired, Session, Renewed, State, Begun, Queued, Committed, Aborted, Counts}
 use Rattle.sb_machine.specs.declared.reply.Refusal.{Refusal}
 use Rattle.sb_machine.specs.declared.reply.Refusal.TheVariants.{BadCall, EntityNotFound, EntityExists, BadName, BadDescription, BadFilter, WrongKind, TooLarge, QuotaExceeded, SessionRequired, SessionNotAllowed, SessionHeld, SessionLost, LockLost, NotDeferred, NotScheduled, TxnNotFound, TxnPending, TxnScope, TxnFull, StaleNumber, NumberReused, ClientsFull, TxnsFull, Exhausted, DiskFault, Stopped, OutOfMemory}
-use Rattle.sb_lines.specs.Shown.{state_name, property_data, with_properties, with_texts, with_bytes, with_ttl, with_schedule, with_showing, common_members, shown_data}
+use Rattle.sb_lines.specs.declared.form.Form.{Form}
+use Rattle.sb_lines.specs.declared.form.Form.TheVariants.{Plain, Amqp}
+use Rattle.sb_lines.specs.Shown.{state_name, property_data, with_properties, with_texts, with_bytes, with_ttl, with_schedule, with_showing, common_members, copy_members, amqp_bytes, plain_data, amqp_data, shown_data}
 use Rattle.sb_lines.specs.Tokens.{token_text}
 use Rattle.sb_lines.specs.Refusals.{refusal_data}
 use Rattle.sb_lines.specs.Replies.{said, receipt_data, with_state, reply_data, answer_data}
@@ -99,15 +101,24 @@ bytes_whole key hex_key bytes ms whole =
     let digits : Members = put hex_key (string (encode_lower bytes)) ms in
     chosen (is_utf8 bytes) text digits (put_whole key (string bytes) ms refl whole) (put_whole hex_key (string (encode_lower bytes)) ms refl whole)
 
-pub shown_whole : (c : CopyShown) → has_float (shown_data c) ≡ false
-shown_whole c =
+pub plain_whole : (c : CopyShown) → has_float (plain_data c) ≡ false
+plain_whole c =
     let ttl : Members = with_ttl c.message.ttl (common_members c) in
     let showing : Members = with_showing c.showing ttl in
     bytes_whole (codes "body") (codes "body_hex") c.message.body showing (showing_whole c.showing ttl (ttl_whole c.message.ttl (common_members c) (common_whole c)))
 
-copies_whole : (cs : List CopyShown) → items_have_float (items_of (map shown_data cs)) ≡ false
-copies_whole [] = refl
-copies_whole (c ∷ cs) = neither _ _ (shown_whole c) (copies_whole cs)
+amqp_whole : (c : CopyShown) → has_float (amqp_data c) ≡ false
+amqp_whole c =
+    let showing : Members = with_showing c.showing (copy_members c) in
+    put_whole (codes "amqp_hex") (string (encode_lower (amqp_bytes c))) showing refl (showing_whole c.showing (copy_members c) refl)
+
+shown_whole : (form : Form) (c : CopyShown) → has_float (shown_data form c) ≡ false
+shown_whole Plain c = plain_whole c
+shown_whole Amqp c = amqp_whole c
+
+copies_whole : (form : Form) (cs : List CopyShown) → items_have_float (items_of (map (λ c. shown_data form c) cs)) ≡ false
+copies_whole form [] = refl
+copies_whole form (c ∷ cs) = neither _ _ (shown_whole form c) (copies_whole form cs)
 
 receipts_whole : (rs : List Receipt) → items_have_float (items_of (map receipt_data rs)) ≡ false
 receipts_whole [] = refl
@@ -118,21 +129,21 @@ state_whole : (state : Option (List ℕ)) (ms : Members) → members_have_float 
 state_whole None ms whole = put_whole (codes "state") null ms refl whole
 state_whole (Some bytes) ms whole = bytes_whole (codes "state") (codes "state_hex") bytes ms whole
 
-reply_whole : (r : Reply) → has_float (reply_data r) ≡ false
-reply_whole Done = refl
-reply_whole (Sent rs) = neither _ _ (receipts_whole rs) refl
-reply_whole (Message c) = neither _ _ (shown_whole c) refl
-reply_whole Empty = refl
-reply_whole (Copies cs) = neither _ _ (copies_whole cs) refl
-reply_whole (Expired n) = refl
-reply_whole (Session id token until) = refl
-reply_whole (Renewed until) = refl
-reply_whole (State state) = state_whole state (said (codes "state")) refl
-reply_whole (Begun txn) = refl
-reply_whole Queued = refl
-reply_whole Committed = refl
-reply_whole (Aborted part n) = refl
-reply_whole (Counts main dead transfer) = refl
+reply_whole : (form : Form) (r : Reply) → has_float (reply_data form r) ≡ false
+reply_whole form Done = refl
+reply_whole form (Sent rs) = neither _ _ (receipts_whole rs) refl
+reply_whole form (Message c) = neither _ _ (shown_whole form c) refl
+reply_whole form Empty = refl
+reply_whole form (Copies cs) = neither _ _ (copies_whole form cs) refl
+reply_whole form (Expired n) = refl
+reply_whole form (Session id token until) = refl
+reply_whole form (Renewed until) = refl
+reply_whole form (State state) = state_whole state (said (codes "state")) refl
+reply_whole form (Begun txn) = refl
+reply_whole form Queued = refl
+reply_whole form Committed = refl
+reply_whole form (Aborted part n) = refl
+reply_whole form (Counts main dead transfer) = refl
 
 refusal_whole : (r : Refusal) → has_float (refusal_data r) ≡ false
 refusal_whole (BadCall key) = refl
@@ -164,7 +175,7 @@ refusal_whole DiskFault = refl
 refusal_whole (Stopped faults) = refl
 refusal_whole OutOfMemory = refl
 
-pub answer_whole : (a : Result Answered Refusal) → has_float (answer_data a) ≡ false
-answer_whole (Ok (New r)) = reply_whole r
-answer_whole (Ok (Kept r)) = neither _ _ (reply_whole r) refl
-answer_whole (Err r) = refusal_whole r
+pub answer_whole : (form : Form) (a : Result Answered Refusal) → has_float (answer_data form a) ≡ false
+answer_whole form (Ok (New r)) = reply_whole form r
+answer_whole form (Ok (Kept r)) = neither _ _ (reply_whole form r) refl
+answer_whole form (Err r) = refusal_whole r

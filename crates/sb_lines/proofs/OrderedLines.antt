@@ -21,7 +21,6 @@ use Rattle.sb_machine.specs.declared.call.By.{By}
 use Rattle.sb_machine.specs.declared.call.FilterText.{FilterText}
 use Rattle.sb_machine.specs.declared.call.How.{How}
 use Rattle.sb_machine.specs.declared.call.How.TheVariants.{Complete, Abandon, Defer, DeadLetter}
-use Rattle.sb_machine.specs.declared.call.TimedCall.{TimedCall}
 use Rattle.sb_machine.specs.declared.rule.Conditions.{Conditions}
 use Rattle.sb_lines.specs.declared.table.Either.{Either}
 use Rattle.sb_lines.specs.declared.table.Either.TheVariants.{First, Second}
@@ -31,9 +30,13 @@ use Rattle.sb_model.specs.Effects.{with_user}
 use Rattle.std.specs.Prelude.{IfOk}
 use Rattle.sb_lines.specs.declared.fault.LineFault.{LineFault}
 use Rattle.sb_lines.specs.Faults.{Answers, or_key, none_or_key, then_by}
-use Rattle.sb_lines.specs.Fields.{unknown_key, text_at}
+use Rattle.sb_lines.specs.Fields.{unknown_key, text_at, hex_at}
 use Rattle.sb_lines.specs.Descriptions.{queue_fields, topic_fields, subscription_fields}
 use Rattle.sb_lines.specs.Tables.{Field, text, name, address, entity, token, whole, number, mode, ◌and◌, optional, first_or_second, object_of}
+use Rattle.sb_amqp.specs.Found.{message_in}
+use Rattle.sb_amqp.proofs.Standing.{read_in_order}
+use Rattle.std.specs.Result.{result_ok}
+use Rattle.sb_lines.specs.declared.line.Line.{Line}
 use Rattle.sb_lines.specs.Messages as msg
 use Rattle.sb_lines.specs.Lines as lines
 use Rattle.sb_lines.proofs.InOrder.{Holds, Any, always, then_holds, known_holds, made_holds, Two, two_hold, UpTo, text_added, text_kept, property_set}
@@ -140,8 +143,30 @@ fields_hold d =
     (and_holds AreByName Times properties_field (lifetime_field and schedule_field) d (properties_hold (codes "props") (get (codes "props") d)) (any_field (lifetime_field and schedule_field) d))))
     (λ x is. record { props = is.1.1.0; sys = is.1.0.rising; set = is.1.0.set })
 
+amqp_holds : (d : Data) → Holds IsInOrder (msg.amqp_field.reads d)
+unfolding msg.amqp_field
+amqp_holds d = found_holds (hex_at msg.amqp_key d) where
+  one_holds : (o : Option Message) → ((m : Message) → o ≡ Some m → IsInOrder m) → Holds IsInOrder (or_key msg.amqp_key o)
+  one_holds None is = tt
+  one_holds (Some m) is = is m refl
+
+  found_holds : (o : Option (List ℕ)) → Holds IsInOrder (or_key msg.amqp_key (option_and_then message_in o))
+  found_holds None = tt
+  found_holds (Some bytes) = one_holds (message_in bytes) (read_in_order bytes)
+
+whole_holds : (r : Result Message (List ℕ)) → Holds IsInOrder r → Holds IsInOrder (or_key msg.amqp_key (result_ok r))
+whole_holds (Ok m) holds = holds
+whole_holds (Err key) holds = tt
+
+sent_holds : (d : Data) → Holds IsInOrder (msg.sent_fields.reads d)
+unfolding msg.sent_fields
+sent_holds d = by_key (get msg.amqp_key d) where
+  by_key : (o : Option Data) → Holds IsInOrder (msg.sent_from o d)
+  by_key None = fields_hold d
+  by_key (Some bytes) = whole_holds (object_of msg.amqp_field d) (object_holds IsInOrder msg.amqp_field d (amqp_holds d))
+
 message_holds : (d : Data) → Holds IsInOrder (msg.message_of d)
-message_holds d = known_holds IsInOrder (or_key (codes "messages") (as_object d)) (λ _. object_of msg.message_fields d) (λ _. object_holds IsInOrder msg.message_fields d (fields_hold d))
+message_holds d = known_holds IsInOrder (or_key (codes "messages") (as_object d)) (λ _. object_of msg.sent_fields d) (λ _. object_holds IsInOrder msg.sent_fields d (sent_holds d))
 
 pub before_holds : (m : Message) (r : Result (List Message) (List ℕ)) → IsInOrder m → Holds (Each IsInOrder) r → Holds (Each IsInOrder) (msg.before_those (m ∷ []) r)
 before_holds m (Ok ms) one all = (one, all)
@@ -229,11 +254,11 @@ cancel_holds d = bare (address (codes "from") and number (codes "seq")) (λ x. a
 
 receive_holds : (d : Data) → Holds IsActInOrder (lines.receive d)
 unfolding lines.receive
-receive_holds d = bare (address (codes "from") and mode (codes "mode") and lines.session_if) (λ x. act.Receive x.0 x.1.0 x.1.1) d (λ x. tt)
+receive_holds d = bare (lines.shown (address (codes "from") and mode (codes "mode") and lines.session_if)) (λ x. act.Receive x.0 x.1.0 x.1.1) d (λ x. tt)
 
 receive_deferred_holds : (d : Data) → Holds IsActInOrder (lines.receive_deferred d)
 unfolding lines.receive_deferred
-receive_deferred_holds d = bare (address (codes "from") and number (codes "seq") and mode (codes "mode") and lines.session_if) (λ x. act.ReceiveDeferred x.0 x.1.0 x.1.1.0 x.1.1.1) d (λ x. tt)
+receive_deferred_holds d = bare (lines.shown (address (codes "from") and number (codes "seq") and mode (codes "mode") and lines.session_if)) (λ x. act.ReceiveDeferred x.0 x.1.0 x.1.1.0 x.1.1.1) d (λ x. tt)
 
 settle_holds : (how : How) (d : Data) → Holds IsActInOrder (lines.settle how d)
 unfolding lines.settle
@@ -281,7 +306,7 @@ rollback_holds d = bare (number (codes "txn")) (λ x. act.Rollback x) d (λ x. t
 
 peek_holds : (d : Data) → Holds IsActInOrder (lines.peek d)
 unfolding lines.peek
-peek_holds d = bare (address (codes "from") and number (codes "start") and whole (codes "count")) (λ x. act.Peek x.0 x.1.0 x.1.1) d (λ x. tt)
+peek_holds d = bare (lines.shown (address (codes "from") and number (codes "start") and whole (codes "count"))) (λ x. act.Peek x.0 x.1.0 x.1.1) d (λ x. tt)
 
 counts_holds : (d : Data) → Holds IsActInOrder (lines.counts d)
 unfolding lines.counts
@@ -376,17 +401,14 @@ act_named_holds word d =
     either_act (bytes_eq word (codes "counts")) (lines.counts d) (lines.message_act word d) (counts_holds d) (
     message_act_holds word d)))))))
 
-abbrev IsCallInOrder : TimedCall → Type 0
-IsCallInOrder timed = IsActInOrder timed.call.act
-
-abbrev timed_by : Act → ℕ × Option By → TimedCall
-timed_by a x = record { reading = x.0; call = record { by = x.1; act = a } }
+abbrev IsCallInOrder : Line → Type 0
+IsCallInOrder line = IsActInOrder line.timed.call.act
 
 named_call_holds : (word : List ℕ) (d : Data) → Holds IsCallInOrder (lines.named_call word d)
 unfolding lines.named_call
 named_call_holds word d =
-    then_holds IsActInOrder IsCallInOrder (lines.act_named word d) (λ a. then_by (lines.beside (lines.is_numbered word) d) (λ x. Ok (timed_by a x))) (act_named_holds word d) (λ a is.
-    made_holds (timed_by a) Any IsCallInOrder (lines.beside (lines.is_numbered word) d) (always (lines.beside (lines.is_numbered word) d)) (λ x _. is))
+    then_holds IsActInOrder IsCallInOrder (lines.act_named word d) (λ a. then_by (lines.formed (lines.is_numbered word) d) (λ x. Ok (lines.line_with a x))) (act_named_holds word d) (λ a is.
+    made_holds (lines.line_with a) Any IsCallInOrder (lines.formed (lines.is_numbered word) d) (always (lines.formed (lines.is_numbered word) d)) (λ x _. is))
 
 call_holds : (d : Data) → Holds IsCallInOrder (lines.call_of d)
 call_holds d = known_holds IsCallInOrder (or_key (codes "do") (text_at (codes "do") d)) (λ word. lines.named_call word d) (λ word. named_call_holds word d)
@@ -394,9 +416,9 @@ call_holds d = known_holds IsCallInOrder (or_key (codes "do") (text_at (codes "d
 line_holds : (text : List ℕ) → Holds IsCallInOrder (lines.line_of text)
 line_holds text = known_holds IsCallInOrder (or_key [] (option_and_then lines.object_itself (read text))) lines.call_of call_holds
 
-pub line_in_order : (text : List ℕ) (timed : TimedCall) → lines.line_of text ≡ Ok timed → IsCallInOrder timed
-line_in_order text timed e = subst (Holds IsCallInOrder) e (line_holds text)
+pub line_in_order : (text : List ℕ) (line : Line) → lines.line_of text ≡ Ok line → IsCallInOrder line
+line_in_order text line e = subst (Holds IsCallInOrder) e (line_holds text)
 
-pub answered_in_order : (text : List ℕ) (r : Result TimedCall LineFault) → Answers r (lines.line_of text) → IfOk r IsCallInOrder
-answered_in_order text (Ok timed) said = line_in_order text timed said
+pub answered_in_order : (text : List ℕ) (r : Result Line LineFault) → Answers r (lines.line_of text) → IfOk r IsCallInOrder
+answered_in_order text (Ok line) said = line_in_order text line said
 answered_in_order text (Err fault) said = tt

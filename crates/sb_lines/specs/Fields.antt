@@ -12,6 +12,8 @@ use Rattle.sb_machine.specs.declared.call.Mode.TheVariants.{Lock, Delete}
 use Rattle.sb_machine.specs.declared.call.Path.{Path}
 use Rattle.sb_machine.specs.declared.call.Token.{Token}
 use Rattle.sb_names.specs.Addresses.{address_of}
+use Rattle.sb_lines.specs.declared.form.Form.{Form}
+use Rattle.sb_lines.specs.declared.form.Form.TheVariants.{Amqp}
 use Rattle.sb_lines.specs.Faults.{or_key, then_by}
 use Rattle.sb_lines.specs.Tokens.{token_in}
 
@@ -64,6 +66,13 @@ mode_named word = if bytes_eq word (codes "lock") then Some Lock else if bytes_e
 
 abbrev pub mode_in : Data → Option Mode
 mode_in d = option_and_then mode_named (as_str d)
+
+-- the form that has a word
+abbrev pub form_named : List ℕ → Option Form
+form_named word = if bytes_eq word (codes "amqp") then Some Amqp else None
+
+abbrev pub form_in : Data → Option Form
+form_in d = option_and_then form_named (as_str d)
 
 -- the bytes of pairs of hexadecimal digits, in either case
 abbrev pub hex_at : List ℕ → Data → Option (List ℕ)

@@ -11,18 +11,19 @@ use Rattle.sb_machine.specs.declared.call.FilterText.TheVariants.{Sql, Correlati
 use Rattle.sb_machine.specs.declared.call.How.{How}
 use Rattle.sb_machine.specs.declared.call.How.TheVariants.{Complete, Abandon, Defer, DeadLetter}
 use Rattle.sb_machine.specs.declared.call.Path.{Path}
-use Rattle.sb_machine.specs.declared.call.TimedCall.{TimedCall}
 use Rattle.sb_machine.specs.declared.call.Token.{Token}
 use Rattle.sb_machine.specs.declared.call.Which.{Which}
 use Rattle.sb_machine.specs.declared.call.Which.TheVariants.{Number, Id}
 use Rattle.sb_machine.specs.declared.rule.Conditions.{Conditions}
+use Rattle.sb_lines.specs.declared.form.Form.{Form}
+use Rattle.sb_lines.specs.declared.line.Line.{Line}
 use Rattle.sb_lines.specs.declared.table.Either.{Either}
 use Rattle.sb_lines.specs.declared.table.Either.TheVariants.{First, Second}
 use Rattle.sb_lines.specs.Descriptions.{queue_fields, topic_fields, subscription_fields}
 use Rattle.sb_lines.specs.Faults.{or_key, then_by}
 use Rattle.sb_lines.specs.Fields.{text_at, whole_in, number_in, or_default}
 use Rattle.sb_lines.specs.Messages.{messages, conditions, bytes}
-use Rattle.sb_lines.specs.Tables.{Field, address, entity, name, text, token, whole, number, mode, ◌and◌, optional, one_of, made, object_of}
+use Rattle.sb_lines.specs.Tables.{Field, address, entity, name, text, token, whole, number, mode, form, ◌and◌, optional, one_of, made, object_of}
 
 -- ---- fields that several acts have
 
@@ -57,6 +58,10 @@ abbrev pub in_line : {A : Type 0} → Field A → Field A
 in_line f =
     record { knows = λ k. bytes_eq k (codes "do") || (bytes_eq k (codes "at") || (bytes_eq k (codes "client") || (bytes_eq k (codes "number") || f.knows k))); reads = f.reads }
 
+-- the same, and last the form in which the reply is shown, which is no part of the act
+abbrev pub shown : {A : Type 0} → Field A → Field A
+shown f = record { knows = λ k. f.knows k || bytes_eq k (codes "form"); reads = f.reads }
+
 -- the act that these fields make, of an object that has no other keys
 abbrev pub row : {P : Type 0} → Field P → (P → Act) → Data → Result Act (List ℕ)
 row f make d = then_by (object_of (in_line f) d) (λ x. Ok (make x))
@@ -86,10 +91,10 @@ unfoldable pub cancel : Data → Result Act (List ℕ)
 cancel = row (address (codes "from") and number (codes "seq")) (λ x. act.Cancel x.0 x.1)
 
 unfoldable pub receive : Data → Result Act (List ℕ)
-receive = row (address (codes "from") and mode (codes "mode") and session_if) (λ x. act.Receive x.0 x.1.0 x.1.1)
+receive = row (shown (address (codes "from") and mode (codes "mode") and session_if)) (λ x. act.Receive x.0 x.1.0 x.1.1)
 
 unfoldable pub receive_deferred : Data → Result Act (List ℕ)
-receive_deferred = row (address (codes "from") and number (codes "seq") and mode (codes "mode") and session_if) (λ x. act.ReceiveDeferred x.0 x.1.0 x.1.1.0 x.1.1.1)
+receive_deferred = row (shown (address (codes "from") and number (codes "seq") and mode (codes "mode") and session_if)) (λ x. act.ReceiveDeferred x.0 x.1.0 x.1.1.0 x.1.1.1)
 
 -- complete, abandon, defer
 unfoldable pub settle : How → Data → Result Act (List ℕ)
@@ -128,7 +133,7 @@ unfoldable pub rollback : Data → Result Act (List ℕ)
 rollback = row (number (codes "txn")) (λ x. act.Rollback x)
 
 unfoldable pub peek : Data → Result Act (List ℕ)
-peek = row (address (codes "from") and number (codes "start") and whole (codes "count")) (λ x. act.Peek x.0 x.1.0 x.1.1)
+peek = row (shown (address (codes "from") and number (codes "start") and whole (codes "count"))) (λ x. act.Peek x.0 x.1.0 x.1.1)
 
 unfoldable pub counts : Data → Result Act (List ℕ)
 counts = row (entity (codes "entity")) (λ x. act.Counts x)
@@ -214,17 +219,24 @@ beside takes d = then_by (reading_of d) (λ reading. then_by (by_of takes d) (λ
 abbrev pub is_numbered : List ℕ → Bool
 is_numbered word = not (bytes_eq word (codes "peek") || bytes_eq word (codes "session-state") || bytes_eq word (codes "counts"))
 
--- the act's name first, then the keys that it has not, then its fields, then what stands beside it
-unfoldable pub named_call : List ℕ → Data → Result TimedCall (List ℕ)
-named_call word d = then_by (act_named word d) (λ a. then_by (beside (is_numbered word) d) (λ x. Ok (record { reading = x.0; call = record { by = x.1; act = a } })))
+-- the form of the reply, then what stands beside the act; a key that the act has not is at fault before them
+abbrev pub formed : Bool → Data → Result (Form × (ℕ × Option By)) (List ℕ)
+formed takes d = then_by ((form (codes "form")).reads d) (λ f. then_by (beside takes d) (λ x. Ok (f, x)))
 
-abbrev pub call_of : Data → Result TimedCall (List ℕ)
+abbrev pub line_with : Act → Form × (ℕ × Option By) → Line
+line_with a x = record { timed = record { reading = x.1.0; call = record { by = x.1.1; act = a } }; form = x.0 }
+
+-- the act's name first, then the keys that it has not, then its fields, then what stands beside them
+unfoldable pub named_call : List ℕ → Data → Result Line (List ℕ)
+named_call word d = then_by (act_named word d) (λ a. then_by (formed (is_numbered word) d) (λ x. Ok (line_with a x)))
+
+abbrev pub call_of : Data → Result Line (List ℕ)
 call_of d = then_by (or_key (codes "do") (text_at (codes "do") d)) (λ word. named_call word d)
 
 -- this, if it is an object
 abbrev pub object_itself : Data → Option Data
 object_itself d = option_and_then (λ _. Some d) (as_object d)
 
--- the call that this text spells, or the key at fault, which is empty where the text is no object
-abbrev pub line_of : List ℕ → Result TimedCall (List ℕ)
+-- the call that this text spells, with the form of its reply, or the key at fault, which is empty where the text is no object
+abbrev pub line_of : List ℕ → Result Line (List ℕ)
 line_of text = then_by (or_key [] (option_and_then object_itself (read text))) call_of

@@ -1,5 +1,6 @@
 -- Messages, and what a correlation filter asks for.
 use Rattle.std.specs.Prelude.{ℕ, List, [], ◌∷◌, ◌++◌, length, Bool, ◌||◌, nat_le, codes, bytes_eq, if◌then◌else◌, Option, Some, None, option_map, option_and_then, Result, Ok, Err}
+use Rattle.std.specs.Result.{result_ok}
 use Rattle.std.specs.Str.{str_to_ascii_lowercase}
 use Rattle.serde_json.specs.Data.{Data, null, boolean, number, string, array, object, Items, no_items, item, Members, no_members, member}
 use Rattle.serde_json.specs.Find.{get, as_str, as_i64, as_array, as_object}
@@ -12,14 +13,15 @@ use Rattle.sb_model.specs.declared.message.PropertyValue.TheVariants.{Int, Text,
 use Rattle.sb_model.specs.declared.message.SystemName.{SystemName}
 use Rattle.sb_model.specs.declared.message.SystemName.TheVariants.{MessageId, Label, CorrelationId, SessionId, To, ReplyTo, ReplyToSessionId, ContentType}
 use Rattle.sb_model.specs.declared.message.SystemText.{SystemText}
+use Rattle.sb_amqp.specs.Found.{message_in}
 use Rattle.sb_machine.specs.Fields.{is_between, max_ttl}
 use Rattle.sb_machine.specs.declared.rule.Conditions.{Conditions}
 use Rattle.sb_lines.specs.declared.texts.Nulls.{Nulls}
 use Rattle.sb_lines.specs.declared.texts.Nulls.TheVariants.{Wrong, Absent}
 use Rattle.sb_lines.specs.declared.table.Either.{Either}
 use Rattle.sb_lines.specs.Faults.{or_key, then_by}
-use Rattle.sb_lines.specs.Fields.{whole_in}
-use Rattle.sb_lines.specs.Tables.{Field, text, digits, whole, ◌and◌, optional, at_most_one, either, made, object_of}
+use Rattle.sb_lines.specs.Fields.{whole_in, hex_at}
+use Rattle.sb_lines.specs.Tables.{Field, at_key, text, digits, whole, ◌and◌, optional, at_most_one, either, made, object_of}
 
 -- ---- a member that may be null
 
@@ -150,8 +152,31 @@ message_fields =
     (bytes (codes "body") (codes "body_hex") and system_texts (codes "sys") and user_properties (codes "props") and lifetime (codes "ttl")
     and optional (codes "schedule") (whole (codes "schedule")))
 
+-- ---- a message in the bytes of AMQP
+
+abbrev pub amqp_key : List ℕ
+amqp_key = codes "amqp_hex"
+
+-- the message that the bytes spell
+abbrev pub amqp_at : List ℕ → Data → Option Message
+amqp_at key d = option_and_then message_in (hex_at key d)
+
+unfoldable pub amqp_field : Field Message
+amqp_field = at_key amqp_key amqp_at
+
+-- it stands alone: whatever is wrong with it or beside it, its own key is at fault
+abbrev pub sent_from : Option Data → Data → Result Message (List ℕ)
+sent_from None d = message_fields.reads d
+sent_from (Some bytes) d = or_key amqp_key (result_ok (object_of amqp_field d))
+
+-- a message in its fields, or in such bytes
+unfoldable pub sent_fields : Field Message
+sent_fields = record { knows = λ k. bytes_eq k amqp_key || message_fields.knows k; reads = λ d. sent_from (get amqp_key d) d }
+
+-- ---- lists of messages
+
 abbrev pub message_of : Data → Result Message (List ℕ)
-message_of d = then_by (or_key (codes "messages") (as_object d)) (λ _. object_of message_fields d)
+message_of d = then_by (or_key (codes "messages") (as_object d)) (λ _. object_of sent_fields d)
 
 abbrev pub before_those : List Message → Result (List Message) (List ℕ) → Result (List Message) (List ℕ)
 before_those first (Err key) = Err key

@@ -12,6 +12,7 @@ use Rattle.sb_machine.specs.declared.reply.Receipt.TheVariants.{Number, Duplicat
 use Rattle.sb_machine.specs.declared.reply.Refusal.{Refusal}
 use Rattle.sb_machine.specs.declared.reply.Reply.{Reply}
 use Rattle.sb_machine.specs.declared.reply.Reply.TheVariants.{Done, Sent, Message, Empty, Copies, Expired, Session, Renewed, State, Begun, Queued, Committed, Aborted, Counts}
+use Rattle.sb_lines.specs.declared.form.Form.{Form}
 use Rattle.sb_lines.specs.Refusals.{refusal_data, with_number, with_string}
 use Rattle.sb_lines.specs.Shown.{shown_data, with_bytes}
 use Rattle.sb_lines.specs.Tokens.{token_text}
@@ -45,28 +46,30 @@ count_data main dead transfer = object (with_number (codes "dead") dead (with_nu
 
 -- ---- what was done
 
-abbrev pub reply_data : Reply → Data
-reply_data Done = object (said (codes "done"))
-reply_data (Sent receipts) = object (member (codes "numbers") (array (items_of (map receipt_data receipts))) (said (codes "sent")))
-reply_data (Message copy) = object (member (codes "message") (shown_data copy) (said (codes "message")))
-reply_data Empty = object (said (codes "empty"))
-reply_data (Copies copies) = object (member (codes "copies") (array (items_of (map shown_data copies))) (said (codes "copies")))
-reply_data (Expired n) = object (said_before (codes "expired") (with_number (codes "seq") n no_members))
-reply_data (Session id token until) = object (with_string (codes "id") id (said_before (codes "session") (with_string (codes "session") (token_text token) (with_number (codes "until") until no_members))))
-reply_data (Renewed until) = object (said_before (codes "renewed") (with_number (codes "until") until no_members))
-reply_data (State state) = object (with_state state (said (codes "state")))
-reply_data (Begun txn) = object (said_before (codes "begun") (with_number (codes "txn") txn no_members))
-reply_data Queued = object (said (codes "queued"))
-reply_data Committed = object (said (codes "committed"))
-reply_data (Aborted part n) = object (said_before (codes "aborted") (with_string (codes "part") (part_name part) (with_number (codes "seq") n no_members)))
-reply_data (Counts main dead transfer) = object (member (codes "counts") (count_data main dead transfer) (said (codes "counts")))
+-- copies are shown in this form
+abbrev pub reply_data : Form → Reply → Data
+reply_data form Done = object (said (codes "done"))
+reply_data form (Sent receipts) = object (member (codes "numbers") (array (items_of (map receipt_data receipts))) (said (codes "sent")))
+reply_data form (Message copy) = object (member (codes "message") (shown_data form copy) (said (codes "message")))
+reply_data form Empty = object (said (codes "empty"))
+reply_data form (Copies copies) = object (member (codes "copies") (array (items_of (map (λ c. shown_data form c) copies))) (said (codes "copies")))
+reply_data form (Expired n) = object (said_before (codes "expired") (with_number (codes "seq") n no_members))
+reply_data form (Session id token until) = object (with_string (codes "id") id (said_before (codes "session") (with_string (codes "session") (token_text token) (with_number (codes "until") until no_members))))
+reply_data form (Renewed until) = object (said_before (codes "renewed") (with_number (codes "until") until no_members))
+reply_data form (State state) = object (with_state state (said (codes "state")))
+reply_data form (Begun txn) = object (said_before (codes "begun") (with_number (codes "txn") txn no_members))
+reply_data form Queued = object (said (codes "queued"))
+reply_data form Committed = object (said (codes "committed"))
+reply_data form (Aborted part n) = object (said_before (codes "aborted") (with_string (codes "part") (part_name part) (with_number (codes "seq") n no_members)))
+reply_data form (Counts main dead transfer) = object (member (codes "counts") (count_data main dead transfer) (said (codes "counts")))
 
 -- ---- the line
 
-abbrev pub answer_data : Result Answered Refusal → Data
-answer_data (Ok (New reply)) = reply_data reply
-answer_data (Ok (Kept reply)) = object (member (codes "kept") (reply_data reply) (said (codes "kept")))
-answer_data (Err refusal) = refusal_data refusal
+-- a kept reply too is shown in the form that is asked for now
+abbrev pub answer_data : Form → Result Answered Refusal → Data
+answer_data form (Ok (New reply)) = reply_data form reply
+answer_data form (Ok (Kept reply)) = object (member (codes "kept") (reply_data form reply) (said (codes "kept")))
+answer_data form (Err refusal) = refusal_data refusal
 
-abbrev pub answer_line : Result Answered Refusal → List ℕ
-answer_line answer = compact_text (answer_data answer) ++ 10 ∷ []
+abbrev pub answer_line : Form → Result Answered Refusal → List ℕ
+answer_line form answer = compact_text (answer_data form answer) ++ 10 ∷ []

@@ -5,7 +5,9 @@ use Rattle.hex.specs.Hex.{encode_lower}
 use Rattle.serde_json.specs.Data.{Data, number, unsigned, boolean, string, object, Members, no_members, member, put}
 use Rattle.serde_json.specs.Find.{of_integer}
 use Rattle.serde_json.specs.Written.{compact_text}
+use Rattle.sb_amqp.specs.Written.{written}
 use Rattle.sb_model.specs.SystemNames.{system_name}
+use Rattle.sb_model.specs.declared.message.Message.{Message}
 use Rattle.sb_model.specs.declared.message.Property.{Property}
 use Rattle.sb_model.specs.declared.message.PropertyValue.{PropertyValue}
 use Rattle.sb_model.specs.declared.message.PropertyValue.TheVariants.{Int, Text, Bool}
@@ -15,6 +17,8 @@ use Rattle.sb_machine.specs.declared.reply.CopyState.{CopyState}
 use Rattle.sb_machine.specs.declared.reply.CopyState.TheVariants.{Ready, Deferred, Held, Scheduled}
 use Rattle.sb_machine.specs.declared.reply.Showing.{Showing}
 use Rattle.sb_machine.specs.declared.reply.Showing.TheVariants.{Removed, Locked, Browsed}
+use Rattle.sb_lines.specs.declared.form.Form.{Form}
+use Rattle.sb_lines.specs.declared.form.Form.TheVariants.{Plain, Amqp}
 use Rattle.sb_lines.specs.Tokens.{token_text}
 
 -- ---- names and values
@@ -76,9 +80,39 @@ with_showing Removed ms = ms
 with_showing (Locked token until) ms = put (codes "until") (number (unsigned until)) (put (codes "token") (string (token_text token)) ms)
 with_showing (Browsed state) ms = put (codes "state") (string (state_name state)) (with_schedule state ms)
 
-abbrev pub shown_data : CopyShown → Data
-shown_data c = object (with_bytes (codes "body") (codes "body_hex") c.message.body (with_showing c.showing (with_ttl c.message.ttl (common_members c))))
+abbrev pub plain_data : CopyShown → Data
+plain_data c = object (with_bytes (codes "body") (codes "body_hex") c.message.body (with_showing c.showing (with_ttl c.message.ttl (common_members c))))
 
 -- that object as text, without a line feed
 unfoldable pub message_text : CopyShown → List ℕ
-message_text c = compact_text (shown_data c)
+message_text c = compact_text (plain_data c)
+
+-- ---- the same in AMQP
+
+-- the moment at which a scheduled copy enters
+abbrev pub schedule_in : Showing → Option ℕ
+schedule_in Removed = None
+schedule_in (Locked token until) = None
+schedule_in (Browsed Ready) = None
+schedule_in (Browsed Deferred) = None
+schedule_in (Browsed Held) = None
+schedule_in (Browsed (Scheduled moment)) = Some moment
+
+-- the message in the bytes of AMQP, a scheduled one with its moment
+abbrev pub amqp_bytes : CopyShown → List ℕ
+amqp_bytes c = written (record c.message { schedule = schedule_in c.showing })
+
+-- what each copy has beside its message
+abbrev pub copy_members : CopyShown → Members
+copy_members c =
+    member (codes "delivery") (number (unsigned c.delivery))
+    (member (codes "enqueued") (number (unsigned c.enqueued))
+    (member (codes "enqueued_seq") (number (unsigned c.enqueued_seq))
+    (member (codes "seq") (number (unsigned c.number)) no_members)))
+
+abbrev pub amqp_data : CopyShown → Data
+amqp_data c = object (put (codes "amqp_hex") (string (encode_lower (amqp_bytes c))) (with_showing c.showing (copy_members c)))
+
+abbrev pub shown_data : Form → CopyShown → Data
+shown_data Plain c = plain_data c
+shown_data Amqp c = amqp_data c

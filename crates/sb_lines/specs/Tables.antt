@@ -6,10 +6,12 @@ use Rattle.sb_machine.specs.declared.call.Mode.{Mode}
 use Rattle.sb_machine.specs.declared.call.Mode.TheVariants.{Lock}
 use Rattle.sb_machine.specs.declared.call.Path.{Path}
 use Rattle.sb_machine.specs.declared.call.Token.{Token}
+use Rattle.sb_lines.specs.declared.form.Form.{Form}
+use Rattle.sb_lines.specs.declared.form.Form.TheVariants.{Plain}
 use Rattle.sb_lines.specs.declared.table.Either.{Either}
 use Rattle.sb_lines.specs.declared.table.Either.TheVariants.{First, Second}
 use Rattle.sb_lines.specs.Faults.{or_key, none_or_key, then_by}
-use Rattle.sb_lines.specs.Fields.{text_at, whole_in, whole_at, number_at, name_at, path_at, entity_at, token_at, mode_in, hex_at, or_default, unknown_key}
+use Rattle.sb_lines.specs.Fields.{text_at, whole_in, whole_at, number_at, name_at, path_at, entity_at, token_at, mode_in, form_in, hex_at, or_default, unknown_key}
 
 pub record Field (A : Type 0) : Type 0 where
   pub knows : List ℕ → Bool
@@ -57,6 +59,9 @@ truth_or key default = with_default key default as_bool
 
 abbrev pub mode : List ℕ → Field Mode
 mode key = with_default key Lock mode_in
+
+abbrev pub form : List ℕ → Field Form
+form key = with_default key Plain form_in
 
 -- ---- several keys
 

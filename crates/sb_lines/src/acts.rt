@@ -94,6 +94,23 @@ impl<F: Field> Field for InLine<F> {
     }
 }
 
+/// The same, and last the form in which the reply is shown, which is no part of the act.
+struct Shown<F>(F);
+
+impl<F: Field> Field for Shown<F> {
+    type Value = F::Value;
+
+    ghost field = { λ f. lines.shown (F.field f.0) };
+
+    fn knows(&self, key: &str) -> bool {
+        self.0.knows(key) || key == "form"
+    }
+
+    fn read(&self, alloc: Global, value: &Value) -> Result<F::Value, LineFault> {
+        self.0.read(alloc, value)
+    }
+}
+
 // The act whose fields stand so in an object that has no other keys.
 macro_rules! row {
     ($alloc:ident, $value:ident, $act:ident { $a:ident: $one:expr }) => {{
@@ -241,31 +258,48 @@ fn cancel(alloc: Global, value: &Value) -> Result<Act, LineFault>
 fn receive(alloc: Global, value: &Value) -> Result<Act, LineFault>
     ensures { Answers result (lines.receive (view value.now)) }
 {
-    row!(
+    let (from, (mode, session)) = object_of(
         alloc,
         value,
-        Receive {
-            from: Address("from"),
-            mode: ModeWord("mode"),
-            session: Optional("session", TokenText("session"))
-        }
-    )
+        &InLine(Shown(Both(
+            Address("from"),
+            Both(
+                ModeWord("mode"),
+                Optional("session", TokenText("session")),
+            ),
+        ))),
+    )?;
+    Ok(Act::Receive {
+        from,
+        mode,
+        session,
+    })
 }
 
 #[tactic(auto, unfolding(crate::specs::Lines::receive_deferred))]
 fn receive_deferred(alloc: Global, value: &Value) -> Result<Act, LineFault>
     ensures { Answers result (lines.receive_deferred (view value.now)) }
 {
-    row!(
+    let (from, (number, (mode, session))) = object_of(
         alloc,
         value,
-        ReceiveDeferred {
-            from: Address("from"),
-            number: Number("seq"),
-            mode: ModeWord("mode"),
-            session: Optional("session", TokenText("session"))
-        }
-    )
+        &InLine(Shown(Both(
+            Address("from"),
+            Both(
+                Number("seq"),
+                Both(
+                    ModeWord("mode"),
+                    Optional("session", TokenText("session")),
+                ),
+            ),
+        ))),
+    )?;
+    Ok(Act::ReceiveDeferred {
+        from,
+        number,
+        mode,
+        session,
+    })
 }
 
 // Complete, abandon, defer.
@@ -457,15 +491,15 @@ fn rollback(alloc: Global, value: &Value) -> Result<Act, LineFault>
 fn peek(alloc: Global, value: &Value) -> Result<Act, LineFault>
     ensures { Answers result (lines.peek (view value.now)) }
 {
-    row!(
+    let (from, (start, count)) = object_of(
         alloc,
         value,
-        Peek {
-            from: Address("from"),
-            start: Number("start"),
-            count: Whole("count")
-        }
-    )
+        &InLine(Shown(Both(
+            Address("from"),
+            Both(Number("start"), Whole("count")),
+        ))),
+    )?;
+    Ok(Act::Peek { from, start, count })
 }
 
 #[tactic(auto, unfolding(crate::specs::Lines::counts))]

@@ -6,6 +6,7 @@ ghost use Rattle.sb_lines.specs.Faults.{Answers, or_key};
 ghost use Rattle.sb_lines.specs.Fields as fields;
 
 use crate::fault::{LineFault, bad};
+use crate::form::Form;
 use crate::token::token_of;
 use hex::FromHexError;
 use sb_machine::{Mode, Part, Path, Token};
@@ -127,6 +128,23 @@ pub(crate) fn mode_in(value: &Value) -> Option<Mode>
 {
     let word = value.as_str()?;
     mode_named(word)
+}
+
+fn form_named(word: &str) -> Option<Form>
+    ensures { result ≡ fields.form_named word.now }
+{
+    if word == "amqp" {
+        Some(Form::Amqp)
+    } else {
+        None
+    }
+}
+
+pub(crate) fn form_in(value: &Value) -> Option<Form>
+    ensures { result ≡ fields.form_in (view value.now) }
+{
+    let word = value.as_str()?;
+    form_named(word)
 }
 
 /// The bytes of pairs of hexadecimal digits, in either case.

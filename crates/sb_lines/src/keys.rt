@@ -4,8 +4,9 @@ ghost use Rattle.sb_lines.specs.Tables as tables;
 
 use crate::fault::{LineFault, bad};
 use crate::fields::{
-    entity_at, hex_at, mode_in, name_at, number_at, path_at, text_at, token_at, whole_at,
+    entity_at, form_in, hex_at, mode_in, name_at, number_at, path_at, text_at, token_at, whole_at,
 };
+use crate::form::Form;
 use crate::table::Field;
 use sb_machine::{Mode, Path, Token};
 use sb_model::{Rows, Text};
@@ -200,6 +201,29 @@ impl Field for ModeWord {
         };
         match mode_in(member) {
             Some(mode) => Ok(mode),
+            None => bad(alloc, self.0),
+        }
+    }
+}
+
+/// A form; left out, the plain one.
+pub(crate) struct FormWord(pub &'static str);
+
+impl Field for FormWord {
+    type Value = Form;
+
+    ghost field = { λ f. tables.form f.0.now };
+
+    fn knows(&self, key: &str) -> bool {
+        key == self.0
+    }
+
+    fn read(&self, alloc: Global, value: &Value) -> Result<Form, LineFault> {
+        let Some(member) = value.get(self.0) else {
+            return Ok(Form::Plain);
+        };
+        match form_in(member) {
+            Some(form) => Ok(form),
             None => bad(alloc, self.0),
         }
     }

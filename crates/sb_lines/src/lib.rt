@@ -6,13 +6,13 @@
 //! of the two functions gives exactly that, or want of memory. What requests of HTTP spell alike is
 //! public, too: tokens, system texts, times to live, properties, refusals.
 //!
-//! It stands on `sb_machine`, on `sb_names` for addresses, on `sb_sqleval` for setting a property, and
-//! on the kit's `serde_json`, `hex` and `uuid`.
+//! It stands on `sb_machine`, on `sb_names` for addresses, on `sb_sqleval` for setting a property, on
+//! `sb_amqp` for messages in the bytes of AMQP, and on the kit's `serde_json`, `hex` and `uuid`.
 //!
 //! ```rust
 //! let line = "{\"do\":\"peek\",\"from\":\"orders\",\"start\":1,\"count\":10}";
-//! let TimedCall { reading, call } = read_line(alloc, line)?;
-//! let text = reply_line(alloc, &Ok(Answered::New(Reply::Done)))?;
+//! let Line { timed, form } = read_line(alloc, line)?;
+//! let text = reply_line(alloc, form, &Ok(Answered::New(Reply::Done)))?;
 //! assert_eq!(rt; text.as_str(), "{\"ok\":\"done\"}\n");
 //! ```
 #![tactic(auto)]
@@ -21,6 +21,7 @@ mod acts;
 mod descriptions;
 mod fault;
 mod fields;
+mod form;
 mod keys;
 mod laws;
 mod line;
@@ -36,8 +37,9 @@ mod texts;
 mod token;
 
 pub use fault::{LineFault, bad};
+pub use form::Form;
 pub use laws::each_is_one_line;
-pub use line::read_line;
+pub use line::{Line, read_line};
 pub use properties::{property_value, put_property};
 pub use refusals::refusal_value;
 pub use reply::{disk_fault_line, out_of_memory_line, reply_line};

@@ -8,13 +8,23 @@ ghost use Rattle.sb_lines.specs.Lines as lines;
 use crate::acts::act_named;
 use crate::fault::{LineFault, bad};
 use crate::fields::{number_in, text_at};
-use crate::keys::WholeOr;
+use crate::form::Form;
+use crate::keys::{FormWord, WholeOr};
 use crate::table::Field;
 use sb_machine::{By, Call, TimedCall};
 use sb_model::Text;
 use serde_json::Value;
 use serde_json::error::Category;
 use std::alloc::Global;
+
+/// What a line asks for.
+#[derive(Drop)]
+pub struct Line {
+    /// The call, and the reading of the clock at which it is made.
+    pub timed: TimedCall,
+    /// The form in which its reply shows copies. It is no part of the call.
+    pub form: Form,
+}
 
 #[tactic(auto, unfolding(crate::specs::Lines::reading_of))]
 fn reading_of(alloc: Global, value: &Value) -> Result<u64, LineFault>
@@ -70,25 +80,39 @@ fn beside(alloc: Global, takes: bool, value: &Value) -> Result<(u64, Option<By>)
     Ok((reading, by))
 }
 
+// The form of the reply, and what stands beside the act.
+fn formed(
+    alloc: Global,
+    takes: bool,
+    value: &Value,
+) -> Result<(Form, (u64, Option<By>)), LineFault>
+    ensures { Answers result (lines.formed takes (view value.now)) }
+{
+    let form = FormWord("form").read(alloc, value)?;
+    let found = beside(alloc, takes, value)?;
+    Ok((form, found))
+}
+
 #[tactic(auto, unfolding(crate::specs::Lines::named_call))]
-fn named_call(alloc: Global, word: &str, value: &Value) -> Result<TimedCall, LineFault>
+fn named_call(alloc: Global, word: &str, value: &Value) -> Result<Line, LineFault>
     ensures { Answers result (lines.named_call word.now (view value.now)) }
 {
     let act = act_named(alloc, value, word)?;
-    let (reading, by) = match beside(alloc, is_numbered(word), value) {
+    let (form, (reading, by)) = match formed(alloc, is_numbered(word), value) {
         Ok(found) => found,
         Err(fault) => {
             drop(act);
             return Err(fault);
         }
     };
-    Ok(TimedCall {
+    let timed = TimedCall {
         reading,
         call: Call { by, act },
-    })
+    };
+    Ok(Line { timed, form })
 }
 
-fn call_of(alloc: Global, value: &Value) -> Result<TimedCall, LineFault>
+fn call_of(alloc: Global, value: &Value) -> Result<Line, LineFault>
     ensures { Answers result (lines.call_of (view value.now)) }
 {
     let Some(word) = text_at(value, "do") else {
@@ -97,7 +121,7 @@ fn call_of(alloc: Global, value: &Value) -> Result<TimedCall, LineFault>
     named_call(alloc, word, value)
 }
 
-fn object_call(alloc: Global, value: &Value) -> Result<TimedCall, LineFault>
+fn object_call(alloc: Global, value: &Value) -> Result<Line, LineFault>
     ensures { Answers result (then_by (or_key [] (lines.object_itself (view value.now))) lines.call_of) }
 {
     if !value.is_object() {
@@ -106,7 +130,7 @@ fn object_call(alloc: Global, value: &Value) -> Result<TimedCall, LineFault>
     call_of(alloc, value)
 }
 
-fn call_in(alloc: Global, text: &str) -> Result<TimedCall, LineFault>
+fn call_in(alloc: Global, text: &str) -> Result<Line, LineFault>
     ensures { Answers result (lines.line_of text.now) }
 {
     match Value::from_str(alloc, text) {
@@ -122,14 +146,14 @@ fn call_in(alloc: Global, text: &str) -> Result<TimedCall, LineFault>
 }
 
 /// The call that the text of a line spells, and the reading of the clock at which it is made, in
-/// ms since 1970 (0 to 2^64 - 1, and 0 where the line gives none).
+/// ms since 1970 (0 to 2^64 - 1, and 0 where the line gives none); beside it the form of its reply.
 ///
 /// Else the first key at fault: the empty one where the text is no JSON object, then `do`, then
 /// the unknown keys in byte order, then the act's own keys in their order, then `at`, `client` and
 /// `number`. Inside an object its unknown keys come first, too.
-pub fn read_line(alloc: Global, text: &str) -> Result<TimedCall, LineFault>
+pub fn read_line(alloc: Global, text: &str) -> Result<Line, LineFault>
     ensures call { Answers result (lines.line_of text.now) }
-    ensures in_order { IfOk result (λ timed. IsActInOrder timed.call.act) }
+    ensures in_order { IfOk result (λ line. IsActInOrder line.timed.call.act) }
 {
     call_in(alloc, text)
 }

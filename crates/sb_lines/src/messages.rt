@@ -1,14 +1,19 @@
 // Messages, and what a correlation filter asks for.
 ghost use Rattle.std.specs.Prelude.{◌≡◌};
 ghost use Rattle.serde_json.specs.View.{view, items_view};
-ghost use Rattle.sb_lines.specs.Faults.{Answers};
+ghost use Rattle.std.specs.Result.{result_ok};
+ghost use Rattle.sb_amqp.specs.Found.{message_in};
+ghost use Rattle.sb_lines.specs.Faults.{Answers, or_key};
 ghost use Rattle.sb_lines.specs.Messages as messages;
+ghost use Rattle.sb_lines.specs.Tables.{object_of};
 
 use crate::fault::{LineFault, bad};
+use crate::fields::hex_at;
 use crate::keys::{Digits, PlainBytes, Whole};
 use crate::properties::UserProperties;
 use crate::table::{AtMostOne, Both, Either, Field, Optional, object_of};
 use crate::texts::{Lifetime, SystemTexts};
+use sb_amqp::{AmqpFault, read_message};
 use sb_machine::Conditions;
 use sb_model::{Message, Rows};
 use serde_json::Value;
@@ -89,13 +94,79 @@ impl Field for MessageFields {
     }
 }
 
+// The message that bytes of AMQP spell, or the fault of its key.
+fn amqp_message(alloc: Global, bytes: &[u8]) -> Result<Message, LineFault>
+    ensures { Answers result (or_key messages.amqp_key (message_in bytes.now)) }
+{
+    match read_message(alloc, bytes) {
+        Ok(message) => Ok(message),
+        Err(AmqpFault::BadMessage { .. }) | Err(AmqpFault::Unsupported { .. }) => {
+            bad(alloc, "amqp_hex")
+        }
+        Err(AmqpFault::OutOfMemory) => Err(LineFault::OutOfMemory),
+    }
+}
+
+/// A message in the bytes of AMQP, as digits.
+struct AmqpDigits;
+
+impl Field for AmqpDigits {
+    type Value = Message;
+
+    ghost field = { λ _. messages.amqp_field };
+
+    #[tactic(auto, unfolding(crate::specs::Messages::amqp_field))]
+    fn knows(&self, key: &str) -> bool {
+        key == "amqp_hex"
+    }
+
+    #[tactic(auto, unfolding(crate::specs::Messages::amqp_field))]
+    fn read(&self, alloc: Global, value: &Value) -> Result<Message, LineFault> {
+        let bytes = hex_at(alloc, value, "amqp_hex")?;
+        amqp_message(alloc, bytes.as_slice())
+    }
+}
+
+// The same, which has no other keys beside it. Its own key is at fault, whatever is wrong.
+fn amqp_alone(alloc: Global, value: &Value) -> Result<Message, LineFault>
+    ensures { Answers result (or_key messages.amqp_key (result_ok (object_of messages.amqp_field (view value.now)))) }
+{
+    match object_of(alloc, value, &AmqpDigits) {
+        Ok(message) => Ok(message),
+        Err(LineFault::BadKey { .. }) => bad(alloc, "amqp_hex"),
+        Err(LineFault::OutOfMemory) => Err(LineFault::OutOfMemory),
+    }
+}
+
+/// A message in its fields, or in the bytes of AMQP.
+struct SentFields;
+
+impl Field for SentFields {
+    type Value = Message;
+
+    ghost field = { λ _. messages.sent_fields };
+
+    #[tactic(auto, unfolding(crate::specs::Messages::sent_fields))]
+    fn knows(&self, key: &str) -> bool {
+        key == "amqp_hex" || MessageFields.knows(key)
+    }
+
+    #[tactic(auto, unfolding(crate::specs::Messages::sent_fields))]
+    fn read(&self, alloc: Global, value: &Value) -> Result<Message, LineFault> {
+        if value.get("amqp_hex").is_none() {
+            return MessageFields.read(alloc, value);
+        }
+        amqp_alone(alloc, value)
+    }
+}
+
 fn message_of(alloc: Global, value: &Value) -> Result<Message, LineFault>
     ensures { Answers result (messages.message_of (view value.now)) }
 {
     if !value.is_object() {
         return bad(alloc, "messages");
     }
-    object_of(alloc, value, &MessageFields)
+    object_of(alloc, value, &SentFields)
 }
 
 fn messages_of(alloc: Global, values: &[Value]) -> Result<Rows<Message>, LineFault>

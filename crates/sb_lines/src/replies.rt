@@ -3,9 +3,11 @@ ghost use Rattle.std.specs.Prelude.{◌≡◌, IfOk, OnOk, map, option_map};
 ghost use Rattle.serde_json.specs.Data.{array, object, put as with_member, number, unsigned};
 ghost use Rattle.serde_json.specs.View.{view, members_view, items_of};
 ghost use Rattle.sb_machine.specs.declared.reply.Reply.TheVariants.{Aborted, Counts, Session, State};
+ghost use Rattle.sb_lines.specs.declared.form.Form.TheVariants.{Plain};
 ghost use Rattle.sb_lines.specs.Replies as replies;
 ghost use Rattle.sb_lines.specs.Shown.{shown_data};
 
+use crate::form::Form;
 use crate::members::{
     Members, put_bytes, put_number, put_text, put_token, tag_alone, tag_with, tagged,
 };
@@ -46,19 +48,19 @@ fn receipts_value(alloc: Global, receipts: &[Receipt]) -> Result<Value, AllocErr
     Ok(Value::Array(items))
 }
 
-fn copies_value(alloc: Global, copies: &[CopyShown]) -> Result<Value, AllocError>
-    ensures { IfOk result (λ v. view v ≡ array (items_of (map shown_data copies.now))) }
+fn copies_value(alloc: Global, form: Form, copies: &[CopyShown]) -> Result<Value, AllocError>
+    ensures { IfOk result (λ v. view v ≡ array (items_of (map (λ c. shown_data form c) copies.now))) }
 {
     let mut items = Vec::new(alloc);
     for copy in copies {
-        let shown = shown_value(alloc, copy)?;
+        let shown = shown_value(alloc, form, copy)?;
         items.push(shown)?;
     }
     Ok(Value::Array(items))
 }
 
 fn session_value(alloc: Global, id: &Text, session: Token, until: u64) -> Result<Value, AllocError>
-    ensures { IfOk result (λ v. view v ≡ replies.reply_data (Session id.now session until)) }
+    ensures { IfOk result (λ v. view v ≡ replies.reply_data Plain (Session id.now session until)) }
 {
     let mut members = tagged(alloc, "ok", "session")?;
     put_text(&mut members, alloc, "id", id.as_str())?;
@@ -82,7 +84,7 @@ fn put_state(
 }
 
 fn state_value(alloc: Global, state: &Option<Rows<u8>>) -> Result<Value, AllocError>
-    ensures { IfOk result (λ v. view v ≡ replies.reply_data (State state.now)) }
+    ensures { IfOk result (λ v. view v ≡ replies.reply_data Plain (State state.now)) }
 {
     let mut members = tagged(alloc, "ok", "state")?;
     put_state(&mut members, alloc, state)?;
@@ -100,7 +102,7 @@ fn part_name(part: Part) -> &'static str
 }
 
 fn aborted_value(alloc: Global, part: Part, number: u64) -> Result<Value, AllocError>
-    ensures { IfOk result (λ v. view v ≡ replies.reply_data (Aborted part number)) }
+    ensures { IfOk result (λ v. view v ≡ replies.reply_data Plain (Aborted part number)) }
 {
     let mut members = tagged(alloc, "ok", "aborted")?;
     put_text(&mut members, alloc, "part", part_name(part))?;
@@ -119,15 +121,15 @@ fn parts_value(alloc: Global, main: u64, dead: u64, transfer: u64) -> Result<Val
 }
 
 fn counts_value(alloc: Global, main: u64, dead: u64, transfer: u64) -> Result<Value, AllocError>
-    ensures { IfOk result (λ v. view v ≡ replies.reply_data (Counts main dead transfer)) }
+    ensures { IfOk result (λ v. view v ≡ replies.reply_data Plain (Counts main dead transfer)) }
 {
     let parts = parts_value(alloc, main, dead, transfer)?;
     said_with(alloc, "counts", "counts", parts)
 }
 
-/// A reply as JSON, without the word that it is kept.
-pub(crate) fn reply_value(alloc: Global, reply: &Reply) -> Result<Value, AllocError>
-    ensures { IfOk result (λ v. view v ≡ replies.reply_data reply.now) }
+/// A reply as JSON with copies in this form, without the word that it is kept.
+pub(crate) fn reply_value(alloc: Global, form: Form, reply: &Reply) -> Result<Value, AllocError>
+    ensures { IfOk result (λ v. view v ≡ replies.reply_data form reply.now) }
 {
     match reply {
         Reply::Done => said(alloc, "done"),
@@ -136,12 +138,12 @@ pub(crate) fn reply_value(alloc: Global, reply: &Reply) -> Result<Value, AllocEr
             said_with(alloc, "sent", "numbers", numbers)
         }
         Reply::Message(copy) => {
-            let shown = shown_value(alloc, copy)?;
+            let shown = shown_value(alloc, form, copy)?;
             said_with(alloc, "message", "message", shown)
         }
         Reply::Empty => said(alloc, "empty"),
         Reply::Copies(copies) => {
-            let list = copies_value(alloc, copies.as_slice())?;
+            let list = copies_value(alloc, form, copies.as_slice())?;
             said_with(alloc, "copies", "copies", list)
         }
         Reply::Expired { number } => said_with(alloc, "expired", "seq", Value::from(*number)),

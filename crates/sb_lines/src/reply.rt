@@ -4,8 +4,10 @@ ghost use Rattle.serde_json.specs.View.{view};
 ghost use Rattle.serde_json.specs.Written.{has_float, compact_text};
 ghost use Rattle.sb_machine.specs.declared.reply.Answered.TheVariants.{Kept};
 ghost use Rattle.sb_machine.specs.declared.reply.Refusal.TheVariants.{DiskFault, OutOfMemory};
+ghost use Rattle.sb_lines.specs.declared.form.Form.TheVariants.{Plain};
 ghost use Rattle.sb_lines.specs.Replies as replies;
 
+use crate::form::Form;
 use crate::members::tag_with;
 use crate::refusals::refusal_value;
 use crate::replies::reply_value;
@@ -13,19 +15,19 @@ use sb_machine::{Answer, Answered, Reply};
 use serde_json::Value;
 use std::alloc::{AllocError, Global};
 
-fn kept_value(alloc: Global, reply: &Reply) -> Result<Value, AllocError>
-    ensures { IfOk result (λ v. view v ≡ replies.answer_data (Ok (Kept reply.now))) }
+fn kept_value(alloc: Global, form: Form, reply: &Reply) -> Result<Value, AllocError>
+    ensures { IfOk result (λ v. view v ≡ replies.answer_data form (Ok (Kept reply.now))) }
 {
-    let kept = reply_value(alloc, reply)?;
+    let kept = reply_value(alloc, form, reply)?;
     tag_with(alloc, "ok", "kept", "kept", kept)
 }
 
-fn answer_value(alloc: Global, answer: &Answer) -> Result<Value, AllocError>
-    ensures { IfOk result (λ v. view v ≡ replies.answer_data answer.now) }
+fn answer_value(alloc: Global, form: Form, answer: &Answer) -> Result<Value, AllocError>
+    ensures { IfOk result (λ v. view v ≡ replies.answer_data form answer.now) }
 {
     match answer {
-        Ok(Answered::New(reply)) => reply_value(alloc, reply),
-        Ok(Answered::Kept(reply)) => kept_value(alloc, reply),
+        Ok(Answered::New(reply)) => reply_value(alloc, form, reply),
+        Ok(Answered::Kept(reply)) => kept_value(alloc, form, reply),
         Err(refusal) => refusal_value(alloc, refusal),
     }
 }
@@ -40,24 +42,25 @@ fn line_text(alloc: Global, value: &Value) -> Result<String, AllocError>
     Ok(text)
 }
 
-/// The line of a reply, with its line feed. It fails for want of memory alone.
-pub fn reply_line(alloc: Global, answer: &Answer) -> Result<String, AllocError>
-    ensures { IfOk result (λ s. string_bytes s ≡ replies.answer_line answer.now) }
+/// The line of a reply, with its line feed, which shows copies in this form. It fails for want of
+/// memory alone.
+pub fn reply_line(alloc: Global, form: Form, answer: &Answer) -> Result<String, AllocError>
+    ensures { IfOk result (λ s. string_bytes s ≡ replies.answer_line form answer.now) }
 {
-    let value = answer_value(alloc, answer)?;
+    let value = answer_value(alloc, form, answer)?;
     line_text(alloc, &value)
 }
 
-/// The line of the refusal `DiskFault`, which takes no memory.
+/// The line of the refusal `DiskFault` in each form, which takes no memory.
 pub fn disk_fault_line() -> &'static str
-    ensures { result.now ≡ replies.answer_line (Err DiskFault) }
+    ensures { result.now ≡ replies.answer_line Plain (Err DiskFault) }
 {
     "{\"refused\":\"DiskFault\"}\n"
 }
 
-/// The line of the refusal `OutOfMemory`, which takes no memory itself.
+/// The line of the refusal `OutOfMemory` in each form, which takes no memory itself.
 pub fn out_of_memory_line() -> &'static str
-    ensures { result.now ≡ replies.answer_line (Err OutOfMemory) }
+    ensures { result.now ≡ replies.answer_line Plain (Err OutOfMemory) }
 {
     "{\"refused\":\"OutOfMemory\"}\n"
 }

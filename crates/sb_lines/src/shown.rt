@@ -1,10 +1,13 @@
 // A copy of a message as a reply shows it.
 ghost use Rattle.std.specs.Prelude.{◌≡◌, IfOk, OnOk, string_bytes};
+ghost use Rattle.hex.specs.Hex.{encode_lower};
 ghost use Rattle.serde_json.specs.Data.{object, no_members};
 ghost use Rattle.serde_json.specs.View.{view, members_view};
 ghost use Rattle.sb_lines.specs.Shown as shown;
 
+use crate::form::Form;
 use crate::members::{Members, put_bytes, put_number, put_text, put_token};
+use sb_amqp::write_scheduled;
 use sb_machine::{CopyShown, CopyState, Showing};
 use sb_model::{Property, PropertyValue, SystemText};
 use serde_json::{Map, Value, put};
@@ -15,7 +18,7 @@ use std::alloc::{AllocError, Global};
 pub fn message_text(alloc: Global, copy: &CopyShown) -> Result<String, AllocError>
     ensures { IfOk result (λ s. string_bytes s ≡ shown.message_text copy.now) }
 {
-    let value = shown_value(alloc, copy)?;
+    let value = plain_value(alloc, copy)?;
     let text = value.to_string(alloc)?;
     Ok(text)
 }
@@ -116,9 +119,57 @@ fn put_showing(members: &mut Members, alloc: Global, showing: Showing) -> Result
     }
 }
 
+fn schedule_in(showing: Showing) -> Option<u64>
+    ensures { result ≡ shown.schedule_in showing }
+{
+    match showing {
+        Showing::Browsed(CopyState::Scheduled(moment)) => Some(moment),
+        _ => None,
+    }
+}
+
+// A copy's message in the bytes of AMQP, as digits.
+fn amqp_digits(alloc: Global, copy: &CopyShown) -> Result<String, AllocError>
+    ensures { IfOk result (λ s. string_bytes s ≡ encode_lower (shown.amqp_bytes copy.now)) }
+{
+    let bytes = write_scheduled(alloc, &copy.message, schedule_in(copy.showing))?;
+    hex::encode(alloc, bytes.as_slice())
+}
+
+// What each copy has beside its message.
+fn copy_members(alloc: Global, copy: &CopyShown) -> Result<Members, AllocError>
+    ensures { IfOk result (λ m. members_view m.entries ≡ shown.copy_members copy.now) }
+{
+    let mut members = Map::new(alloc);
+    put_number(&mut members, alloc, "delivery", copy.delivery)?;
+    put_number(&mut members, alloc, "enqueued", copy.enqueued)?;
+    put_number(&mut members, alloc, "enqueued_seq", copy.enqueued_seq)?;
+    put_number(&mut members, alloc, "seq", copy.number)?;
+    Ok(members)
+}
+
+fn amqp_value(alloc: Global, copy: &CopyShown) -> Result<Value, AllocError>
+    ensures { IfOk result (λ v. view v ≡ shown.amqp_data copy.now) }
+{
+    let digits = amqp_digits(alloc, copy)?;
+    let mut members = copy_members(alloc, copy)?;
+    put_showing(&mut members, alloc, copy.showing)?;
+    put(&mut members, alloc, "amqp_hex", Value::String(digits))?;
+    Ok(Value::Object(members))
+}
+
 // A copy as an object.
-pub(crate) fn shown_value(alloc: Global, copy: &CopyShown) -> Result<Value, AllocError>
-    ensures { IfOk result (λ v. view v ≡ shown.shown_data copy.now) }
+pub(crate) fn shown_value(alloc: Global, form: Form, copy: &CopyShown) -> Result<Value, AllocError>
+    ensures { IfOk result (λ v. view v ≡ shown.shown_data form copy.now) }
+{
+    match form {
+        Form::Plain => plain_value(alloc, copy),
+        Form::Amqp => amqp_value(alloc, copy),
+    }
+}
+
+fn plain_value(alloc: Global, copy: &CopyShown) -> Result<Value, AllocError>
+    ensures { IfOk result (λ v. view v ≡ shown.plain_data copy.now) }
 {
     let mut members = common_members(alloc, copy)?;
     put_ttl(&mut members, alloc, copy.message.ttl)?;

@@ -8,7 +8,7 @@ use crate::outcome::{Outcome, differing, no_such_key};
 use crate::table::{Case, Line};
 use anyhow::{Context, Result, bail, ensure};
 use sb_http::{Incoming, Request, Response, write_response};
-use sb_lines::{LineFault, read_line, reply_line};
+use sb_lines::{Form, Line as ScriptLine, LineFault, read_line, reply_line};
 use sb_machine::{Answer, Call, Refusal};
 use sb_model::Text;
 use sb_node::Node;
@@ -112,24 +112,24 @@ fn conversation_of<'a>(
     Ok(read)
 }
 
-// The answer to a script line, at this moment.
+// The answer to a script line, at this moment, and the form in which it is shown.
 fn script_answer(
     alloc: Global,
     node: &mut Node<MemDisk>,
     body: &[u8],
     moment: u64,
-) -> Result<Answer, AllocError> {
+) -> Result<(Form, Answer), AllocError> {
     let Ok(line) = std::str::from_utf8(body) else {
         let key = Text::of(alloc, "")?;
-        return Ok(Err(Refusal::BadCall { key }));
+        return Ok((Form::Plain, Err(Refusal::BadCall { key })));
     };
     match read_line(alloc, line) {
-        Ok(timed) => {
+        Ok(ScriptLine { timed, form }) => {
             let answer = node.step(moment, &timed.call);
             drop(timed);
-            Ok(answer)
+            Ok((form, answer))
         }
-        Err(LineFault::BadKey { key }) => Ok(Err(Refusal::BadCall { key })),
+        Err(LineFault::BadKey { key }) => Ok((Form::Plain, Err(Refusal::BadCall { key }))),
         Err(LineFault::OutOfMemory) => Err(AllocError),
     }
 }
@@ -140,8 +140,8 @@ fn response_to_script(
     body: &[u8],
     moment: u64,
 ) -> Result<Response, AllocError> {
-    let answer = script_answer(alloc, node, body, moment)?;
-    let line = reply_line(alloc, &answer);
+    let (form, answer) = script_answer(alloc, node, body, moment)?;
+    let line = reply_line(alloc, form, &answer);
     drop(answer);
     Ok(line_response(alloc, line?))
 }

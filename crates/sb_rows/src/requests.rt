@@ -39,10 +39,10 @@ fn timed(wanted: &str) -> (u64, &str) {
 fn is_call(alloc: Global, found: &Wanted, wanted: &str) -> bool {
     let (timeout, line) = timed(wanted);
     match read_line(alloc, line) {
-        Ok(timed) => {
+        Ok(line) => {
             found.timeout == timeout
                 && found.call.by.is_none()
-                && is_same_act(&found.call.act, &timed.call.act)
+                && is_same_act(&found.call.act, &line.timed.call.act)
         }
         Err(_) => false,
     }

@@ -6,7 +6,7 @@ use Rattle.std.proofs.lemmas.Grind.{common_steps}
 use Rattle.std.proofs.lemmas.List.Folds.{list_any-append}
 use Rattle.sb_machine.specs.History.{stops}
 use Rattle.sb_machine.specs.declared.call.Call.{Call}
-use Rattle.sb_machine.specs.declared.call.TimedCall.{TimedCall}
+use Rattle.sb_lines.specs.declared.line.Line.{Line as ScriptLine}
 use Rattle.sb_machine.specs.declared.history.Entry.{Entry}
 use Rattle.sb_machine.specs.declared.reply.Answered.{Answered}
 use Rattle.sb_machine.specs.declared.reply.Refusal.{Refusal}
@@ -99,7 +99,7 @@ turn_stops closes true e = refl
 turn_stops true false e = absurd cc
 turn_stops false false e = absurd cc
 
-no_line_goes : (said : Result TimedCall (List ℕ)) (refusal : Refusal) → Reads said (Err refusal) → stops (Err refusal) ≡ false
+no_line_goes : (said : Result ScriptLine (List ℕ)) (refusal : Refusal) → Reads said (Err refusal) → stops (Err refusal) ≡ false
 no_line_goes said (BadCall key) r = refl
 no_line_goes said NoMemory r = refl
 no_line_goes said _ r = absurd r
@@ -107,7 +107,7 @@ no_line_goes said _ r = absurd r
 answer_stops : (seat : ℕ) (m : RequestMessage) (ask : Ask) (closes : Bool) (made : List Entry) (out : List ℕ) → AsksFor m ask → RespondsTo seat ask closes made out Stops → list_any is_stop made ≡ true
 answer_stops seat m (Once w host) closes made out a r = one_stops seat w.call made r.0 r.1 (turn_stops closes (stops r.0) r.3)
 answer_stops seat m (Patient w host limit) closes made out a r = waits_stops seat w.call limit made r.0 r.1 (turn_stops closes (stops r.0) r.3)
-answer_stops seat m (Line timed) closes made out a r = one_stops seat timed.call made r.0 r.1 (turn_stops closes (stops r.0) r.3)
+answer_stops seat m (Line line) closes made out a r = one_stops seat line.timed.call made r.0 r.1 (turn_stops closes (stops r.0) r.3)
 answer_stops seat m (BadLine (Ok reply)) closes made out a r = absurd a.1
 answer_stops seat m (BadLine (Err refusal)) closes made out a r =
     let goes = no_line_goes (line_in m.body) refusal a.1 in

@@ -7,7 +7,8 @@ use Rattle.sb_machine.specs.declared.reply.Answered.{Answered}
 use Rattle.sb_machine.specs.declared.reply.Refusal.{Refusal}
 use Rattle.sb_desk.specs.Desks.{Sitting}
 use Rattle.sb_desk.specs.Entries.{made_by}
-use Rattle.sb_machine.specs.declared.call.TimedCall.{TimedCall}
+use Rattle.sb_lines.specs.declared.form.Form.TheVariants.{Plain}
+use Rattle.sb_lines.specs.declared.line.Line.{Line as ScriptLine}
 use Rattle.sb_rest.specs.declared.call.RestFault.{RestFault}
 use Rattle.sb_rest.specs.declared.call.Wanted.{Wanted}
 use Rattle.sb_http.specs.Messages.{RequestMessage}
@@ -25,7 +26,7 @@ use Rattle.sb_server.proofs.Going.{goes_by_none}
 pub asks_in_order : (m : RequestMessage) (ask : Ask) → AsksFor m ask → IsInOrder ask
 asks_in_order m (Once w host) x = x.in_order
 asks_in_order m (Patient w host limit) x = x.0.in_order
-asks_in_order m (Line timed) x = x.1.1
+asks_in_order m (Line line) x = x.1.1
 asks_in_order m (BadLine answer) x = tt
 asks_in_order m (Fault fault) x = tt
 
@@ -77,9 +78,9 @@ responds_more seat (k ∷ ms) made out m mine first t (mine', rest, first', othe
 -- ---- what is no call
 
 pub no_line_answers : (pass : Sitting) (ask : Ask) (closes : Bool) (answer : Result Answered Refusal) (w : Written) → ask ≡ BadLine answer
-    → IfOk w.bytes (λ v. v.items ≡ line_bytes answer closes) → w.turn ≡ turn_of closes (stops answer) → Answers pass ask closes pass w
+    → IfOk w.bytes (λ v. v.items ≡ line_bytes Plain answer closes) → w.turn ≡ turn_of closes (stops answer) → Answers pass ask closes pass w
 no_line_answers pass ask closes answer w is bytes turn =
-    let both = gives w.bytes (λ v. v.items ≡ line_bytes answer closes) (λ v. RespondsTo pass.seat (BadLine answer) closes [] v.items w.turn) (Acts pass.seat (BadLine answer) []) bytes (λ v out. (refl, out, turn)) refl in
+    let both = gives w.bytes (λ v. v.items ≡ line_bytes Plain answer closes) (λ v. RespondsTo pass.seat (BadLine answer) closes [] v.items w.turn) (Acts pass.seat (BadLine answer) []) bytes (λ v out. (refl, out, turn)) refl in
     subst (λ (a : Ask). Answers pass a closes pass w) (sym is) ([], goes_by_none pass, both.0, both.1)
 
 pub fault_answers : (pass : Sitting) (ask : Ask) (closes : Bool) (fault : RestFault) (w : Written) → ask ≡ Fault fault
@@ -100,13 +101,13 @@ once_answers pass new w host closes answer reading written goes bytes turn =
     (λ v out. (answer, one, out, turn)) (answer, one) in
     (made, goes.1, both.0, both.1)
 
-pub line_answers : (pass new : Sitting) (timed : TimedCall) (closes : Bool) (answer : Result Answered Refusal) (reading : ℕ) (written : Written)
-    → GoesByCall pass reading timed.call answer new → IfOk written.bytes (λ v. v.items ≡ line_bytes answer closes) → written.turn ≡ turn_of closes (stops answer)
-    → Answers pass (Line timed) closes new written
-line_answers pass new timed closes answer reading written goes bytes turn =
-    let made : List Entry = made_by pass.seat goes.0 reading timed.call answer in
-    let one : IsOne pass.seat timed.call made answer = (goes.0, reading, refl) in
-    let both = gives written.bytes (λ v. v.items ≡ line_bytes answer closes) (λ v. RespondsTo pass.seat (Line timed) closes made v.items written.turn) (Acts pass.seat (Line timed) made) bytes
+pub line_answers : (pass new : Sitting) (line : ScriptLine) (closes : Bool) (answer : Result Answered Refusal) (reading : ℕ) (written : Written)
+    → GoesByCall pass reading line.timed.call answer new → IfOk written.bytes (λ v. v.items ≡ line_bytes line.form answer closes) → written.turn ≡ turn_of closes (stops answer)
+    → Answers pass (Line line) closes new written
+line_answers pass new line closes answer reading written goes bytes turn =
+    let made : List Entry = made_by pass.seat goes.0 reading line.timed.call answer in
+    let one : IsOne pass.seat line.timed.call made answer = (goes.0, reading, refl) in
+    let both = gives written.bytes (λ v. v.items ≡ line_bytes line.form answer closes) (λ v. RespondsTo pass.seat (Line line) closes made v.items written.turn) (Acts pass.seat (Line line) made) bytes
     (λ v out. (answer, one, out, turn)) (answer, one) in
     (made, goes.1, both.0, both.1)
 

@@ -7,13 +7,13 @@ use Rattle.sb_machine.specs.Ordered.{IsActInOrder}
 use Rattle.sb_machine.specs.declared.call.Act.{Act}
 use Rattle.sb_machine.specs.declared.call.Act.TheVariants.{Receive}
 use Rattle.sb_machine.specs.declared.call.Call.{Call}
-use Rattle.sb_machine.specs.declared.call.TimedCall.{TimedCall}
 use Rattle.sb_machine.specs.declared.reply.Answered.{Answered}
 use Rattle.sb_machine.specs.declared.reply.Refusal.{Refusal}
 use Rattle.sb_machine.specs.declared.reply.Refusal.TheVariants.{BadCall, OutOfMemory as NoMemory}
 use Rattle.sb_http.specs.Fields.{Field, same_word}
 use Rattle.sb_http.specs.Messages.{RequestMessage}
 use Rattle.sb_lines.specs.Lines.{line_of}
+use Rattle.sb_lines.specs.declared.line.Line.{Line as ScriptLine}
 use Rattle.sb_rest.specs.Batches.{is_blank}
 use Rattle.sb_rest.specs.Calls.{call_of}
 use Rattle.sb_rest.specs.Responses.{host_in}
@@ -65,19 +65,19 @@ waits call = is_receive call.act && is_none call.by
 abbrev pub ms_in : ℕ → ℕ
 ms_in s = min (s * 1000) (2 ^ 64 - 1)
 
--- the call of a script line
-abbrev pub line_in : List ℕ → Result TimedCall (List ℕ)
+-- the call of a script line, and the form of its reply
+abbrev pub line_in : List ℕ → Result ScriptLine (List ℕ)
 line_in body = if is_utf8 body then line_of body else Err []
 
 -- the call that is said, or why there is none; want of memory may come with each
-abbrev pub Reads : Result TimedCall (List ℕ) → Result TimedCall Refusal → Type 0
-Reads said (Ok timed) = (said ≡ Ok timed) × IsActInOrder timed.call.act
+abbrev pub Reads : Result ScriptLine (List ℕ) → Result ScriptLine Refusal → Type 0
+Reads said (Ok line) = (said ≡ Ok line) × IsActInOrder line.timed.call.act
 Reads said (Err (BadCall key)) = said ≡ Err key
 Reads said (Err NoMemory) = Unit {0}
 Reads said (Err _) = ⊥
 
 -- a script line is no call, and is answered by why
-abbrev pub IsNoLine : Result TimedCall (List ℕ) → Result Answered Refusal → Type 0
+abbrev pub IsNoLine : Result ScriptLine (List ℕ) → Result Answered Refusal → Type 0
 IsNoLine said (Ok reply) = ⊥
 IsNoLine said (Err refusal) = Reads said (Err refusal)
 
@@ -101,6 +101,6 @@ pub record IsCall (m : RequestMessage) (w : Wanted) (host : List ℕ) (is_patien
 abbrev pub AsksFor : RequestMessage → Ask → Type 0
 AsksFor m (Once w host) = IsCall m w host false
 AsksFor m (Patient w host limit) = IsCall m w host true × (limit ≡ ms_in w.timeout)
-AsksFor m (Line timed) = (call_of m ≡ Err Script) × Reads (line_in m.body) (Ok timed)
+AsksFor m (Line line) = (call_of m ≡ Err Script) × Reads (line_in m.body) (Ok line)
 AsksFor m (BadLine answer) = (call_of m ≡ Err Script) × IsNoLine (line_in m.body) answer
 AsksFor m (Fault fault) = IsFault fault m

@@ -11,6 +11,8 @@ use Rattle.sb_desk.specs.Entries.{made_by}
 use Rattle.sb_http.specs.Messages.{RequestMessage}
 use Rattle.sb_http.specs.Responses.{ResponseMessage, response_bytes}
 use Rattle.sb_lines.specs.Replies.{answer_line}
+use Rattle.sb_lines.specs.declared.form.Form.{Form}
+use Rattle.sb_lines.specs.declared.form.Form.TheVariants.{Plain}
 use Rattle.sb_rest.specs.Responses.{Gives, fault_response, line_response}
 use Rattle.sb_rest.specs.declared.call.RestFault.{RestFault}
 use Rattle.sb_server.specs.declared.ask.Ask.{Ask}
@@ -39,10 +41,10 @@ closed closes said = record said { ends = said.ends || closes }
 abbrev pub AnswersCall : Call → Result Answered Refusal → List ℕ → Bool → List ℕ → Type 0
 AnswersCall call answer host closes out = (said : ResponseMessage) × Gives call.act answer host said × (out ≡ response_bytes (closed closes said))
 
--- the bytes of the response to a script line: the line of its reply, which ends the connection too where the
--- namespace acts no more
-abbrev pub line_bytes : Result Answered Refusal → Bool → List ℕ
-line_bytes answer closes = response_bytes (closed (closes || stops answer) (line_response (answer_line answer)))
+-- the bytes of the response to a script line: the line of its reply in the form that it asks for, which ends the
+-- connection too where the namespace acts no more
+abbrev pub line_bytes : Form → Result Answered Refusal → Bool → List ℕ
+line_bytes form answer closes = response_bytes (closed (closes || stops answer) (line_response (answer_line form answer)))
 
 abbrev pub fault_bytes : RestFault → Bool → List ℕ
 fault_bytes fault closes = response_bytes (closed closes (fault_response fault))
@@ -51,7 +53,7 @@ fault_bytes fault closes = response_bytes (closed closes (fault_response fault))
 abbrev pub IsInOrder : Ask → Type 0
 IsInOrder (Once w host) = IsActInOrder w.call.act
 IsInOrder (Patient w host limit) = IsActInOrder w.call.act
-IsInOrder (Line timed) = IsActInOrder timed.call.act
+IsInOrder (Line line) = IsActInOrder line.timed.call.act
 IsInOrder (BadLine answer) = Unit {0}
 IsInOrder (Fault fault) = Unit {0}
 
@@ -61,16 +63,16 @@ RespondsTo seat (Once w host) closes made out turn =
     (answer : Result Answered Refusal) × IsOne seat w.call made answer × AnswersCall w.call answer host closes out × (turn ≡ turn_of closes (stops answer))
 RespondsTo seat (Patient w host limit) closes made out turn =
     (answer : Result Answered Refusal) × Waits seat w.call limit made answer × AnswersCall w.call answer host closes out × (turn ≡ turn_of closes (stops answer))
-RespondsTo seat (Line timed) closes made out turn =
-    (answer : Result Answered Refusal) × IsOne seat timed.call made answer × (out ≡ line_bytes answer closes) × (turn ≡ turn_of closes (stops answer))
-RespondsTo seat (BadLine answer) closes made out turn = (made ≡ []) × (out ≡ line_bytes answer closes) × (turn ≡ turn_of closes (stops answer))
+RespondsTo seat (Line line) closes made out turn =
+    (answer : Result Answered Refusal) × IsOne seat line.timed.call made answer × (out ≡ line_bytes line.form answer closes) × (turn ≡ turn_of closes (stops answer))
+RespondsTo seat (BadLine answer) closes made out turn = (made ≡ []) × (out ≡ line_bytes Plain answer closes) × (turn ≡ turn_of closes (stops answer))
 RespondsTo seat (Fault fault) closes made out turn = (made ≡ []) × (out ≡ fault_bytes fault closes) × (turn ≡ turn_of closes false)
 
 -- these are the entries of its calls
 abbrev pub Acts : ℕ → Ask → List Entry → Type 0
 Acts seat (Once w host) made = (answer : Result Answered Refusal) × IsOne seat w.call made answer
 Acts seat (Patient w host limit) made = (answer : Result Answered Refusal) × Waits seat w.call limit made answer
-Acts seat (Line timed) made = (answer : Result Answered Refusal) × IsOne seat timed.call made answer
+Acts seat (Line line) made = (answer : Result Answered Refusal) × IsOne seat line.timed.call made answer
 Acts seat (BadLine answer) made = made ≡ []
 Acts seat (Fault fault) made = made ≡ []
 

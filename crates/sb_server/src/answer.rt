@@ -11,8 +11,8 @@ use crate::ask::Ask;
 use crate::waiting::{call_once, receive_waiting};
 use sb_desk::{Desk, Pass, Served};
 use sb_http::{Response, write_response};
-use sb_lines::reply_line;
-use sb_machine::{Answer, Call, Refusal, TimedCall};
+use sb_lines::{Form, reply_line};
+use sb_machine::{Answer, Call, Refusal};
 use sb_outside::{Bytes, Clock};
 use sb_rest::{RestFault, Wanted, fault_response, line_response, response_of};
 use std::alloc::{AllocError, Global};
@@ -60,8 +60,8 @@ pub(crate) fn answer<V: Served, R: Wait, C: Clock>(
             host,
             limit_ms,
         } => answer_patient(rt, alloc, desk, pass, clock, wanted, host, limit_ms, closes),
-        Ask::Line { timed } => answer_line(rt, alloc, desk, pass, clock, timed, closes),
-        Ask::BadLine { answer } => (pass, write_line(alloc, answer, closes)),
+        Ask::Line { line } => answer_line(rt, alloc, desk, pass, clock, line, closes),
+        Ask::BadLine { answer } => (pass, write_line(alloc, Form::Plain, answer, closes)),
         Ask::Fault { fault } => (pass, write_fault(alloc, fault, closes)),
     }
 }
@@ -122,17 +122,18 @@ fn answer_line<V: Served, R: Wait, C: Clock>(
     desk: &Desk<V>,
     pass: Pass,
     clock: &C,
-    timed: TimedCall,
+    line: sb_lines::Line,
     closes: bool,
 ) -> (Pass, Written)
     requires desk { IsOf desk.now pass }
-    requires order { IsActInOrder timed.call.act }
-    ensures answers { responds.Answers pass (Line timed) closes result.0 result.1 }
+    requires order { IsActInOrder line.timed.call.act }
+    ensures answers { responds.Answers pass (Line line) closes result.0 result.1 }
     ensures desk { IsOf desk.now result.0 }
 {
-    let (pass, answer) = call_once(rt, desk, pass, clock.now(), &timed.call);
-    drop(timed);
-    (pass, write_line(alloc, answer, closes))
+    let (pass, answer) = call_once(rt, desk, pass, clock.now(), &line.timed.call);
+    let form = line.form;
+    drop(line);
+    (pass, write_line(alloc, form, answer, closes))
 }
 
 // The bytes of a response, which also ends the connection where its request asks for that.
@@ -163,10 +164,15 @@ fn call_bytes(
 }
 
 // The bytes of the response to a script line.
-fn line_bytes(alloc: Global, answer: &Answer, closes: bool) -> Result<Vec<u8>, AllocError>
-    ensures { IfOk result (λ v. v.items ≡ responds.line_bytes answer.now closes) }
+fn line_bytes(
+    alloc: Global,
+    form: Form,
+    answer: &Answer,
+    closes: bool,
+) -> Result<Vec<u8>, AllocError>
+    ensures { IfOk result (λ v. v.items ≡ responds.line_bytes form answer.now closes) }
 {
-    let line = reply_line(alloc, answer)?;
+    let line = reply_line(alloc, form, answer)?;
     let response = line_response(alloc, line);
     bytes_of(alloc, response, closes || stops(answer))
 }
@@ -180,12 +186,12 @@ fn fault_bytes(alloc: Global, fault: RestFault, closes: bool) -> Result<Vec<u8>,
 }
 
 // The response to a script line that was answered so.
-fn write_line(alloc: Global, answer: Answer, closes: bool) -> Written
-    ensures bytes { IfOk result.bytes (λ v. v.items ≡ responds.line_bytes answer closes) }
+fn write_line(alloc: Global, form: Form, answer: Answer, closes: bool) -> Written
+    ensures bytes { IfOk result.bytes (λ v. v.items ≡ responds.line_bytes form answer closes) }
     ensures turn { result.turn ≡ responds.turn_of closes (stops answer) }
 {
     Written {
-        bytes: line_bytes(alloc, &answer, closes),
+        bytes: line_bytes(alloc, form, &answer, closes),
         turn: turn_of(closes, stops(&answer)),
     }
 }

@@ -9,7 +9,7 @@ ghost use Rattle.sb_server.specs.Asks as asks;
 
 use sb_http::Request;
 use sb_lines::{LineFault, read_line};
-use sb_machine::{Act, Answer, Call, Refusal, TimedCall};
+use sb_machine::{Act, Answer, Call, Refusal};
 use sb_model::Text;
 use sb_outside::Bytes;
 use sb_rest::{RestFault, Wanted, call_of, host_of};
@@ -32,7 +32,7 @@ pub enum Ask {
     },
     /// A script line.
     Line {
-        timed: TimedCall,
+        line: sb_lines::Line,
     },
     /// A script line that is no call.
     BadLine {
@@ -118,16 +118,16 @@ fn line_ask(alloc: Global, request: &Request) -> Ask
     ensures { asks.AsksFor (said_by request.now) result }
 {
     match line_in(alloc, request.body) {
-        Ok(timed) => Ask::Line { timed },
+        Ok(line) => Ask::Line { line },
         Err(refusal) => Ask::BadLine {
             answer: Err(refusal),
         },
     }
 }
 
-// The call of a script line, or why there is none.
+// What a script line asks for, or why it is none.
 #[tactic(auto, using(crate::proofs::Texts::text_tests))]
-fn line_in(alloc: Global, body: &[u8]) -> Result<TimedCall, Refusal>
+fn line_in(alloc: Global, body: &[u8]) -> Result<sb_lines::Line, Refusal>
     ensures { asks.Reads (asks.line_in body.now) result }
 {
     match std::str::from_utf8(body) {
@@ -137,18 +137,18 @@ fn line_in(alloc: Global, body: &[u8]) -> Result<TimedCall, Refusal>
 }
 
 // The same of a text.
-fn text_in(alloc: Global, text: &str) -> Result<TimedCall, Refusal>
+fn text_in(alloc: Global, text: &str) -> Result<sb_lines::Line, Refusal>
     ensures { asks.Reads (line_of text.now) result }
 {
     match read_line(alloc, text) {
-        Ok(timed) => Ok(timed),
+        Ok(line) => Ok(line),
         Err(LineFault::BadKey { key }) => Err(Refusal::BadCall { key }),
         Err(LineFault::OutOfMemory) => Err(Refusal::OutOfMemory),
     }
 }
 
 // The same of what is no text: it has no key.
-fn no_text(alloc: Global) -> Result<TimedCall, Refusal>
+fn no_text(alloc: Global) -> Result<sb_lines::Line, Refusal>
     ensures { asks.Reads (Err []) result }
 {
     let Ok(key) = Text::of(alloc, "") else {

@@ -17,7 +17,7 @@ pub returns-in_ok-write_answer-in-Accepted-clause-done : goal.returns-in_ok-writ
 returns-in_ok-write_answer-in-Accepted-clause-done g c =
     let kind = accepted_answer c.step-answer.result (sym c.in-Accepted.ensures) in
     let step = stepped (node_state c.args.node.now) _ (node_stopped c.args.node.now) (node_stopped c.step-answer.new.self) (node_ticked c.step-answer.new.self) c.args.asked.now.reading c.args.asked.now.call c.step-answer.result c.requires.consistent c.requires.running c.step-answer.ensures.ticked (c.step-answer.ensures.step 0) kind.0 in
-    answered_call (node_state c.args.node.now) _ c.args.asked.now c.step-answer.result (node_stopped c.step-answer.new.self) (output_of g.K.Sink c.args.output.now) (output_of g.K.Sink c.write_answer.new.output) _ step c.in_ok-write_answer-in-Accepted.ensures.ok kind.1
+    answered_call (node_state c.args.node.now) _ c.args.asked.now c.args.form c.step-answer.result (node_stopped c.step-answer.new.self) (output_of g.K.Sink c.args.output.now) (output_of g.K.Sink c.write_answer.new.output) _ step c.in_ok-write_answer-in-Accepted.ensures.ok kind.1
 
 pub returns-in_ok-write_answer-in-Accepted-clause-running : goal.returns-in_ok-write_answer-in-Accepted-clause-running
 returns-in_ok-write_answer-in-Accepted-clause-running g c =
@@ -34,7 +34,7 @@ pub returns-in_ok-write_answer-in-Refused-clause-done : goal.returns-in_ok-write
 returns-in_ok-write_answer-in-Refused-clause-done g c =
     let kind = refused_answer c.step-answer.result (sym c.in-Refused.ensures) in
     let step = stepped (node_state c.args.node.now) _ (node_stopped c.args.node.now) (node_stopped c.step-answer.new.self) (node_ticked c.step-answer.new.self) c.args.asked.now.reading c.args.asked.now.call c.step-answer.result c.requires.consistent c.requires.running c.step-answer.ensures.ticked (c.step-answer.ensures.step 0) kind.0 in
-    answered_call (node_state c.args.node.now) _ c.args.asked.now c.step-answer.result (node_stopped c.step-answer.new.self) (output_of g.K.Sink c.args.output.now) (output_of g.K.Sink c.write_answer-in-Refused.new.output) _ step c.in_ok-write_answer-in-Refused.ensures.ok kind.1
+    answered_call (node_state c.args.node.now) _ c.args.asked.now c.args.form c.step-answer.result (node_stopped c.step-answer.new.self) (output_of g.K.Sink c.args.output.now) (output_of g.K.Sink c.write_answer-in-Refused.new.output) _ step c.in_ok-write_answer-in-Refused.ensures.ok kind.1
 
 pub returns-in_ok-write_answer-in-Refused-clause-running : goal.returns-in_ok-write_answer-in-Refused-clause-running
 returns-in_ok-write_answer-in-Refused-clause-running g c =
@@ -49,15 +49,15 @@ returns-in_ok-write_answer-in-Refused-clause-kept g c safe sound =
 
 pub returns-in-Failed-clause-cut : goal.returns-in-Failed-clause-cut
 returns-in-Failed-clause-cut g c =
-    let step = step_at (node_state c.args.node.now) _ (node_stopped c.args.node.now) (node_stopped c.step-answer.new.self) (node_ticked c.step-answer.new.self) c.args.asked.now c.step-answer.result c.requires.running c.step-answer.ensures.ticked (c.step-answer.ensures.step 0) in
+    let step = step_at (node_state c.args.node.now) _ (node_stopped c.args.node.now) (node_stopped c.step-answer.new.self) (node_ticked c.step-answer.new.self) c.args.asked.now c.args.form c.step-answer.result c.requires.running c.step-answer.ensures.ticked (c.step-answer.ensures.step 0) in
     let failed = failed_answer c.step-answer.result (node_stopped c.args.node.now) c.requires.running c.step-answer.ensures.stopped (sym c.in-Failed.ensures) in
-    disk_cut _ _ c.args.asked.now (node_ticked c.step-answer.new.self) c.step-answer.result c.disk_fault_line.result.now (output_of g.K.Sink c.args.output.now) (output_of g.K.Sink c.write_final_line.new.output) failed c.disk_fault_line.ensures c.write_final_line.ensures step.0 step.1
+    disk_cut _ _ c.args.asked.now c.args.form (node_ticked c.step-answer.new.self) c.step-answer.result c.disk_fault_line.result.now (output_of g.K.Sink c.args.output.now) (output_of g.K.Sink c.write_final_line.new.output) failed c.disk_fault_line.ensures c.write_final_line.ensures step.0 step.1
 
 pub returns-in-Wanting-clause-cut : goal.returns-in-Wanting-clause-cut
 returns-in-Wanting-clause-cut g c =
-    let step = step_at (node_state c.args.node.now) _ (node_stopped c.args.node.now) (node_stopped c.step-answer.new.self) (node_ticked c.step-answer.new.self) c.args.asked.now c.step-answer.result c.requires.running c.step-answer.ensures.ticked (c.step-answer.ensures.step 0) in
+    let step = step_at (node_state c.args.node.now) _ (node_stopped c.args.node.now) (node_stopped c.step-answer.new.self) (node_ticked c.step-answer.new.self) c.args.asked.now c.args.form c.step-answer.result c.requires.running c.step-answer.ensures.ticked (c.step-answer.ensures.step 0) in
     let wants = wanting_answer c.step-answer.result (sym c.in-Wanting.ensures) in
-    memory_cut _ _ c.args.asked.now (node_ticked c.step-answer.new.self) c.step-answer.result c.out_of_memory_line.result.now (output_of g.K.Sink c.args.output.now) (output_of g.K.Sink c.write_final_line-in-Wanting.new.output) wants c.out_of_memory_line.ensures c.write_final_line-in-Wanting.ensures step.0 step.1
+    memory_cut _ _ c.args.asked.now c.args.form (node_ticked c.step-answer.new.self) c.step-answer.result c.out_of_memory_line.result.now (output_of g.K.Sink c.args.output.now) (output_of g.K.Sink c.write_final_line-in-Wanting.new.output) wants c.out_of_memory_line.ensures c.write_final_line-in-Wanting.ensures step.0 step.1
 
 pub returns-in-Wanting-clause-kept : goal.returns-in-Wanting-clause-kept
 returns-in-Wanting-clause-kept g c safe sound =
@@ -67,9 +67,9 @@ returns-in-Wanting-clause-kept g c safe sound =
 pub returns-in_err-write_answer-in-Accepted-clause-cut : goal.returns-in_err-write_answer-in-Accepted-clause-cut
 returns-in_err-write_answer-in-Accepted-clause-cut g c =
     let kind = accepted_answer c.step-answer.result (sym c.in-Accepted.ensures) in
-    let step = step_at (node_state c.args.node.now) _ (node_stopped c.args.node.now) (node_stopped c.step-answer.new.self) (node_ticked c.step-answer.new.self) c.args.asked.now c.step-answer.result c.requires.running c.step-answer.ensures.ticked (c.step-answer.ensures.step 0) in
+    let step = step_at (node_state c.args.node.now) _ (node_stopped c.args.node.now) (node_stopped c.step-answer.new.self) (node_ticked c.step-answer.new.self) c.args.asked.now c.args.form c.step-answer.result c.requires.running c.step-answer.ensures.ticked (c.step-answer.ensures.step 0) in
     passed_on _ c.in_err-write_answer-in-Accepted.field-0.0 c.from_residual.result c.from_residual.ensures
-    (reply_cut_at _ _ (Request c.args.asked.now) (node_ticked c.step-answer.new.self) c.step-answer.result (output_of g.K.Sink c.args.output.now) (output_of g.K.Sink c.write_answer.new.output) _ step.0 kind.0 step.1 c.in_err-write_answer-in-Accepted.ensures.err)
+    (reply_cut_at _ _ (Request c.args.asked.now c.args.form) (node_ticked c.step-answer.new.self) c.step-answer.result (output_of g.K.Sink c.args.output.now) (output_of g.K.Sink c.write_answer.new.output) _ step.0 kind.0 step.1 c.in_err-write_answer-in-Accepted.ensures.err)
 
 pub returns-in_err-write_answer-in-Accepted-clause-kept : goal.returns-in_err-write_answer-in-Accepted-clause-kept
 returns-in_err-write_answer-in-Accepted-clause-kept g c safe sound =
@@ -80,9 +80,9 @@ returns-in_err-write_answer-in-Accepted-clause-kept g c safe sound =
 pub returns-in_err-write_answer-in-Refused-clause-cut : goal.returns-in_err-write_answer-in-Refused-clause-cut
 returns-in_err-write_answer-in-Refused-clause-cut g c =
     let kind = refused_answer c.step-answer.result (sym c.in-Refused.ensures) in
-    let step = step_at (node_state c.args.node.now) _ (node_stopped c.args.node.now) (node_stopped c.step-answer.new.self) (node_ticked c.step-answer.new.self) c.args.asked.now c.step-answer.result c.requires.running c.step-answer.ensures.ticked (c.step-answer.ensures.step 0) in
+    let step = step_at (node_state c.args.node.now) _ (node_stopped c.args.node.now) (node_stopped c.step-answer.new.self) (node_ticked c.step-answer.new.self) c.args.asked.now c.args.form c.step-answer.result c.requires.running c.step-answer.ensures.ticked (c.step-answer.ensures.step 0) in
     passed_on _ c.in_err-write_answer-in-Refused.field-0.0 c.from_residual-in_err-write_answer-in-Refused.result c.from_residual-in_err-write_answer-in-Refused.ensures
-    (reply_cut_at _ _ (Request c.args.asked.now) (node_ticked c.step-answer.new.self) c.step-answer.result (output_of g.K.Sink c.args.output.now) (output_of g.K.Sink c.write_answer-in-Refused.new.output) _ step.0 kind.0 step.1 c.in_err-write_answer-in-Refused.ensures.err)
+    (reply_cut_at _ _ (Request c.args.asked.now c.args.form) (node_ticked c.step-answer.new.self) c.step-answer.result (output_of g.K.Sink c.args.output.now) (output_of g.K.Sink c.write_answer-in-Refused.new.output) _ step.0 kind.0 step.1 c.in_err-write_answer-in-Refused.ensures.err)
 
 pub returns-in_err-write_answer-in-Refused-clause-kept : goal.returns-in_err-write_answer-in-Refused-clause-kept
 returns-in_err-write_answer-in-Refused-clause-kept g c safe sound =
@@ -100,39 +100,39 @@ returns-in-Failed-clause-undecided g c safe is =
     let was = node_disks c.args.node.now in
     let now = node_disks c.step-answer.new.self in
     let s = node_state c.args.node.now in
-    present_one was now (states_of s (Request c.args.asked.now)) (called_moments s c.args.asked.now was now (c.step-answer.ensures.any_moment safe))
+    present_one was now (states_of s (Request c.args.asked.now c.args.form)) (called_moments s c.args.asked.now c.args.form was now (c.step-answer.ensures.any_moment safe))
 
 pub returns-in_err-write_answer-in-Accepted-clause-undecided : goal.returns-in_err-write_answer-in-Accepted-clause-undecided
 returns-in_err-write_answer-in-Accepted-clause-undecided g c safe is =
     let was = node_disks c.args.node.now in
     let now = node_disks c.step-answer.new.self in
     let s = node_state c.args.node.now in
-    present_one was now (states_of s (Request c.args.asked.now)) (called_moments s c.args.asked.now was now (c.step-answer.ensures.any_moment safe))
+    present_one was now (states_of s (Request c.args.asked.now c.args.form)) (called_moments s c.args.asked.now c.args.form was now (c.step-answer.ensures.any_moment safe))
 
 pub returns-in_err-write_answer-in-Refused-clause-undecided : goal.returns-in_err-write_answer-in-Refused-clause-undecided
 returns-in_err-write_answer-in-Refused-clause-undecided g c safe is =
     let was = node_disks c.args.node.now in
     let now = node_disks c.step-answer.new.self in
     let s = node_state c.args.node.now in
-    present_one was now (states_of s (Request c.args.asked.now)) (called_moments s c.args.asked.now was now (c.step-answer.ensures.any_moment safe))
+    present_one was now (states_of s (Request c.args.asked.now c.args.form)) (called_moments s c.args.asked.now c.args.form was now (c.step-answer.ensures.any_moment safe))
 
 pub returns-in_ok-write_answer-in-Accepted-clause-any_moment : goal.returns-in_ok-write_answer-in-Accepted-clause-any_moment
-returns-in_ok-write_answer-in-Accepted-clause-any_moment g c safe = called_moments (node_state c.args.node.now) c.args.asked.now (node_disks c.args.node.now) (node_disks c.step-answer.new.self) (c.step-answer.ensures.any_moment safe)
+returns-in_ok-write_answer-in-Accepted-clause-any_moment g c safe = called_moments (node_state c.args.node.now) c.args.asked.now c.args.form (node_disks c.args.node.now) (node_disks c.step-answer.new.self) (c.step-answer.ensures.any_moment safe)
 
 pub returns-in_ok-write_answer-in-Refused-clause-any_moment : goal.returns-in_ok-write_answer-in-Refused-clause-any_moment
-returns-in_ok-write_answer-in-Refused-clause-any_moment g c safe = called_moments (node_state c.args.node.now) c.args.asked.now (node_disks c.args.node.now) (node_disks c.step-answer.new.self) (c.step-answer.ensures.any_moment safe)
+returns-in_ok-write_answer-in-Refused-clause-any_moment g c safe = called_moments (node_state c.args.node.now) c.args.asked.now c.args.form (node_disks c.args.node.now) (node_disks c.step-answer.new.self) (c.step-answer.ensures.any_moment safe)
 
 pub returns-in-Failed-clause-any_moment : goal.returns-in-Failed-clause-any_moment
-returns-in-Failed-clause-any_moment g c safe = called_moments (node_state c.args.node.now) c.args.asked.now (node_disks c.args.node.now) (node_disks c.step-answer.new.self) (c.step-answer.ensures.any_moment safe)
+returns-in-Failed-clause-any_moment g c safe = called_moments (node_state c.args.node.now) c.args.asked.now c.args.form (node_disks c.args.node.now) (node_disks c.step-answer.new.self) (c.step-answer.ensures.any_moment safe)
 
 pub returns-in-Wanting-clause-any_moment : goal.returns-in-Wanting-clause-any_moment
-returns-in-Wanting-clause-any_moment g c safe = called_moments (node_state c.args.node.now) c.args.asked.now (node_disks c.args.node.now) (node_disks c.step-answer.new.self) (c.step-answer.ensures.any_moment safe)
+returns-in-Wanting-clause-any_moment g c safe = called_moments (node_state c.args.node.now) c.args.asked.now c.args.form (node_disks c.args.node.now) (node_disks c.step-answer.new.self) (c.step-answer.ensures.any_moment safe)
 
 pub returns-in_err-write_answer-in-Accepted-clause-any_moment : goal.returns-in_err-write_answer-in-Accepted-clause-any_moment
-returns-in_err-write_answer-in-Accepted-clause-any_moment g c safe = called_moments (node_state c.args.node.now) c.args.asked.now (node_disks c.args.node.now) (node_disks c.step-answer.new.self) (c.step-answer.ensures.any_moment safe)
+returns-in_err-write_answer-in-Accepted-clause-any_moment g c safe = called_moments (node_state c.args.node.now) c.args.asked.now c.args.form (node_disks c.args.node.now) (node_disks c.step-answer.new.self) (c.step-answer.ensures.any_moment safe)
 
 pub returns-in_err-write_answer-in-Refused-clause-any_moment : goal.returns-in_err-write_answer-in-Refused-clause-any_moment
-returns-in_err-write_answer-in-Refused-clause-any_moment g c safe = called_moments (node_state c.args.node.now) c.args.asked.now (node_disks c.args.node.now) (node_disks c.step-answer.new.self) (c.step-answer.ensures.any_moment safe)
+returns-in_err-write_answer-in-Refused-clause-any_moment g c safe = called_moments (node_state c.args.node.now) c.args.asked.now c.args.form (node_disks c.args.node.now) (node_disks c.step-answer.new.self) (c.step-answer.ensures.any_moment safe)
 
 pub returns-in-Wanting-clause-disk_quiet : goal.returns-in-Wanting-clause-disk_quiet
 returns-in-Wanting-clause-disk_quiet g c other = c.step-answer.ensures.quiet (not_failed c.step-answer.result Wanting (sym c.in-Wanting.ensures) (λ e. absurd cc))

@@ -3,4 +3,4 @@ use Rattle.sb_lines.proofs.OneLine.{of_data}
 use Rattle.sb_lines.proofs.laws.each_is_one_line.Goals as goal
 
 pub returns : goal.returns
-returns c = λ answer. of_data (answer_data answer)
+returns c = λ form answer. of_data (answer_data form answer)
