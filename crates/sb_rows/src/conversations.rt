@@ -13,7 +13,7 @@ use sb_machine::{Answer, Call, Refusal};
 use sb_model::Text;
 use sb_node::Node;
 use sb_outside::MemDisk;
-use sb_rest::{RestFault, call_of, fault_response, host_of, line_response, response_of};
+use sb_rest::{Access, RestFault, call_of, fault_response, host_of, line_response, response_of};
 use sb_routes::Routes;
 use std::alloc::{AllocError, Global};
 
@@ -166,7 +166,7 @@ fn response_to(
     request: &Request,
     moment: u64,
 ) -> Result<Response, AllocError> {
-    match call_of(alloc, routes, request) {
+    match call_of(alloc, routes, &Access::unlocked(alloc), request) {
         Ok(wanted) => {
             let response = response_to_call(alloc, node, &wanted.call, host_of(request), moment);
             drop(wanted);
