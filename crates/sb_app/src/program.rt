@@ -14,6 +14,7 @@ use crate::alone::carry_out;
 use crate::serving::serve_over;
 use crate::task::Task;
 use sb_outside::{Clock, Disk, Door, Link, Sink, Source};
+use sb_rest::Access;
 use sb_words::{Command, WordsFault, read_form};
 use std::alloc::Global;
 use std::sync::Wait;
@@ -47,7 +48,7 @@ pub fn top_alone<D: Disk, C: Clock, S: Source, K: Sink, N: Link>(
 }
 
 /// Does what the words name over what it is handed. A server (`serve`) serves the connections of these
-/// doors, each door by a worker, and ends once all workers have; its status is 0, or 4 to 8 as
+/// doors to whom `access` lets in, each door by a worker, and ends once all workers have; its status is 0, or 4 to 8 as
 /// `serve_over` says. All else is `top_alone`, and the threads, the clock and the doors aren't used.
 #[tactic(auto, using(crate::proofs::Calls::unnamed))]
 pub fn top<
@@ -62,6 +63,7 @@ pub fn top<
     rt: &T,
     alloc: Global,
     words: &[&str],
+    access: &Access,
     disk_a: D,
     disk_b: D,
     salt: u64,
@@ -76,7 +78,7 @@ where
     ensures done { command_in (map (λ w. w.now) words.now) ≢ Some Serve
         → IfSome result.1 (λ disks. IsCall (task_in (map (λ w. w.now) words.now)) salt (outside_of D.Disk S.Source K.Sink disk_a disk_b input.old output.old) (outside_of D.Disk S.Source K.Sink disks.0 disks.1 input.new output.new) (exchanges_of N.Link link.old) (exchanges_of N.Link link.new) result.0) }
     ensures serves { command_in (map (λ w. w.now) words.now) ≡ Some Serve
-        → IfSome result.1 (λ disks. IsServeCall (λ desk. Working (ServesBy R.Conn.left R.Conn.given R.Conn.reads R.Conn.writes) R.left R.taken R.ended R.count R.out desk (connections_in (map (λ w. w.now) words.now))) R.count salt
+        → IfSome result.1 (λ disks. IsServeCall (λ desk. Working (ServesBy (C.reads clock.now) access.now R.Conn.left R.Conn.given R.Conn.reads R.Conn.writes) R.left R.taken R.ended R.count R.out desk (connections_in (map (λ w. w.now) words.now))) R.count salt
         (outside_of D.Disk S.Source K.Sink disk_a disk_b input.old output.old) (outside_of D.Disk S.Source K.Sink disks.0 disks.1 input.new output.new) doors.old.items doors.new.items result.0) }
     ensures usage { result.0 ≡ 2 → command_in (map (λ w. w.now) words.now) ≡ None }
     ensures usage_alone { result.0 ≡ 2 → (result.1 ≡ Some (disk_a, disk_b)) × (input.new ≡ input.old) }
@@ -107,6 +109,7 @@ where
         let (status, disk_a, disk_b) = serve_over(
             rt,
             alloc,
+            access,
             disk_a,
             disk_b,
             salt,

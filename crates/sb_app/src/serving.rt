@@ -13,14 +13,15 @@ use crate::opening::open_node;
 use sb_desk::{Desk, NewFault, Report};
 use sb_node::Node;
 use sb_outside::{Clock, Disk, Door, Sink, write_all};
+use sb_rest::Access;
 use sb_routes::Routes;
 use sb_server::{ServeEnding, serve};
 use std::alloc::{AllocError, Global};
 use std::sync::Wait;
 use std::thread::Threads;
 
-/// Serves the connections of these doors, at most so many each, over the namespace of these disks, and
-/// tells the numbers of its history once all workers have ended. The status is 0; 5 for a disk that
+/// Serves the connections of these doors, at most so many each, over the namespace of these disks, to
+/// whom `access` lets in, and tells the numbers of its history once all workers have ended. The status is 0; 5 for a disk that
 /// failed, 6 for a journal that can't be trusted, 8 for a door that failed, 7 for want of memory and 4
 /// for a fault of the output: the first of 5, 8, 7 and 4 where several came. The salt is that of a new
 /// journal.
@@ -34,6 +35,7 @@ pub fn serve_over<
 >(
     rt: &T,
     alloc: Global,
+    access: &Access,
     disk_a: D,
     disk_b: D,
     salt: u64,
@@ -44,7 +46,7 @@ pub fn serve_over<
 ) -> (u8, D, D)
 where
     R::Conn: Send,
-    ensures { (input : Input) → IsServeCall (λ desk. Working (ServesBy R.Conn.left R.Conn.given R.Conn.reads R.Conn.writes) R.left R.taken R.ended R.count R.out desk most) R.count salt
+    ensures { (input : Input) → IsServeCall (λ desk. Working (ServesBy (C.reads clock.now) access.now R.Conn.left R.Conn.given R.Conn.reads R.Conn.writes) R.left R.taken R.ended R.count R.out desk most) R.count salt
         (record { input = input; output = output_of K.Sink output.old; disks = disks_of D.Disk disk_a disk_b }) (record { input = input; output = output_of K.Sink output.new; disks = disks_of D.Disk result.1 result.2 })
         doors.old.items doors.new.items result.0 }
 {
@@ -66,7 +68,7 @@ where
             return (7, disk_a, disk_b);
         }
     };
-    let ending = serve(rt, alloc, &routes, &desk, &mut passes, doors, clock, most);
+    let ending = serve(rt, alloc, &routes, access, &desk, &mut passes, doors, clock, most);
     drop(routes);
     let (node, report) = match desk.close(passes) {
         Ok(closed) => closed,

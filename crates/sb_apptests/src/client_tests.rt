@@ -2,6 +2,7 @@
 // the lines that must be written.
 use sb_app::top;
 use sb_outside::{Bytes, MemDisk, MemLink, MemSink, MemSource, NoDoor, StepClock};
+use sb_rest::Access;
 use std::sync::Wait;
 use std::test::Fail;
 use std::thread::Threads;
@@ -117,6 +118,7 @@ fn answers<T: Threads + Wait + Sync>(
         threads,
         alloc,
         &CLIENT,
+        &Access::unlocked(alloc),
         disk_a,
         disk_b,
         0,

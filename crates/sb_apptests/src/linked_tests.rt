@@ -17,6 +17,7 @@ use sb_node::Node;
 use sb_outside::{
     Bytes, MemConn, MemDisk, MemDoor, MemLink, MemSink, MemSource, NoLink, StepClock,
 };
+use sb_rest::Access;
 use std::sync::Wait;
 use std::test::Fail;
 use std::thread::Threads;
@@ -53,6 +54,7 @@ fn served<T: Threads + Wait + Sync>(rt: &HostRuntime, threads: &T) -> Result<Vec
         threads,
         alloc,
         &SERVE,
+        &Access::unlocked(alloc),
         disk_a,
         disk_b,
         SALT,

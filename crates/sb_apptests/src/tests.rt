@@ -2,6 +2,7 @@
 // lines.
 use sb_app::top;
 use sb_outside::{MemDisk, MemSink, MemSource, NoDoor, NoLink, StepClock};
+use sb_rest::Access;
 use std::sync::Wait;
 use std::test::Fail;
 use std::thread::Threads;
@@ -140,6 +141,7 @@ fn ran<T: Threads + Wait + Sync>(
         threads,
         alloc,
         case.words,
+        &Access::unlocked(alloc),
         disk_a,
         disk_b,
         SALT,

@@ -7,6 +7,7 @@ use sb_app::top;
 use sb_outside::{
     Clock, Conn, Door, DoorFault, MemDisk, MemSink, MemSource, NoLink, ReadFault, WriteFault,
 };
+use sb_rest::Access;
 use std::sync::atomic::{AtomicU64, Ordering};
 use std::test::Fail;
 
@@ -161,6 +162,7 @@ fn two_connections_at_once(rt: HostRuntime) -> Result<(), Fail> {
         &rt,
         alloc,
         &SERVE,
+        &Access::unlocked(alloc),
         disk_a,
         disk_b,
         SALT,

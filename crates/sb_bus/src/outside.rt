@@ -4,6 +4,7 @@ use sb_outside::{
     Dialing, Disk, Door, FileDisk, Link, Listening, MemDisk, NoDoor, NoLink, Reading, SystemClock,
     Writing, hold_streams, open_disk, sync_folder,
 };
+use sb_rest::Access;
 use sb_words::{Command, Needs, WordsFault, asked_text, needs};
 use std::fs::{File, TryLockError};
 use std::io::{Error, ErrorKind};
@@ -87,6 +88,7 @@ where
         threads,
         rt.alloc(),
         words,
+        &Access::unlocked(rt.alloc()),
         disk_a,
         disk_b,
         salt,

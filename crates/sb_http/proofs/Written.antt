@@ -16,7 +16,7 @@ use Rattle.std.proofs.lemmas.Fmt.{decimal_is_IsNumeral}
 use Rattle.httparse.specs.Ascii.{crlf_bytes, space}
 use Rattle.httparse.specs.Grammar.{IsField, is_token_byte, is_value_byte, print_field, print_version, print_response}
 use Rattle.sb_http.specs.declared.response.Status.{Status}
-use Rattle.sb_http.specs.declared.response.Status.TheVariants.{Ok as Fine, Created, NoContent, BadRequest, Forbidden, NotFound, MethodNotAllowed, Conflict, Gone, PayloadTooLarge, HeaderFieldsTooLarge, InternalServerError, ServiceUnavailable}
+use Rattle.sb_http.specs.declared.response.Status.TheVariants.{Ok as Fine, Created, NoContent, BadRequest, Unauthorized, Forbidden, NotFound, MethodNotAllowed, Conflict, Gone, PayloadTooLarge, HeaderFieldsTooLarge, InternalServerError, ServiceUnavailable}
 use Rattle.sb_http.specs.Fields.{Field}
 use Rattle.sb_http.specs.Responses.{code_of, phrase_of, ResponseMessage, has_no_length, length_fields, end_fields, all_fields, field_line, status_line, response_bytes, line_of, response_head, IsWritable, ResponsesAreRead}
 
@@ -33,6 +33,7 @@ sound Fine = record { three = refl; digits = refl; phrase = refl }
 sound Created = record { three = refl; digits = refl; phrase = refl }
 sound NoContent = record { three = refl; digits = refl; phrase = refl }
 sound BadRequest = record { three = refl; digits = refl; phrase = refl }
+sound Unauthorized = record { three = refl; digits = refl; phrase = refl }
 sound Forbidden = record { three = refl; digits = refl; phrase = refl }
 sound NotFound = record { three = refl; digits = refl; phrase = refl }
 sound MethodNotAllowed = record { three = refl; digits = refl; phrase = refl }

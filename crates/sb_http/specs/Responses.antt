@@ -5,7 +5,7 @@ use Rattle.std.specs.Fmt.{decimal}
 use Rattle.httparse.specs.Ascii.{crlf_bytes, space}
 use Rattle.httparse.specs.Grammar.{ResponseHead, Field as FieldLine, crlf, IsToken, AllPass, is_value_byte, ReadsResponse}
 use Rattle.sb_http.specs.declared.response.Status.{Status}
-use Rattle.sb_http.specs.declared.response.Status.TheVariants.{Ok as Fine, Created, NoContent, BadRequest, Forbidden, NotFound, MethodNotAllowed, Conflict, Gone, PayloadTooLarge, HeaderFieldsTooLarge, InternalServerError, ServiceUnavailable}
+use Rattle.sb_http.specs.declared.response.Status.TheVariants.{Ok as Fine, Created, NoContent, BadRequest, Unauthorized, Forbidden, NotFound, MethodNotAllowed, Conflict, Gone, PayloadTooLarge, HeaderFieldsTooLarge, InternalServerError, ServiceUnavailable}
 use Rattle.sb_http.specs.declared.response.Header.{Header}
 use Rattle.sb_http.specs.declared.response.Response.{Response}
 use Rattle.sb_http.specs.Fields.{Field}
@@ -16,6 +16,7 @@ code_of Fine = 200
 code_of Created = 201
 code_of NoContent = 204
 code_of BadRequest = 400
+code_of Unauthorized = 401
 code_of Forbidden = 403
 code_of NotFound = 404
 code_of MethodNotAllowed = 405
@@ -32,6 +33,7 @@ phrase_of Fine = codes "OK"
 phrase_of Created = codes "Created"
 phrase_of NoContent = codes "No Content"
 phrase_of BadRequest = codes "Bad Request"
+phrase_of Unauthorized = codes "Unauthorized"
 phrase_of Forbidden = codes "Forbidden"
 phrase_of NotFound = codes "Not Found"
 phrase_of MethodNotAllowed = codes "Method Not Allowed"

@@ -1,4 +1,5 @@
 pub mod Causes
+pub mod Clocks
 pub mod Doors
 pub mod Held
 pub mod Images

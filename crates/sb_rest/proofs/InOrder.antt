@@ -28,10 +28,11 @@ use Rattle.sb_routes.specs.declared.routes.Route.{Route}
 use Rattle.sb_routes.specs.declared.routes.Route.TheVariants as route
 use Rattle.sb_routes.specs.Paths.{as_text, path_of, query_of}
 use Rattle.sb_routes.specs.Routes.{route_of}
+use Rattle.sb_rest.specs.declared.access.Access.{Access}
 use Rattle.sb_rest.specs.declared.asked.Asked.{Asked}
 use Rattle.sb_rest.specs.declared.asked.Asked.TheVariants as asked
 use Rattle.sb_rest.specs.declared.call.RestFault.{RestFault}
-use Rattle.sb_rest.specs.declared.call.RestFault.TheVariants.{Foreign, BadMethod, Script}
+use Rattle.sb_rest.specs.declared.call.RestFault.TheVariants.{Foreign, NoKey, BadMethod, Script}
 use Rattle.sb_rest.specs.declared.call.Wanted.{Wanted}
 use Rattle.sb_rest.specs.declared.draft.Broker.{Broker}
 use Rattle.sb_rest.specs.declared.draft.Draft.{Draft}
@@ -39,7 +40,7 @@ use Rattle.sb_rest.specs.Brokers as brokers
 use Rattle.sb_rest.specs.Batches as batches
 use Rattle.sb_rest.specs.Headers as headers
 use Rattle.sb_rest.specs.Calls as calls
-use Rattle.sb_rest.specs.Foreign.{is_foreign}
+use Rattle.sb_rest.specs.Callers.{is_foreign, has_key}
 use Rattle.sb_rest.specs.Lifetimes.{lifetime_in}
 use Rattle.sb_rest.specs.Reserved.{is_reserved}
 use Rattle.sb_rest.specs.Values.{header_value}
@@ -212,10 +213,11 @@ route_holds (Some (route.Head a)) m = asked_holds (route.Head a) (calls.at_head 
 route_holds (Some (route.Locked a)) m = asked_holds (route.Locked a) (calls.at_locked a m.head.method) m
 route_holds (Some route.Script) m = script_holds (bytes_eq m.head.method (codes "POST"))
 
-calls_hold : (b : Bool) (m : RequestMessage) → AreInOrder (if b then Err Foreign else calls.on_route (route_of (path_of m.head.target)) m)
-calls_hold true m = tt
-calls_hold false m = route_holds (route_of (path_of m.head.target)) m
+calls_hold : (foreign keyed : Bool) (m : RequestMessage) → AreInOrder (if foreign then Err Foreign else (if keyed then calls.routed m else Err NoKey))
+calls_hold true keyed m = tt
+calls_hold false true m = route_holds (route_of (path_of m.head.target)) m
+calls_hold false false m = tt
 
-pub answered_in_order : (m : RequestMessage) (r : Result Wanted RestFault) → calls.Answers r (calls.call_of m) → AreInOrder r
-answered_in_order m (Ok w) said = subst AreInOrder said (calls_hold (is_foreign m.head.fields) m)
-answered_in_order m (Err fault) said = tt
+pub answered_in_order : (access : Access) (m : RequestMessage) (r : Result Wanted RestFault) → calls.Answers r (calls.call_of access m) → AreInOrder r
+answered_in_order access m (Ok w) said = subst AreInOrder said (calls_hold (is_foreign access m.head.fields) (has_key access m.head.fields) m)
+answered_in_order access m (Err fault) said = tt

@@ -1,5 +1,6 @@
 mod Escaping
 mod InOrder
+mod Keys
 mod Methods
 mod Plain
 mod Whole

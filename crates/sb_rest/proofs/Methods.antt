@@ -1,5 +1,5 @@
--- The methods of a route are those that it takes, and a page of another origin makes no call.
-use Rattle.std.proofs.Common.{◌≡◌, ℕ, Bool, true, false, ◌||◌, List, refl, ap}
+-- The methods of a route are those that it takes, and neither a page of another origin nor who doesn't show the key makes a call.
+use Rattle.std.proofs.Common.{◌≡◌, ℕ, Bool, true, false, ◌||◌, List, refl, ap, ◌∙◌}
 use Rattle.std.specs.Prelude.{codes, bytes_eq, is_some, Some, None, Err, if◌then◌else◌}
 use Rattle.std.specs.List.{list_any}
 use Rattle.sb_machine.specs.declared.call.Mode.TheVariants.{Lock, Delete}
@@ -8,10 +8,9 @@ use Rattle.sb_routes.specs.declared.routes.Route.{Route}
 use Rattle.sb_routes.specs.declared.routes.Route.TheVariants as route
 use Rattle.sb_rest.specs.declared.asked.Asked.{Asked}
 use Rattle.sb_rest.specs.declared.asked.Asked.TheVariants as asked
-use Rattle.sb_routes.specs.Paths.{path_of}
-use Rattle.sb_routes.specs.Routes.{route_of}
-use Rattle.sb_rest.specs.declared.call.RestFault.TheVariants.{Foreign}
-use Rattle.sb_rest.specs.Calls.{methods_of, takes, on_route, NoneIsForeign}
+use Rattle.sb_rest.specs.declared.call.RestFault.TheVariants.{Foreign, NoKey}
+use Rattle.sb_rest.specs.Calls.{methods_of, takes, routed, NoneIsForeign, NoneIsKeyless}
+use Rattle.sb_rest.specs.Callers.{has_key}
 
 pub all_methods : (r : Route) (method : List ℕ) → takes r method ≡ list_any (bytes_eq method) (methods_of r)
 all_methods route.Messages method = by_post (bytes_eq method (codes "POST")) where
@@ -39,4 +38,7 @@ all_methods route.Script method = by_post (bytes_eq method (codes "POST")) where
 -- ---- who made a request
 
 pub none_foreign : NoneIsForeign
-none_foreign m is = ap (λ (b : Bool). if b then Err Foreign else on_route (route_of (path_of m.head.target)) m) is
+none_foreign access m is = ap (λ (b : Bool). if b then Err Foreign else (if has_key access m.head.fields then routed m else Err NoKey)) is
+
+pub none_keyless : NoneIsKeyless
+none_keyless access m own none = ap (λ (b : Bool). if b then Err Foreign else (if has_key access m.head.fields then routed m else Err NoKey)) own ∙ ap (λ (b : Bool). if b then routed m else Err NoKey) none

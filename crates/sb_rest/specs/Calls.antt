@@ -29,10 +29,11 @@ use Rattle.sb_routes.specs.Routes.{route_of}
 use Rattle.sb_rest.specs.declared.asked.Asked.{Asked}
 use Rattle.sb_rest.specs.declared.asked.Asked.TheVariants as asked
 use Rattle.sb_rest.specs.declared.call.RestFault.{RestFault}
-use Rattle.sb_rest.specs.declared.call.RestFault.TheVariants.{Foreign, NoRoute, BadMethod, Bad, Script, OutOfMemory}
+use Rattle.sb_rest.specs.declared.call.RestFault.TheVariants.{Foreign, NoKey, NoRoute, BadMethod, Bad, Script, OutOfMemory}
 use Rattle.sb_rest.specs.declared.call.Wanted.{Wanted}
+use Rattle.sb_rest.specs.declared.access.Access.{Access}
+use Rattle.sb_rest.specs.Callers.{is_foreign, has_key}
 use Rattle.sb_rest.specs.Batches as batches
-use Rattle.sb_rest.specs.Foreign.{is_foreign}
 use Rattle.sb_rest.specs.Headers.{message_in}
 use Rattle.sb_rest.specs.Repeats.{by_of}
 use Rattle.sb_rest.specs.Timeouts.{timeout_in}
@@ -169,18 +170,27 @@ on_route (Some (route.Head a)) m = on_asked (route.Head a) (at_head a m.head.met
 on_route (Some (route.Locked a)) m = on_asked (route.Locked a) (at_locked a m.head.method) m
 on_route (Some route.Script) m = on_script m.head.method
 
--- the call of a request, or why it is none: first who made it, then its path, then its method, then the first key at fault
-abbrev pub call_of : RequestMessage → Result Wanted RestFault
-call_of m = if is_foreign m.head.fields then Err Foreign else on_route (route_of (path_of m.head.target)) m
+-- by its path, then its method, then the first key at fault
+abbrev pub routed : RequestMessage → Result Wanted RestFault
+routed m = on_route (route_of (path_of m.head.target)) m
+
+-- the call of a request, or why it is none: first who made it
+abbrev pub call_of : Access → RequestMessage → Result Wanted RestFault
+call_of access m = if is_foreign access m.head.fields then Err Foreign else (if has_key access m.head.fields then routed m else Err NoKey)
 
 -- no page of another origin makes a call
 abbrev pub NoneIsForeign : Type 0
-NoneIsForeign = (m : RequestMessage) → is_foreign m.head.fields ≡ true → call_of m ≡ Err Foreign
+NoneIsForeign = (access : Access) (m : RequestMessage) → is_foreign access m.head.fields ≡ true → call_of access m ≡ Err Foreign
+
+-- nor does who doesn't show the key
+abbrev pub NoneIsKeyless : Type 0
+NoneIsKeyless = (access : Access) (m : RequestMessage) → is_foreign access m.head.fields ≡ false → has_key access m.head.fields ≡ false → call_of access m ≡ Err NoKey
 
 -- the result is what is said, or memory was wanting
 abbrev pub Answers : Result Wanted RestFault → Result Wanted RestFault → Type 0
 Answers (Ok w) said = said ≡ Ok w
 Answers (Err Foreign) said = said ≡ Err Foreign
+Answers (Err NoKey) said = said ≡ Err NoKey
 Answers (Err NoRoute) said = said ≡ Err NoRoute
 Answers (Err (BadMethod r)) said = said ≡ Err (BadMethod r)
 Answers (Err (Bad key)) said = said ≡ Err (Bad key)

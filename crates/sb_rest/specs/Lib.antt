@@ -3,11 +3,11 @@ pub mod Values
 pub mod Lifetimes
 pub mod Brokers
 pub mod Reserved
+pub mod Callers
 pub mod Headers
 pub mod Batches
 pub mod Lines
 pub mod Repeats
-pub mod Foreign
 pub mod Calls
 pub mod Moments
 pub mod Escapes

@@ -21,7 +21,7 @@ use Rattle.sb_lines.specs.Refusals.{plain, refusal_data}
 use Rattle.sb_lines.specs.Shown.{message_text}
 use Rattle.sb_routes.specs.declared.routes.Route.{Route}
 use Rattle.sb_rest.specs.declared.call.RestFault.{RestFault}
-use Rattle.sb_rest.specs.declared.call.RestFault.TheVariants.{Foreign, NoRoute, BadMethod, Bad, Script, OutOfMemory}
+use Rattle.sb_rest.specs.declared.call.RestFault.TheVariants.{Foreign, NoKey, NoRoute, BadMethod, Bad, Script, OutOfMemory}
 use Rattle.sb_rest.specs.Calls.{methods_of}
 use Rattle.sb_rest.specs.Forms.{json_fields, unasked, fits_head}
 use Rattle.sb_rest.specs.Moments.{IsTime, IsUntil}
@@ -77,9 +77,14 @@ listed (word ∷ words) = word ++ and_later words
 abbrev pub method_response : Route → ResponseMessage
 method_response r = record { status = status.MethodNotAllowed; fields = (codes "Allow", listed (methods_of r)) ∷ []; body = []; ends = false }
 
+-- no key was shown, with how to show it (RFC 9110, 11.6.1; RFC 6750, 3)
+abbrev pub key_response : ResponseMessage
+key_response = record { status = status.Unauthorized; fields = (codes "WWW-Authenticate", codes "Bearer") ∷ []; body = []; ends = false }
+
 -- where a request is no call; a script line is answered by its reply
 abbrev pub fault_response : RestFault → ResponseMessage
 fault_response Foreign = bare status.Forbidden
+fault_response NoKey = key_response
 fault_response NoRoute = bare status.NotFound
 fault_response (BadMethod r) = method_response r
 fault_response (Bad key) = refusal_response (refusal.BadCall key)

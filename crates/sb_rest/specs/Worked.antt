@@ -10,6 +10,7 @@ use Rattle.sb_machine.specs.declared.reply.Showing.TheVariants.{Locked}
 use Rattle.sb_model.specs.declared.message.Message.{Message}
 use Rattle.sb_http.specs.Fields.{Field}
 use Rattle.sb_http.specs.Messages.{RequestMessage}
+use Rattle.sb_rest.specs.declared.access.Access.{Access}
 use Rattle.sb_rest.specs.declared.call.RestFault.{RestFault}
 use Rattle.sb_rest.specs.declared.call.Wanted.{Wanted}
 use Rattle.sb_rest.specs.declared.draft.Broker.{Broker}
@@ -48,6 +49,24 @@ takes timeout = Ok (in_time None (Receive q Lock None) timeout)
 -- the same as call 7 of c
 abbrev pub takes_as : ℕ → Result Wanted RestFault
 takes_as timeout = Ok (in_time (Some (record { client = codes "c"; number = 7 })) (Receive q Lock None) timeout)
+
+-- ---- who may call
+
+-- all, but for web pages
+abbrev pub unlocked : Access
+unlocked = record { hosts = []; key = None }
+
+-- who names this host
+abbrev pub hosted : Access
+hosted = record { hosts = codes "bus" ∷ []; key = None }
+
+-- who shows this key
+abbrev pub keyed : Access
+keyed = record { hosts = []; key = Some (codes "a-key-of-20-letters.") }
+
+-- so the key is shown
+abbrev pub showing : List ℕ → Field
+showing value = (codes "Authorization", value)
 
 -- ---- a response
 

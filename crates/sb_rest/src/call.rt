@@ -7,10 +7,10 @@ ghost use Rattle.sb_lines.specs.Faults.{Answers};
 ghost use Rattle.sb_routes.specs.Paths.{path_of, query_of};
 ghost use Rattle.sb_rest.specs.Calls as calls;
 
+use crate::access::{Access, has_key, is_foreign};
 use crate::act::{renewed, settled, taken};
 use crate::asked::{Asked, at_head, at_locked, if_post, is};
 use crate::batch::{is_batch, messages_in as batch_in};
-use crate::foreign::is_foreign;
 use crate::header::message_in;
 use crate::path::name_in;
 use crate::repeat::by_in;
@@ -26,8 +26,10 @@ use std::alloc::Global;
 /// Why a request is no call.
 #[derive(Drop)]
 pub enum RestFault {
-    /// A web page of another origin made the request.
+    /// A web page of another origin made the request, or it names a host that isn't known.
     Foreign,
+    /// The request doesn't show the key that is asked for.
+    NoKey,
     /// There is no such path.
     NoRoute,
     /// The path of this route isn't used with this method.
@@ -260,12 +262,9 @@ fn on_route(
     on_asked(alloc, route, asked, path, query, request)
 }
 
-fn wanted_of(alloc: Global, routes: &Routes, request: &Request) -> Result<Wanted, RestFault>
-    ensures { calls.Answers result (calls.call_of (said_by request.now)) }
+fn routed(alloc: Global, routes: &Routes, request: &Request) -> Result<Wanted, RestFault>
+    ensures { calls.Answers result (calls.routed (said_by request.now)) }
 {
-    if is_foreign(request.text, request.lines) {
-        return Err(RestFault::Foreign);
-    }
     let (path, query) = cut(request.target, b'?');
     let Ok(route) = routes.of(alloc, path) else {
         return Err(RestFault::OutOfMemory);
@@ -276,14 +275,35 @@ fn wanted_of(alloc: Global, routes: &Routes, request: &Request) -> Result<Wanted
     on_route(alloc, route, path, query, request)
 }
 
-/// The call of a request, or why it is none: first that a page of another origin made it, then that
-/// there is no such path, then that its method
-/// isn't one of it, then the first key at fault, by its place: the path (`path`, `token`), the query
-/// (`timeout`), the number of the call (`Repeat-Client`, `Repeat-Number`), the headers as they stand,
-/// the body.
-pub fn call_of(alloc: Global, routes: &Routes, request: &Request) -> Result<Wanted, RestFault>
-    ensures call { calls.Answers result (calls.call_of (said_by request.now)) }
+fn wanted_of(
+    alloc: Global,
+    routes: &Routes,
+    access: &Access,
+    request: &Request,
+) -> Result<Wanted, RestFault>
+    ensures { calls.Answers result (calls.call_of access.now (said_by request.now)) }
+{
+    if is_foreign(access, request.text, request.lines) {
+        return Err(RestFault::Foreign);
+    }
+    if !has_key(access, request.text, request.lines) {
+        return Err(RestFault::NoKey);
+    }
+    routed(alloc, routes, request)
+}
+
+/// The call of a request, or why it is none: first that a page of another origin made it, then that it
+/// doesn't show the key, then that there is no such path, then that its method isn't one of it, then
+/// the first key at fault, by its place: the path (`path`, `token`), the query (`timeout`), the number
+/// of the call (`Repeat-Client`, `Repeat-Number`), the headers as they stand, the body.
+pub fn call_of(
+    alloc: Global,
+    routes: &Routes,
+    access: &Access,
+    request: &Request,
+) -> Result<Wanted, RestFault>
+    ensures call { calls.Answers result (calls.call_of access.now (said_by request.now)) }
     ensures in_order { IfOk result (λ wanted. IsActInOrder wanted.call.act) }
 {
-    wanted_of(alloc, routes, request)
+    wanted_of(alloc, routes, access, request)
 }

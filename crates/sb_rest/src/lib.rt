@@ -2,15 +2,15 @@
 //! interface of Service Bus has them (Microsoft Learn, Service Bus REST API reference, "Service Bus
 //! runtime REST").
 //!
-//! `specs/Calls` says which request asks for which call and, where it asks for none, why: no route,
-//! another method, or the first key at fault, by its place in path, query, headers and body. `call_of`
-//! gives exactly that, or want of memory. `specs/Responses` says which response a call gets that is
+//! `specs/Calls` says which request asks for which call and, where it asks for none, why: who made it
+//! (`specs/Callers`), no route, another method, or the first key at fault, by its place in path, query,
+//! headers and body. `call_of` gives exactly that, or want of memory. `specs/Responses` says which response a call gets that is
 //! answered so; `response_of` gives that. It takes the route from `sb_routes`, the request from
 //! `sb_http`, and what script lines spell alike (tokens, system texts, times to live, properties,
 //! refusals) from `sb_lines`. `docs/REST.md` has each call with its answers.
 //!
 //! ```rust
-//! let response = match call_of(alloc, &routes, &request) {
+//! let response = match call_of(alloc, &routes, &access, &request) {
 //!     Ok(wanted) => {
 //!         let asker = Asker { host: host_of(&request), json: wants_json(&request) };
 //!         response_of(alloc, &wanted.call, answer, asker)?
@@ -21,6 +21,7 @@
 //! ```
 #![tactic(auto)]
 
+mod access;
 mod act;
 mod asked;
 mod batch;
@@ -29,7 +30,6 @@ mod call;
 mod draft;
 mod escape;
 mod field;
-mod foreign;
 mod form;
 mod header;
 mod laws;
@@ -45,8 +45,11 @@ mod timeout;
 mod value;
 mod worked;
 
+pub use access::Access;
 pub use call::{RestFault, Wanted, call_of};
 pub use form::wants_json;
-pub use laws::{escaped_is_ascii, foreign_is_no_call, methods_are_told};
+pub use laws::{escaped_is_ascii, foreign_is_no_call, keyless_is_no_call, methods_are_told};
 pub use response::{Asker, fault_response, host_of, line_response, response_of};
-pub use worked::{worked_calls, worked_forms, worked_parts, worked_responses};
+pub use worked::{
+    worked_callers, worked_calls, worked_forms, worked_parts, worked_responses,
+};

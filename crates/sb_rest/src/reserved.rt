@@ -32,7 +32,8 @@ pub(crate) fn front(bytes: &[u8], n: usize) -> &[u8]
     if n <= bytes.len() { &bytes[..n] } else { bytes }
 }
 
-fn begins(front_word: &[u8], name: &[u8]) -> bool
+/// Whether a name begins with this word, in any case.
+pub(crate) fn begins(front_word: &[u8], name: &[u8]) -> bool
     ensures { result ≡ reserved.begins front_word.now name.now }
 {
     is_word(front_word, front(name, front_word.len()))

@@ -124,6 +124,19 @@ fn method_response(alloc: Global, route: Route) -> Result<Response, AllocError>
     })
 }
 
+fn key_response(alloc: Global) -> Result<Response, AllocError>
+    ensures { IfOk result (λ r. said_in r ≡ responses.key_response) }
+{
+    let mut headers = Vec::new(alloc);
+    push_field(alloc, &mut headers, b"WWW-Authenticate", b"Bearer")?;
+    Ok(Response {
+        status: Status::Unauthorized,
+        headers,
+        body: Vec::new(alloc),
+        closes: false,
+    })
+}
+
 /// The response to a request that is no call. A script line is answered by the line of its reply, so
 /// `Script` has none of its own.
 pub fn fault_response(alloc: Global, fault: RestFault) -> Result<Response, AllocError>
@@ -131,6 +144,7 @@ pub fn fault_response(alloc: Global, fault: RestFault) -> Result<Response, Alloc
 {
     match fault {
         RestFault::Foreign => Ok(bare(alloc, Status::Forbidden)),
+        RestFault::NoKey => key_response(alloc),
         RestFault::NoRoute => Ok(bare(alloc, Status::NotFound)),
         RestFault::BadMethod { route } => method_response(alloc, route),
         RestFault::Bad { key } => refusal_response(alloc, &Refusal::BadCall { key }),

@@ -8,36 +8,64 @@ ghost use Rattle.sb_lines.specs.Shown.{message_text};
 ghost use Rattle.sb_machine.specs.declared.call.Part.TheVariants.{Main};
 ghost use Rattle.sb_routes.specs.declared.routes.Address.TheVariants.{Entity};
 ghost use Rattle.sb_routes.specs.declared.routes.Route.TheVariants.{Messages, Locked};
-ghost use Rattle.sb_rest.specs.declared.call.RestFault.TheVariants.{Foreign, NoRoute, BadMethod, Bad, Script};
+ghost use Rattle.sb_rest.specs.declared.call.RestFault.TheVariants.{Foreign, NoKey, NoRoute, BadMethod, Bad, Script};
 ghost use Rattle.sb_rest.specs.Batches as batches;
 ghost use Rattle.sb_rest.specs.Brokers.{broker_in};
 ghost use Rattle.sb_rest.specs.Calls.{call_of};
+ghost use Rattle.sb_rest.specs.Callers.{is_foreign, has_key, is_known, shows};
 ghost use Rattle.sb_rest.specs.Escapes.{ascii_json};
 ghost use Rattle.sb_rest.specs.Forms.{fits_head, is_json_asked, lists_json, unasked};
 ghost use Rattle.sb_rest.specs.Lifetimes.{span_in};
 ghost use Rattle.sb_rest.specs.Values.{header_value};
 ghost use Rattle.sb_rest.specs.Repeats as repeats;
-ghost use Rattle.sb_rest.specs.Responses.{refusal_text, method_response};
+ghost use Rattle.sb_rest.specs.Responses.{refusal_text, method_response, key_response};
 ghost use Rattle.sb_rest.specs.Shown.{broker_text, location_text, property_fields};
-ghost use Rattle.sb_rest.specs.Worked.{request, sends, takes, takes_as, living, text_alone, q, first_token, first_copy, with_umlaut, smile};
+ghost use Rattle.sb_rest.specs.Worked.{request, sends, takes, takes_as, living, text_alone, q, unlocked, hosted, keyed, showing, first_token, first_copy, with_umlaut, smile};
 
 /// The definitions say of these requests what was worked out by hand.
 pub fn worked_calls()
-    ensures send { call_of (request (codes "POST") (codes "/Q/messages") ((codes "Content-Length", codes "2") ∷ []) (codes "hi")) ≡ sends (text_alone (codes "hi") ∷ []) }
-    ensures origin { call_of (request (codes "POST") (codes "/$script") ((codes "Origin", codes "null") ∷ []) []) ≡ Err Foreign }
-    ensures another_site { call_of (request (codes "DELETE") (codes "/x/y/z") ((codes "sec-fetch-site", codes "cross-site") ∷ []) []) ≡ Err Foreign }
-    ensures own_site { call_of (request (codes "POST") (codes "/$script") ((codes "Sec-Fetch-Site", codes "same-origin") ∷ (codes "Sec-Fetch-Site", codes "none") ∷ []) []) ≡ Err Script }
-    ensures no_property { call_of (request (codes "POST") (codes "/q/messages") ((codes "X-Forwarded-For", codes "1") ∷ (codes "Sec-Fetch-Mode", codes "cors") ∷ (codes "Proxy-Authorization", codes "b") ∷ (codes "DNT", codes "1") ∷ []) (codes "hi")) ≡ sends (text_alone (codes "hi") ∷ []) }
-    ensures receive { call_of (request (codes "POST") (codes "/q/messages/head?timeout=0") [] []) ≡ takes 0 }
-    ensures waits { call_of (request (codes "POST") (codes "/q/messages/head?a=b&timeout=%31&timeout=x") [] []) ≡ takes 1 }
-    ensures numbered { call_of (request (codes "POST") (codes "/q/messages/head?timeout=0") ((codes "repeat-client", codes "c") ∷ (codes "Repeat-Number", codes "007") ∷ []) []) ≡ takes_as 0 }
-    ensures client_alone { call_of (request (codes "POST") (codes "/q/messages/head") ((codes "Repeat-Client", codes "c") ∷ []) []) ≡ Err (Bad (codes "Repeat-Client")) }
-    ensures number_alone { call_of (request (codes "POST") (codes "/q/messages/head") ((codes "Repeat-Number", codes "1") ∷ []) []) ≡ Err (Bad (codes "Repeat-Number")) }
-    ensures too_long { call_of (request (codes "POST") (codes "/q/messages/head?timeout=3601") [] []) ≡ Err (Bad (codes "timeout")) }
-    ensures method { call_of (request (codes "DELETE") (codes "/q/messages") [] []) ≡ Err (BadMethod Messages) }
-    ensures plain_script { call_of (request (codes "POST") (codes "/script") [] []) ≡ Err Script }
-    ensures route { call_of (request (codes "GET") (codes "/x/y/z") [] []) ≡ Err NoRoute }
-    ensures script { call_of (request (codes "POST") (codes "/$script") [] []) ≡ Err Script }
+    ensures send { call_of unlocked (request (codes "POST") (codes "/Q/messages") ((codes "Content-Length", codes "2") ∷ []) (codes "hi")) ≡ sends (text_alone (codes "hi") ∷ []) }
+    ensures origin { call_of unlocked (request (codes "POST") (codes "/$script") ((codes "Origin", codes "null") ∷ []) []) ≡ Err Foreign }
+    ensures another_site { call_of unlocked (request (codes "DELETE") (codes "/x/y/z") ((codes "sec-fetch-site", codes "cross-site") ∷ []) []) ≡ Err Foreign }
+    ensures own_site { call_of unlocked (request (codes "POST") (codes "/$script") ((codes "Sec-Fetch-Site", codes "same-origin") ∷ (codes "Sec-Fetch-Site", codes "none") ∷ []) []) ≡ Err Script }
+    ensures no_property { call_of unlocked (request (codes "POST") (codes "/q/messages") ((codes "X-Forwarded-For", codes "1") ∷ (codes "Sec-Fetch-Mode", codes "cors") ∷ (codes "Proxy-Authorization", codes "b") ∷ (codes "DNT", codes "1") ∷ []) (codes "hi")) ≡ sends (text_alone (codes "hi") ∷ []) }
+    ensures receive { call_of unlocked (request (codes "POST") (codes "/q/messages/head?timeout=0") [] []) ≡ takes 0 }
+    ensures waits { call_of unlocked (request (codes "POST") (codes "/q/messages/head?a=b&timeout=%31&timeout=x") [] []) ≡ takes 1 }
+    ensures numbered { call_of unlocked (request (codes "POST") (codes "/q/messages/head?timeout=0") ((codes "repeat-client", codes "c") ∷ (codes "Repeat-Number", codes "007") ∷ []) []) ≡ takes_as 0 }
+    ensures client_alone { call_of unlocked (request (codes "POST") (codes "/q/messages/head") ((codes "Repeat-Client", codes "c") ∷ []) []) ≡ Err (Bad (codes "Repeat-Client")) }
+    ensures number_alone { call_of unlocked (request (codes "POST") (codes "/q/messages/head") ((codes "Repeat-Number", codes "1") ∷ []) []) ≡ Err (Bad (codes "Repeat-Number")) }
+    ensures too_long { call_of unlocked (request (codes "POST") (codes "/q/messages/head?timeout=3601") [] []) ≡ Err (Bad (codes "timeout")) }
+    ensures method { call_of unlocked (request (codes "DELETE") (codes "/q/messages") [] []) ≡ Err (BadMethod Messages) }
+    ensures plain_script { call_of unlocked (request (codes "POST") (codes "/script") [] []) ≡ Err Script }
+    ensures route { call_of unlocked (request (codes "GET") (codes "/x/y/z") [] []) ≡ Err NoRoute }
+    ensures script { call_of unlocked (request (codes "POST") (codes "/$script") [] []) ≡ Err Script }
+{}
+
+/// The same of who may call: whom a page can't pass for, and what shows a key.
+pub fn worked_callers()
+    ensures page { is_foreign unlocked ((codes "Origin", codes "null") ∷ []) ≡ true }
+    ensures any_host { is_foreign unlocked ((codes "Host", codes "attacker.example") ∷ []) ≡ false }
+    ensures other_host { is_foreign hosted ((codes "host", codes "attacker.example") ∷ []) ≡ true }
+    ensures listed { is_foreign hosted ((codes "Host", codes "BUS:8080") ∷ []) ≡ false }
+    ensures longer { is_known [] (codes "localhost.example.org") ≡ false }
+    ensures folded { is_known [] (codes "LOCALHOST:8080") ≡ true }
+    ensures address { is_known [] (codes "127.0.0.1:80") ≡ true }
+    ensures brackets { is_known [] (codes "[::1]:8080") ≡ true }
+    ensures no_brackets { is_known [] (codes "::1") ≡ false }
+    ensures no_port { is_known [] (codes "localhost:80.example") ≡ false }
+    ensures shown { has_key keyed (showing (codes "bearer a-key-of-20-letters.") ∷ []) ≡ true }
+    ensures none_asked { has_key unlocked [] ≡ true }
+    ensures none_shown { has_key keyed [] ≡ false }
+    ensures last_off { has_key keyed (showing (codes "Bearer a-key-of-20-letters,") ∷ []) ≡ false }
+    ensures front { has_key keyed (showing (codes "Bearer a-key-of-20-letters") ∷ []) ≡ false }
+    ensures more { has_key keyed (showing (codes "Bearer a-key-of-20-letters..") ∷ []) ≡ false }
+    ensures twice { has_key keyed (showing (codes "Bearer a-key-of-20-letters.") ∷ showing (codes "Bearer a-key-of-20-letters.") ∷ []) ≡ false }
+    ensures scheme { has_key keyed (showing (codes "Basic a-key-of-20-letters.") ∷ []) ≡ false }
+    ensures two_spaces { shows (codes "k") (codes "Bearer  k") ≡ false }
+    ensures called { call_of keyed (request (codes "POST") (codes "/$script") (showing (codes "BEARER a-key-of-20-letters.") ∷ []) []) ≡ Err Script }
+    ensures not_called { call_of keyed (request (codes "GET") (codes "/x") [] []) ≡ Err NoKey }
+    ensures foreign_first { call_of keyed (request (codes "GET") (codes "/x") ((codes "Origin", codes "null") ∷ []) []) ≡ Err Foreign }
+    ensures unknown_host { call_of hosted (request (codes "POST") (codes "/$script") [] []) ≡ Err Foreign }
 {}
 
 /// The same of headers and batches.
@@ -76,6 +104,7 @@ pub fn worked_responses()
     ensures refused { refusal_text (BadCall (codes "TimeToLive")) ≡ codes "{\"key\":\"TimeToLive\",\"refused\":\"BadCall\"}" }
     ensures stopped { refusal_text (Stopped 1) ≡ codes "{\"refused\":\"Stopped\"}" }
     ensures property { property_fields (record { name = codes "a"; value = Text (codes "x") }) ≡ (codes "a", codes "\"x\"") ∷ [] }
+    ensures key { key_response.fields ≡ (codes "WWW-Authenticate", codes "Bearer") ∷ [] }
     ensures allow { (method_response (Locked (Entity Main))).fields ≡ (codes "Allow", codes "DELETE, POST, PUT") ∷ [] }
     ensures umlaut { ascii_json with_umlaut ≡ codes "f\\u00fcr" }
     ensures pair { ascii_json smile ≡ codes "\\ud83d\\ude00" }

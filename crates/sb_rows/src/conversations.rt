@@ -14,7 +14,8 @@ use sb_model::Text;
 use sb_node::Node;
 use sb_outside::MemDisk;
 use sb_rest::{
-    Asker, RestFault, call_of, fault_response, host_of, line_response, response_of, wants_json,
+    Access, Asker, RestFault, call_of, fault_response, host_of, line_response, response_of,
+    wants_json,
 };
 use sb_routes::Routes;
 use std::alloc::{AllocError, Global};
@@ -168,7 +169,7 @@ fn response_to(
     request: &Request,
     moment: u64,
 ) -> Result<Response, AllocError> {
-    match call_of(alloc, routes, request) {
+    match call_of(alloc, routes, &Access::unlocked(alloc), request) {
         Ok(wanted) => {
             let asker = Asker {
                 host: host_of(request),

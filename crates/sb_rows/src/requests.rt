@@ -5,7 +5,7 @@ use anyhow::{Context, Result, bail};
 use sb_http::{Incoming, Request};
 use sb_lines::read_line;
 use sb_repeats::is_same_act;
-use sb_rest::{RestFault, Wanted, call_of};
+use sb_rest::{Access, RestFault, Wanted, call_of};
 use sb_routes::Routes;
 use std::alloc::{AllocError, Global};
 
@@ -55,10 +55,11 @@ fn came(
     request: &Request,
     wanted: &str,
 ) -> Result<String, AllocError> {
-    match call_of(alloc, routes, request) {
+    match call_of(alloc, routes, &Access::unlocked(alloc), request) {
         Ok(found) if is_call(alloc, &found, wanted) => String::from_str(alloc, wanted),
         Ok(found) => format!(in alloc; "another call, with {} s", found.timeout),
         Err(RestFault::Foreign) => String::from_str(alloc, "403"),
+        Err(RestFault::NoKey) => String::from_str(alloc, "401"),
         Err(RestFault::NoRoute) => String::from_str(alloc, "404"),
         Err(RestFault::BadMethod { .. }) => String::from_str(alloc, "405"),
         Err(RestFault::Script) => String::from_str(alloc, "script"),

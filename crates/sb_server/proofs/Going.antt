@@ -6,8 +6,9 @@ use Rattle.sb_machine.specs.declared.reply.Answered.{Answered}
 use Rattle.sb_machine.specs.declared.reply.Refusal.{Refusal}
 use Rattle.sb_desk.specs.Desks.{Sitting}
 use Rattle.sb_desk.specs.Entries.{made_by, entries_by}
+use Rattle.sb_desk.specs.Lists.{Each}
 use Rattle.sb_desk.proofs.Logs.{by_append}
-use Rattle.sb_server.specs.Waiting.{GoesBy, GoesByCall, is_empty, Round, round_made, rounds_made, AreEmpty, first_reading, Waits, Waiting}
+use Rattle.sb_server.specs.Waiting.{GoesBy, GoesByCall, is_empty, Round, round_made, rounds_made, AreEmpty, first_reading, AreRead, Waits, Waiting}
 
 pub goes_by_none : (p : Sitting) → GoesBy p [] p
 goes_by_none p = ([], ap (λ (l : List Entry). record p { seen = l }) (sym (append-nil p.seen)), refl)
@@ -24,8 +25,8 @@ pub same_seat : (old new : Sitting) (made : List Entry) → GoesBy old made new 
 same_seat old new made x = ap (λ (s : Sitting). s.seat) x.1
 
 -- its first call
-pub waiting_first : (old new : Sitting) (call : Call) (limit first : ℕ) (answer : Result Answered Refusal) → GoesByCall old first call answer new → Waiting old call limit first first answer new
-waiting_first old new call limit first answer g = record {
+pub waiting_first : (IsReading : ℕ → Type 0) (old new : Sitting) (call : Call) (limit first : ℕ) (answer : Result Answered Refusal) → GoesByCall old first call answer new → IsReading first → Waiting IsReading old call limit first first answer new
+waiting_first IsReading old new call limit first answer g here = record {
   before = [];
   last = record { tick = g.0; reading = first; answer = answer };
   goes = g.1;
@@ -33,6 +34,7 @@ waiting_first old new call limit first answer g = record {
   answer_is = refl;
   reading_is = refl;
   first_is = refl;
+  read = (here, tt);
 }
 
 rounds_snoc : (seat : ℕ) (call : Call) (rs : List Round) (r : Round) → rounds_made seat call (rs ++ r ∷ []) ≡ rounds_made seat call rs ++ round_made seat call r
@@ -47,11 +49,15 @@ first_snoc : (rs : List Round) (r q : Round) → first_reading (rs ++ r ∷ []) 
 first_snoc [] r q = refl
 first_snoc (p ∷ rs) r q = refl
 
+read_snoc : (IsReading : ℕ → Type 0) (rs : List Round) (r : Round) → AreRead IsReading rs → IsReading r.reading → AreRead IsReading (rs ++ r ∷ [])
+read_snoc IsReading [] r e here = (here, tt)
+read_snoc IsReading (q ∷ rs) r e here = (e.0, read_snoc IsReading rs r e.1 here)
+
 -- one call more
-pub waiting_next : (pass old new : Sitting) (call : Call) (limit first now reading : ℕ) (before_answer answer : Result Answered Refusal)
-    → Waiting pass call limit first now before_answer old → (is_empty before_answer ≡ true) × (now < first + limit) → GoesByCall old reading call answer new
-    → Waiting pass call limit first reading answer new
-waiting_next pass old new call limit first now reading before_answer answer w e g =
+pub waiting_next : (IsReading : ℕ → Type 0) (pass old new : Sitting) (call : Call) (limit first now reading : ℕ) (before_answer answer : Result Answered Refusal)
+    → Waiting IsReading pass call limit first now before_answer old → (is_empty before_answer ≡ true) × (now < first + limit) → GoesByCall old reading call answer new → IsReading reading
+    → Waiting IsReading pass call limit first reading answer new
+waiting_next IsReading pass old new call limit first now reading before_answer answer w e g here =
     let seat : old.seat ≡ pass.seat = same_seat pass old _ w.goes in
     let mine : GoesBy old (made_by pass.seat g.0 reading call answer) new = subst (λ (k : ℕ). GoesBy old (made_by k g.0 reading call answer) new) seat g.1 in
     let all : GoesBy pass ((rounds_made pass.seat call w.before ++ round_made pass.seat call w.last) ++ made_by pass.seat g.0 reading call answer) new = goes_by_both pass old new _ _ w.goes mine in
@@ -63,12 +69,13 @@ waiting_next pass old new call limit first now reading before_answer answer w e 
       answer_is = refl;
       reading_is = refl;
       first_is = w.first_is ∙ sym (first_snoc w.before w.last _);
+      read = read_snoc IsReading (w.before ++ w.last ∷ []) (record { tick = g.0; reading = reading; answer = answer }) w.read here;
     }
 
-pub waiting_done : (pass new : Sitting) (call : Call) (limit first now : ℕ) (answer : Result Answered Refusal)
-    → Waiting pass call limit first now answer new → (is_empty answer ≡ true → first + limit ≤ now)
-    → (made : List Entry) × GoesBy pass made new × Waits pass.seat call limit made answer
-waiting_done pass new call limit first now answer w over = (
+pub waiting_done : (IsReading : ℕ → Type 0) (pass new : Sitting) (call : Call) (limit first now : ℕ) (answer : Result Answered Refusal)
+    → Waiting IsReading pass call limit first now answer new → (is_empty answer ≡ true → first + limit ≤ now)
+    → (made : List Entry) × GoesBy pass made new × Waits IsReading pass.seat call limit made answer
+waiting_done IsReading pass new call limit first now answer w over = (
   rounds_made pass.seat call w.before ++ round_made pass.seat call w.last,
   w.goes,
   record {
@@ -78,5 +85,6 @@ waiting_done pass new call limit first now answer w over = (
     empty = subst (λ (k : ℕ). AreEmpty (k + limit) w.before) w.first_is w.empty;
     answer_is = w.answer_is;
     until = λ e. subst (λ (k : ℕ). first_reading w.before w.last + limit ≤ k) w.reading_is (subst (λ (k : ℕ). k + limit ≤ now) w.first_is (over e));
+    read = w.read;
   },
 )

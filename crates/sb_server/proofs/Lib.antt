@@ -7,3 +7,4 @@ pub mod Working
 pub mod Words
 pub mod Serving
 pub mod Outcomes
+pub mod Unwelcome

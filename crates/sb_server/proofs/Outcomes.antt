@@ -16,6 +16,7 @@ use Rattle.sb_desk.specs.Entries.{made_by, entries_by, seat_of}
 use Rattle.sb_desk.specs.Lists.{Each}
 use Rattle.sb_outside.specs.Causes.{Rose}
 use Rattle.sb_http.specs.Messages.{RequestMessage}
+use Rattle.sb_rest.specs.declared.access.Access.{Access}
 use Rattle.sb_server.specs.declared.answer.Turn.{Turn}
 use Rattle.sb_server.specs.declared.answer.Turn.TheVariants.{Stops}
 use Rattle.sb_server.specs.declared.ask.Ask.{Ask}
@@ -36,26 +37,26 @@ use Rattle.sb_server.proofs.Going.{goes_by_none, goes_by_both}
 
 -- ---- the entries of a pass
 
-pub ends_go : (s : Start) (h : Here) (e : Ending) → Ends s h e → (made : List Entry) × GoesBy s.pass made h.pass
-ends_go s h Closed (inl t) = (t.made, t.goes)
-ends_go s h Closed (inr t) = (t.0.0.made, t.0.0.goes)
-ends_go s h NodeStopped t = (t.made, t.goes)
-ends_go s h Truncated t = (t.0.0.made, t.0.0.goes)
-ends_go s h LongConnection t = (t.0.0.made, t.0.0.goes)
-ends_go s h ReadFault t = (t.0.0.made, t.0.0.goes)
-ends_go s h BadHead t = (t.talks.made, t.talks.goes)
-ends_go s h HeadTooLarge t = (t.talks.made, t.talks.goes)
-ends_go s h BodyTooLarge t = (t.talks.made, t.talks.goes)
-ends_go s h WriteFault t = (t.0.made, t.0.goes)
-ends_go s h Lost (inl t) = (t.made, t.goes)
-ends_go s h Lost (inr t) = (t.made ++ t.mine, t.goes)
+pub ends_go : (IsReading : ℕ → Type 0) (s : Start) (h : Here) (e : Ending) → Ends IsReading s h e → (made : List Entry) × GoesBy s.pass made h.pass
+ends_go IsReading s h Closed (inl t) = (t.made, t.goes)
+ends_go IsReading s h Closed (inr t) = (t.0.0.made, t.0.0.goes)
+ends_go IsReading s h NodeStopped t = (t.made, t.goes)
+ends_go IsReading s h Truncated t = (t.0.0.made, t.0.0.goes)
+ends_go IsReading s h LongConnection t = (t.0.0.made, t.0.0.goes)
+ends_go IsReading s h ReadFault t = (t.0.0.made, t.0.0.goes)
+ends_go IsReading s h BadHead t = (t.talks.made, t.talks.goes)
+ends_go IsReading s h HeadTooLarge t = (t.talks.made, t.talks.goes)
+ends_go IsReading s h BodyTooLarge t = (t.talks.made, t.talks.goes)
+ends_go IsReading s h WriteFault t = (t.0.made, t.0.goes)
+ends_go IsReading s h Lost (inl t) = (t.made, t.goes)
+ends_go IsReading s h Lost (inr t) = (t.made ++ t.mine, t.goes)
 
 -- a worker's pass goes on by the entries of its connections' calls
-pub worked_goes : {X : Type 0} (there given : X → Option (List ℕ)) (reads writes : X → ℕ) (p q : Sitting) (vs : List (Visit X)) → Worked (ServesBy there given reads writes) p vs q → (made : List Entry) × GoesBy p made q
-worked_goes there given reads writes p q [] w = ([], subst (λ (r : Sitting). GoesBy p [] r) (sym w) (goes_by_none p))
-worked_goes there given reads writes p q (v ∷ vs) w =
-    let one = ends_go _ _ v.ending w.1.1 in
-    let rest = worked_goes there given reads writes w.0 q vs w.2 in
+pub worked_goes : {X : Type 0} (IsReading : ℕ → Type 0) (access : Access) (there given : X → Option (List ℕ)) (reads writes : X → ℕ) (p q : Sitting) (vs : List (Visit X)) → Worked (ServesBy IsReading access there given reads writes) p vs q → (made : List Entry) × GoesBy p made q
+worked_goes IsReading access there given reads writes p q [] w = ([], subst (λ (r : Sitting). GoesBy p [] r) (sym w) (goes_by_none p))
+worked_goes IsReading access there given reads writes p q (v ∷ vs) w =
+    let one = ends_go IsReading _ _ v.ending w.1.1 in
+    let rest = worked_goes IsReading access there given reads writes w.0 q vs w.2 in
     (one.0 ++ rest.0, goes_by_both p w.0 q one.0 rest.0 one.1 rest.1)
 
 -- ---- a namespace that acts no more
@@ -86,11 +87,11 @@ made_stops : (seat : ℕ) (tick : Option ℕ) (reading : ℕ) (call : Call) (ans
 made_stops seat (Some t) reading call answer e = or_left (stops answer) false e
 made_stops seat None reading call answer e = or_left (stops answer) false e
 
-one_stops : (seat : ℕ) (call : Call) (made : List Entry) (answer : Result Answered Refusal) → IsOne seat call made answer → stops answer ≡ true → list_any is_stop made ≡ true
-one_stops seat call made answer one e = ap (list_any is_stop) one.2 ∙ made_stops seat one.0 one.1 call answer e
+one_stops : (IsReading : ℕ → Type 0) (seat : ℕ) (call : Call) (made : List Entry) (answer : Result Answered Refusal) → IsOne IsReading seat call made answer → stops answer ≡ true → list_any is_stop made ≡ true
+one_stops IsReading seat call made answer one e = ap (list_any is_stop) one.3 ∙ made_stops seat one.0 one.1 call answer e
 
-waits_stops : (seat : ℕ) (call : Call) (limit : ℕ) (made : List Entry) (answer : Result Answered Refusal) → Waits seat call limit made answer → stops answer ≡ true → list_any is_stop made ≡ true
-waits_stops seat call limit made answer w e =
+waits_stops : (IsReading : ℕ → Type 0) (seat : ℕ) (call : Call) (limit : ℕ) (made : List Entry) (answer : Result Answered Refusal) → Waits IsReading seat call limit made answer → stops answer ≡ true → list_any is_stop made ≡ true
+waits_stops IsReading seat call limit made answer w e =
     ap (list_any is_stop) w.made_is
     ∙ stop_right (rounds_made seat call w.before) (round_made seat call w.last) (made_stops seat w.last.tick w.last.reading call w.last.answer (ap stops (sym w.answer_is) ∙ e))
 
@@ -104,43 +105,43 @@ no_line_goes said (BadCall key) r = refl
 no_line_goes said NoMemory r = refl
 no_line_goes said _ r = absurd r
 
-answer_stops : (seat : ℕ) (m : RequestMessage) (ask : Ask) (closes : Bool) (made : List Entry) (out : List ℕ) → AsksFor m ask → RespondsTo seat ask closes made out Stops → list_any is_stop made ≡ true
-answer_stops seat m (Once w host) closes made out a r = one_stops seat w.call made r.0 r.1 (turn_stops closes (stops r.0) r.3)
-answer_stops seat m (Patient w host limit) closes made out a r = waits_stops seat w.call limit made r.0 r.1 (turn_stops closes (stops r.0) r.3)
-answer_stops seat m (Line line) closes made out a r = one_stops seat line.timed.call made r.0 r.1 (turn_stops closes (stops r.0) r.3)
-answer_stops seat m (BadLine (Ok reply)) closes made out a r = absurd a.1
-answer_stops seat m (BadLine (Err refusal)) closes made out a r =
+answer_stops : (IsReading : ℕ → Type 0) (access : Access) (seat : ℕ) (m : RequestMessage) (ask : Ask) (closes : Bool) (made : List Entry) (out : List ℕ) → AsksFor access m ask → RespondsTo IsReading seat ask closes made out Stops → list_any is_stop made ≡ true
+answer_stops IsReading access seat m (Once w host) closes made out a r = one_stops IsReading seat w.call made r.0 r.1 (turn_stops closes (stops r.0) r.3)
+answer_stops IsReading access seat m (Patient w host limit) closes made out a r = waits_stops IsReading seat w.call limit made r.0 r.1 (turn_stops closes (stops r.0) r.3)
+answer_stops IsReading access seat m (Line line) closes made out a r = one_stops IsReading seat line.timed.call made r.0 r.1 (turn_stops closes (stops r.0) r.3)
+answer_stops IsReading access seat m (BadLine (Ok reply)) closes made out a r = absurd a.1
+answer_stops IsReading access seat m (BadLine (Err refusal)) closes made out a r =
     let goes = no_line_goes (line_in m.body) refusal a.1 in
     let ends = turn_stops closes (stops (Err refusal)) r.2 in
     absurd cc
-answer_stops seat m (NoCall fault) closes made out a r = let ends = turn_stops closes false r.2 in absurd cc
+answer_stops IsReading access seat m (NoCall fault) closes made out a r = let ends = turn_stops closes false r.2 in absurd cc
 
-responds_stop : (seat : ℕ) (ms : List RequestMessage) (made : List Entry) (out : List ℕ) → Responds seat ms made out Stops → list_any is_stop made ≡ true
-responds_stop seat [] made out r = absurd cc
-responds_stop seat (m ∷ ms) made out (mine, rest, first, others, turn, made_is, out_is, one, inl on) = ap (list_any is_stop) made_is ∙ stop_right mine rest (responds_stop seat ms rest others on.1)
-responds_stop seat (m ∷ ms) made out (mine, rest, first, others, turn, made_is, out_is, one, inr last) =
+responds_stop : (IsReading : ℕ → Type 0) (access : Access) (seat : ℕ) (ms : List RequestMessage) (made : List Entry) (out : List ℕ) → Responds IsReading access seat ms made out Stops → list_any is_stop made ≡ true
+responds_stop IsReading access seat [] made out r = absurd cc
+responds_stop IsReading access seat (m ∷ ms) made out (mine, rest, first, others, turn, made_is, out_is, one, inl on) = ap (list_any is_stop) made_is ∙ stop_right mine rest (responds_stop IsReading access seat ms rest others on.1)
+responds_stop IsReading access seat (m ∷ ms) made out (mine, rest, first, others, turn, made_is, out_is, one, inr last) =
     ap (list_any is_stop) made_is
-    ∙ stop_left mine rest (answer_stops seat m one.ask (asks_close m) mine first one.asks (subst (λ (t : Turn). RespondsTo seat one.ask (asks_close m) mine first t) (sym last.after_is) one.responds))
+    ∙ stop_left mine rest (answer_stops IsReading access seat m one.ask (asks_close m) mine first one.asks (subst (λ (t : Turn). RespondsTo IsReading seat one.ask (asks_close m) mine first t) (sym last.after_is) one.responds))
 
-stop_seen : (s : Start) (h : Here) → Talks s h Stops → list_any is_stop h.pass.seen ≡ true
-stop_seen s h t =
-    let mine : list_any is_stop (entries_by s.pass.seat t.goes.0) ≡ true = ap (list_any is_stop) t.goes.2 ∙ responds_stop s.pass.seat t.ms t.made t.out t.responds in
+stop_seen : (IsReading : ℕ → Type 0) (s : Start) (h : Here) → Talks IsReading s h Stops → list_any is_stop h.pass.seen ≡ true
+stop_seen IsReading s h t =
+    let mine : list_any is_stop (entries_by s.pass.seat t.goes.0) ≡ true = ap (list_any is_stop) t.goes.2 ∙ responds_stop IsReading s.access s.pass.seat t.ms t.made t.out t.responds in
     let more : list_any is_stop t.goes.0 ≡ true = any_kept (λ (e : Entry). seat_of e == s.pass.seat) is_stop t.goes.0 mine in
     ap (λ (p : Sitting). list_any is_stop p.seen) t.goes.1 ∙ stop_right s.pass.seen t.goes.0 more
 
-last_stops : {X : Type 0} (there given : X → Option (List ℕ)) (reads writes : X → ℕ) (p q : Sitting) (front : List (Visit X)) (v : Visit X) → v.ending ≡ NodeStopped → Worked (ServesBy there given reads writes) p (front ++ v ∷ []) q → list_any is_stop q.seen ≡ true
-last_stops there given reads writes p q [] v is w =
-    let s : Start = record { pass = p; there = there v.before; given = given v.before; reads = reads v.before; writes = writes v.before } in
+last_stops : {X : Type 0} (IsReading : ℕ → Type 0) (access : Access) (there given : X → Option (List ℕ)) (reads writes : X → ℕ) (p q : Sitting) (front : List (Visit X)) (v : Visit X) → v.ending ≡ NodeStopped → Worked (ServesBy IsReading access there given reads writes) p (front ++ v ∷ []) q → list_any is_stop q.seen ≡ true
+last_stops IsReading access there given reads writes p q [] v is w =
+    let s : Start = record { access = access; pass = p; there = there v.before; given = given v.before; reads = reads v.before; writes = writes v.before } in
     let h : Here = record { pass = w.0; stand = w.1.0; written = given v.after; reads = reads v.after; writes = writes v.after } in
-    ap (λ (r : Sitting). list_any is_stop r.seen) w.2 ∙ stop_seen s h (subst (λ (e : Ending). Ends s h e) is w.1.1)
-last_stops there given reads writes p q (u ∷ front) v is w = last_stops there given reads writes w.0 q front v is w.2
+    ap (λ (r : Sitting). list_any is_stop r.seen) w.2 ∙ stop_seen IsReading s h (subst (λ (e : Ending). Ends IsReading s h e) is w.1.1)
+last_stops IsReading access there given reads writes p q (u ∷ front) v is w = last_stops IsReading access there given reads writes w.0 q front v is w.2
 
 -- a worker that ended with the namespace has seen that it acts no more
-pub stopped_seen : {X : Type 0} (there given : X → Option (List ℕ)) (reads writes : X → ℕ) (p q : Sitting) (vs : List (Visit X)) (s : Stop) (most : ℕ) (ended : Bool) (before now : ℕ)
-    → Worked (ServesBy there given reads writes) p vs q → StopsBy s most vs ended before now → s ≡ Stopped → list_any is_stop q.seen ≡ true
-stopped_seen {X = X} there given reads writes p q vs s most ended before now w stops is =
+pub stopped_seen : {X : Type 0} (IsReading : ℕ → Type 0) (access : Access) (there given : X → Option (List ℕ)) (reads writes : X → ℕ) (p q : Sitting) (vs : List (Visit X)) (s : Stop) (most : ℕ) (ended : Bool) (before now : ℕ)
+    → Worked (ServesBy IsReading access there given reads writes) p vs q → StopsBy s most vs ended before now → s ≡ Stopped → list_any is_stop q.seen ≡ true
+stopped_seen {X = X} IsReading access there given reads writes p q vs s most ended before now w stops is =
     let by : StopsBy Stopped most vs ended before now = subst (λ (t : Stop). StopsBy t most vs ended before now) is stops in
-    last_stops there given reads writes p q by.cause.0 by.cause.1 by.cause.3 (subst (λ (l : List (Visit X)). Worked (ServesBy there given reads writes) p l q) by.cause.2 w)
+    last_stops IsReading access there given reads writes p q by.cause.0 by.cause.1 by.cause.3 (subst (λ (l : List (Visit X)). Worked (ServesBy IsReading access there given reads writes) p l q) by.cause.2 w)
 
 -- ---- a door that failed
 

@@ -11,6 +11,7 @@ use Rattle.sb_http.specs.Stages.{Left, whole}
 use Rattle.sb_http.specs.Streams.{Requests}
 use Rattle.sb_http.specs.declared.fault.HttpFault.{HttpFault}
 use Rattle.sb_http.specs.declared.fault.HttpFault.TheVariants.{BadHead as HeadBad, HeadTooLarge as HeadLarge, BodyTooLarge as BodyLarge}
+use Rattle.sb_rest.specs.declared.access.Access.{Access}
 use Rattle.sb_server.specs.declared.answer.Turn.{Turn}
 use Rattle.sb_server.specs.declared.answer.Turn.TheVariants.{Goes, Closes, Stops}
 use Rattle.sb_server.specs.declared.ask.Ask.{Ask}
@@ -36,8 +37,8 @@ rose_later a b c le r = omega (arith, le, r)
 
 -- ---- no request was taken
 
-pub reads_on : (s : Start) (h n : Here) → Talks s h Goes → Reaches h n [] → n.pass ≡ h.pass → n.written ≡ h.written → h.writes ≤ n.writes → Talks s n Goes
-reads_on s h n t x pass written writes = record {
+pub reads_on : (IsReading : ℕ → Type 0) (s : Start) (h n : Here) → Talks IsReading s h Goes → Reaches h n [] → n.pass ≡ h.pass → n.written ≡ h.written → h.writes ≤ n.writes → Talks IsReading s n Goes
+reads_on IsReading s h n t x pass written writes = record {
   fed = t.fed ++ x.takes.fed;
   ms = t.ms;
   made = t.made;
@@ -53,14 +54,14 @@ reads_on s h n t x pass written writes = record {
 }
 
 -- reading ended
-pub over : (s : Start) (h n : Here) (ending : Ending) → Talks s h Goes → Reaches h n [] → EndsWith ending h.stand.there n.stand h.reads n.reads → WaitsForMore n.stand.left
-    → n.pass ≡ h.pass → n.written ≡ h.written → h.writes ≤ n.writes → Ends s n ending
-over s h n ending t x e waits pass written writes = by ending e
+pub over : (IsReading : ℕ → Type 0) (s : Start) (h n : Here) (ending : Ending) → Talks IsReading s h Goes → Reaches h n [] → EndsWith ending h.stand.there n.stand h.reads n.reads → WaitsForMore n.stand.left
+    → n.pass ≡ h.pass → n.written ≡ h.written → h.writes ≤ n.writes → Ends IsReading s n ending
+over IsReading s h n ending t x e waits pass written writes = by ending e
   where
-    now : ReadsOut s n
-    now = (reads_on s h n t x pass written writes, waits)
+    now : ReadsOut IsReading s n
+    now = (reads_on IsReading s h n t x pass written writes, waits)
 
-    by : (ending : Ending) → EndsWith ending h.stand.there n.stand h.reads n.reads → Ends s n ending
+    by : (ending : Ending) → EndsWith ending h.stand.there n.stand h.reads n.reads → Ends IsReading s n ending
     by Closed e = inr (now, done_before s.there h.stand.there n.stand.there t.fed t.read e.0, e.1)
     by Truncated e = (now, done_before s.there h.stand.there n.stand.there t.fed t.read e.0, e.1)
     by LongConnection e = (now, e)
@@ -75,27 +76,27 @@ over s h n ending t x e waits pass written writes = by ending e
 -- ---- what is next was refused
 
 -- there was no memory for the response
-pub refused_lost : (s : Start) (h n : Here) → Talks s h Goes → Reaches h n [] → n.pass ≡ h.pass → n.written ≡ h.written → h.writes ≤ n.writes → Ends s n OutOfMemory
-refused_lost s h n t x pass written writes = inl (reads_on s h n t x pass written writes)
+pub refused_lost : (IsReading : ℕ → Type 0) (s : Start) (h n : Here) → Talks IsReading s h Goes → Reaches h n [] → n.pass ≡ h.pass → n.written ≡ h.written → h.writes ≤ n.writes → Ends IsReading s n OutOfMemory
+refused_lost IsReading s h n t x pass written writes = inl (reads_on IsReading s h n t x pass written writes)
 
 -- its response was written
-pub refused_as : (s : Start) (h n : Here) (fault : HttpFault) (r : Ending) → r ≡ refusal_ending fault → Talks s h Goes → Reaches h n [] → Refuses fault n.stand.left
-    → n.pass ≡ h.pass → Gains h.written n.written (refusal_bytes fault) → h.writes ≤ n.writes → Ends s n r
-refused_as s h n fault r is t x cause pass wrote writes = subst (Ends s n) (sym is) (by fault (record {
+pub refused_as : (IsReading : ℕ → Type 0) (s : Start) (h n : Here) (fault : HttpFault) (r : Ending) → r ≡ refusal_ending fault → Talks IsReading s h Goes → Reaches h n [] → Refuses fault n.stand.left
+    → n.pass ≡ h.pass → Gains h.written n.written (refusal_bytes fault) → h.writes ≤ n.writes → Ends IsReading s n r
+refused_as IsReading s h n fault r is t x cause pass wrote writes = subst (Ends IsReading s n) (sym is) (by fault (record {
   before = h.written;
-  talks = reads_on s h (record n { written = h.written }) t (record { takes = x.takes; reads = x.reads }) pass refl writes;
+  talks = reads_on IsReading s h (record n { written = h.written }) t (record { takes = x.takes; reads = x.reads }) pass refl writes;
   wrote = wrote;
   cause = cause;
 }))
   where
-    by : (fault : HttpFault) → IsRefused s n fault → Ends s n (refusal_ending fault)
+    by : (fault : HttpFault) → IsRefused IsReading s n fault → Ends IsReading s n (refusal_ending fault)
     by HeadBad k = k
     by HeadLarge k = k
     by BodyLarge k = k
 
 -- a front of it was written
-pub refused_part : (s : Start) (h n : Here) (fault : HttpFault) → Talks s h Goes → Reaches h n [] → Refuses fault n.stand.left → n.pass ≡ h.pass → GainsPart h.written n.written (refusal_bytes fault) → Rose h.writes n.writes → Ends s n WriteFault
-refused_part s h n fault t x cause pass part rose = (
+pub refused_part : (IsReading : ℕ → Type 0) (s : Start) (h n : Here) (fault : HttpFault) → Talks IsReading s h Goes → Reaches h n [] → Refuses fault n.stand.left → n.pass ≡ h.pass → GainsPart h.written n.written (refusal_bytes fault) → Rose h.writes n.writes → Ends IsReading s n WriteFault
+refused_part IsReading s h n fault t x cause pass part rose = (
   record {
     fed = t.fed ++ x.takes.fed;
     ms = t.ms;
@@ -116,15 +117,15 @@ refused_part s h n fault t x cause pass part rose = (
 -- ---- one request more
 
 -- what it asks for, and how the pass went on by its calls
-pub record Asked (h n : Here) (m : RequestMessage) (ask : Ask) (closes : Bool) (made : List Entry) : Type 0 where
-  pub asks : AsksFor m ask
+pub record Asked (access : Access) (h n : Here) (m : RequestMessage) (ask : Ask) (closes : Bool) (made : List Entry) : Type 0 where
+  pub asks : AsksFor access m ask
   pub closes_is : closes ≡ asks_close m
   pub goes : GoesBy h.pass made n.pass
 
 -- there was no memory for its response
-pub asked_lost : (s : Start) (h n : Here) (m : RequestMessage) (ask : Ask) (closes : Bool) (made : List Entry) → Talks s h Goes → Reaches h n (m ∷ []) → Asked h n m ask closes made
-    → Acts h.pass.seat ask made → n.written ≡ h.written → Ends s n OutOfMemory
-asked_lost s h n m ask closes made t x a acts written = inr (record {
+pub asked_lost : (IsReading : ℕ → Type 0) (s : Start) (h n : Here) (m : RequestMessage) (ask : Ask) (closes : Bool) (made : List Entry) → Talks IsReading s h Goes → Reaches h n (m ∷ []) → Asked s.access h n m ask closes made
+    → Acts IsReading h.pass.seat ask made → n.written ≡ h.written → Ends IsReading s n OutOfMemory
+asked_lost IsReading s h n m ask closes made t x a acts written = inr (record {
   fed = t.fed ++ x.takes.fed;
   ms = t.ms;
   m = m;
@@ -135,24 +136,24 @@ asked_lost s h n m ask closes made t x a acts written = inr (record {
   read = read_on s.there h.stand.there n.stand.there t.fed x.takes.fed t.read x.takes.read;
   goes = goes_by_both s.pass h.pass n.pass t.made made t.goes a.goes;
   responds = t.responds;
-  acted = record { ask = ask; asks = a.asks; acts = subst (λ (k : ℕ). Acts k ask made) (same_seat s.pass h.pass t.made t.goes) acts };
+  acted = record { ask = ask; asks = a.asks; acts = subst (λ (k : ℕ). Acts IsReading k ask made) (same_seat s.pass h.pass t.made t.goes) acts };
   wrote = subst (λ (o : Option (List ℕ)). Gains s.given o t.out) (sym written) t.wrote;
 })
 
-responds_to : (s : Start) (h n : Here) (m : RequestMessage) (ask : Ask) (closes : Bool) (made : List Entry) (out : List ℕ) (turn : Turn) (t : Talks s h Goes)
-    → Asked h n m ask closes made → RespondsTo h.pass.seat ask closes made out turn → Responds s.pass.seat (t.ms ++ m ∷ []) (t.made ++ made) (t.out ++ out) turn
-responds_to s h n m ask closes made out turn t a responds =
+responds_to : (IsReading : ℕ → Type 0) (s : Start) (h n : Here) (m : RequestMessage) (ask : Ask) (closes : Bool) (made : List Entry) (out : List ℕ) (turn : Turn) (t : Talks IsReading s h Goes)
+    → Asked s.access h n m ask closes made → RespondsTo IsReading h.pass.seat ask closes made out turn → Responds IsReading s.access s.pass.seat (t.ms ++ m ∷ []) (t.made ++ made) (t.out ++ out) turn
+responds_to IsReading s h n m ask closes made out turn t a responds =
     let seat : h.pass.seat ≡ s.pass.seat = same_seat s.pass h.pass t.made t.goes in
-    let one : RespondsTo s.pass.seat ask (asks_close m) made out turn = subst (λ (b : Bool). RespondsTo s.pass.seat ask b made out turn) a.closes_is (subst (λ (k : ℕ). RespondsTo k ask closes made out turn) seat responds) in
-    responds_more s.pass.seat t.ms t.made t.out m made out turn t.responds (record { ask = ask; asks = a.asks; responds = one })
+    let one : RespondsTo IsReading s.pass.seat ask (asks_close m) made out turn = subst (λ (b : Bool). RespondsTo IsReading s.pass.seat ask b made out turn) a.closes_is (subst (λ (k : ℕ). RespondsTo IsReading k ask closes made out turn) seat responds) in
+    responds_more IsReading s.access s.pass.seat t.ms t.made t.out m made out turn t.responds (record { ask = ask; asks = a.asks; responds = one })
 
 -- its response was written
-pub asked : (s : Start) (h n : Here) (m : RequestMessage) (ask : Ask) (closes : Bool) (made : List Entry) (out : List ℕ) (turn : Turn) (r : Option Ending) → r ≡ ending_of turn
-    → Talks s h Goes → Reaches h n (m ∷ []) → Asked h n m ask closes made → RespondsTo h.pass.seat ask closes made out turn
-    → Gains h.written n.written out → h.writes ≤ n.writes → TurnsTo s n r
-asked s h n m ask closes made out turn r r_is t x a responds wrote writes = subst (TurnsTo s n) (sym r_is) (by turn now)
+pub asked : (IsReading : ℕ → Type 0) (s : Start) (h n : Here) (m : RequestMessage) (ask : Ask) (closes : Bool) (made : List Entry) (out : List ℕ) (turn : Turn) (r : Option Ending) → r ≡ ending_of turn
+    → Talks IsReading s h Goes → Reaches h n (m ∷ []) → Asked s.access h n m ask closes made → RespondsTo IsReading h.pass.seat ask closes made out turn
+    → Gains h.written n.written out → h.writes ≤ n.writes → TurnsTo IsReading s n r
+asked IsReading s h n m ask closes made out turn r r_is t x a responds wrote writes = subst (TurnsTo IsReading s n) (sym r_is) (by turn now)
   where
-    now : Talks s n turn
+    now : Talks IsReading s n turn
     now = record {
       fed = t.fed ++ x.takes.fed;
       ms = t.ms ++ m ∷ [];
@@ -162,22 +163,22 @@ asked s h n m ask closes made out turn r r_is t x a responds wrote writes = subs
       read = read_on s.there h.stand.there n.stand.there t.fed x.takes.fed t.read x.takes.read;
       count = omega (arith, t.count, x.takes.count, length-append t.fed x.takes.fed);
       goes = goes_by_both s.pass h.pass n.pass t.made made t.goes a.goes;
-      responds = responds_to s h n m ask closes made out turn t a responds;
+      responds = responds_to IsReading s h n m ask closes made out turn t a responds;
       wrote = gains-gains s.given h.written n.written t.out out t.wrote wrote;
       reads = omega (arith, t.reads, x.reads);
       writes = omega (arith, t.writes, writes);
     }
 
-    by : (turn : Turn) → Talks s n turn → TurnsTo s n (ending_of turn)
+    by : (turn : Turn) → Talks IsReading s n turn → TurnsTo IsReading s n (ending_of turn)
     by Goes k = k
     by Closes k = inl k
     by Stops k = k
 
 -- a front of it was written
-pub asked_part : (s : Start) (h n : Here) (m : RequestMessage) (ask : Ask) (closes : Bool) (made : List Entry) (out : List ℕ) (turn : Turn)
-    → Talks s h Goes → Reaches h n (m ∷ []) → Asked h n m ask closes made → RespondsTo h.pass.seat ask closes made out turn
-    → GainsPart h.written n.written out → Rose h.writes n.writes → Ends s n WriteFault
-asked_part s h n m ask closes made out turn t x a responds part rose = (
+pub asked_part : (IsReading : ℕ → Type 0) (s : Start) (h n : Here) (m : RequestMessage) (ask : Ask) (closes : Bool) (made : List Entry) (out : List ℕ) (turn : Turn)
+    → Talks IsReading s h Goes → Reaches h n (m ∷ []) → Asked s.access h n m ask closes made → RespondsTo IsReading h.pass.seat ask closes made out turn
+    → GainsPart h.written n.written out → Rose h.writes n.writes → Ends IsReading s n WriteFault
+asked_part IsReading s h n m ask closes made out turn t x a responds part rose = (
   record {
     fed = t.fed ++ x.takes.fed;
     ms = t.ms ++ m ∷ [];
@@ -188,7 +189,7 @@ asked_part s h n m ask closes made out turn t x a responds part rose = (
     requests = x.takes.goes t.fed t.ms t.requests;
     read = read_on s.there h.stand.there n.stand.there t.fed x.takes.fed t.read x.takes.read;
     goes = goes_by_both s.pass h.pass n.pass t.made made t.goes a.goes;
-    responds = responds_to s h n m ask closes made out turn t a responds;
+    responds = responds_to IsReading s h n m ask closes made out turn t a responds;
     all_is = inl refl;
     wrote = gains-part s.given h.written n.written t.out out (t.out ++ out) t.wrote part [] (ap (λ (l : List ℕ). t.out ++ l) (sym (append-nil out)));
   },
@@ -197,8 +198,8 @@ asked_part s h n m ask closes made out turn t x a responds part rose = (
 
 -- ---- how a connection begins
 
-pub talks_start : (s : Start) (left : Left) → Requests [] [] left → Talks s (record { pass = s.pass; stand = record { left = left; fed = 0; there = s.there }; written = s.given; reads = s.reads; writes = s.writes }) Goes
-talks_start s left requests = record {
+pub talks_start : (IsReading : ℕ → Type 0) (s : Start) (left : Left) → Requests [] [] left → Talks IsReading s (record { pass = s.pass; stand = record { left = left; fed = 0; there = s.there }; written = s.given; reads = s.reads; writes = s.writes }) Goes
+talks_start IsReading s left requests = record {
   fed = [];
   ms = [];
   made = [];
@@ -213,16 +214,16 @@ talks_start s left requests = record {
   writes = omega arith;
 }
 
-pub talks_from : (s : Start) (left : Left) (stand : Stand) → Requests [] [] left → stand ≡ record { left = left; fed = 0; there = s.there }
-    → Talks s (record { pass = s.pass; stand = stand; written = s.given; reads = s.reads; writes = s.writes }) Goes
-talks_from s left stand requests is = subst (λ (x : Stand). Talks s (record { pass = s.pass; stand = x; written = s.given; reads = s.reads; writes = s.writes }) Goes) (sym is) (talks_start s left requests)
+pub talks_from : (IsReading : ℕ → Type 0) (s : Start) (left : Left) (stand : Stand) → Requests [] [] left → stand ≡ record { left = left; fed = 0; there = s.there }
+    → Talks IsReading s (record { pass = s.pass; stand = stand; written = s.given; reads = s.reads; writes = s.writes }) Goes
+talks_from IsReading s left stand requests is = subst (λ (x : Stand). Talks IsReading s (record { pass = s.pass; stand = x; written = s.given; reads = s.reads; writes = s.writes }) Goes) (sym is) (talks_start IsReading s left requests)
 
 -- there was no memory to begin it
-pub no_inbox : (s : Start) → Ends s (record { pass = s.pass; stand = record { left = whole []; fed = 0; there = s.there }; written = s.given; reads = s.reads; writes = s.writes }) OutOfMemory
-no_inbox s = inl (talks_start s (whole []) (record { here = λ more m rest r. r; there = λ more m rest r. r; unread = λ e. refl }))
+pub no_inbox : (IsReading : ℕ → Type 0) (s : Start) → Ends IsReading s (record { pass = s.pass; stand = record { left = whole []; fed = 0; there = s.there }; written = s.given; reads = s.reads; writes = s.writes }) OutOfMemory
+no_inbox IsReading s = inl (talks_start IsReading s (whole []) (record { here = λ more m rest r. r; there = λ more m rest r. r; unread = λ e. refl }))
 
-pub ended : (s : Start) (n : Here) (r : Option Ending) (ending : Ending) → r ≡ Some ending → TurnsTo s n r → Ends s n ending
-ended s n r ending is x = subst (TurnsTo s n) is x
+pub ended : (IsReading : ℕ → Type 0) (s : Start) (n : Here) (r : Option Ending) (ending : Ending) → r ≡ Some ending → TurnsTo IsReading s n r → Ends IsReading s n ending
+ended IsReading s n r ending is x = subst (TurnsTo IsReading s n) is x
 
 -- ---- what a turn reached, from what its calls say
 

@@ -15,10 +15,11 @@ use Rattle.sb_http.specs.Messages.{RequestMessage}
 use Rattle.sb_lines.specs.Lines.{line_of}
 use Rattle.sb_lines.specs.declared.line.Line.{Line as ScriptLine}
 use Rattle.sb_rest.specs.Batches.{is_blank}
+use Rattle.sb_rest.specs.declared.access.Access.{Access}
 use Rattle.sb_rest.specs.Calls.{call_of}
 use Rattle.sb_rest.specs.Responses.{host_in}
 use Rattle.sb_rest.specs.declared.call.RestFault.{RestFault}
-use Rattle.sb_rest.specs.declared.call.RestFault.TheVariants.{Foreign, NoRoute, BadMethod, Bad, Script, OutOfMemory}
+use Rattle.sb_rest.specs.declared.call.RestFault.TheVariants.{Foreign, NoKey, NoRoute, BadMethod, Bad, Script, OutOfMemory}
 use Rattle.sb_rest.specs.declared.call.Wanted.{Wanted}
 use Rattle.sb_server.specs.declared.ask.Ask.{Ask}
 use Rattle.sb_server.specs.declared.ask.Ask.TheVariants.{Once, Patient, Line, BadLine, Fault}
@@ -82,25 +83,26 @@ IsNoLine said (Ok reply) = ⊥
 IsNoLine said (Err refusal) = Reads said (Err refusal)
 
 -- why a request is no call; want of memory may come with each
-abbrev pub IsFault : RestFault → RequestMessage → Type 0
-IsFault Foreign m = call_of m ≡ Err Foreign
-IsFault NoRoute m = call_of m ≡ Err NoRoute
-IsFault (BadMethod r) m = call_of m ≡ Err (BadMethod r)
-IsFault (Bad key) m = call_of m ≡ Err (Bad key)
-IsFault Script m = ⊥
-IsFault OutOfMemory m = Unit {0}
+abbrev pub IsFault : Access → RestFault → RequestMessage → Type 0
+IsFault access Foreign m = call_of access m ≡ Err Foreign
+IsFault access NoKey m = call_of access m ≡ Err NoKey
+IsFault access NoRoute m = call_of access m ≡ Err NoRoute
+IsFault access (BadMethod r) m = call_of access m ≡ Err (BadMethod r)
+IsFault access (Bad key) m = call_of access m ≡ Err (Bad key)
+IsFault access Script m = ⊥
+IsFault access OutOfMemory m = Unit {0}
 
 -- a call, the host that its request names, and whether it waits
-pub record IsCall (m : RequestMessage) (w : Wanted) (host : List ℕ) (is_patient : Bool) : Type 0 where
-  pub call : call_of m ≡ Ok w
+pub record IsCall (access : Access) (m : RequestMessage) (w : Wanted) (host : List ℕ) (is_patient : Bool) : Type 0 where
+  pub call : call_of access m ≡ Ok w
   pub in_order : IsActInOrder w.call.act
   pub host_is : host ≡ host_in m.head.fields
   pub waits_is : waits w.call ≡ is_patient
 
--- the request asks for this
-abbrev pub AsksFor : RequestMessage → Ask → Type 0
-AsksFor m (Once w host) = IsCall m w host false
-AsksFor m (Patient w host limit) = IsCall m w host true × (limit ≡ ms_in w.timeout)
-AsksFor m (Line line) = (call_of m ≡ Err Script) × Reads (line_in m.body) (Ok line)
-AsksFor m (BadLine answer) = (call_of m ≡ Err Script) × IsNoLine (line_in m.body) answer
-AsksFor m (Fault fault) = IsFault fault m
+-- the request asks for this, of a server that answers these
+abbrev pub AsksFor : Access → RequestMessage → Ask → Type 0
+AsksFor access m (Once w host) = IsCall access m w host false
+AsksFor access m (Patient w host limit) = IsCall access m w host true × (limit ≡ ms_in w.timeout)
+AsksFor access m (Line line) = (call_of access m ≡ Err Script) × Reads (line_in m.body) (Ok line)
+AsksFor access m (BadLine answer) = (call_of access m ≡ Err Script) × IsNoLine (line_in m.body) answer
+AsksFor access m (Fault fault) = IsFault access fault m

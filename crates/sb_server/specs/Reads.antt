@@ -2,6 +2,7 @@
 use Rattle.std.specs.Prelude.{◌≡◌, ℕ, ◌+◌, ◌-◌, ◌^◌, ◌≤◌, ◌<◌, List, [], ◌∷◌, ◌++◌, length, Option, Some, None, slice_range}
 use Rattle.sb_outside.specs.Causes.{Rose}
 use Rattle.sb_http.specs.Messages.{RequestMessage}
+use Rattle.sb_rest.specs.declared.access.Access.{Access}
 use Rattle.sb_http.specs.Stages.{Left, whole, held}
 use Rattle.sb_http.specs.Streams.{Requests}
 use Rattle.sb_http.specs.Causes.{HasNone, Waits as IsUnderWay, Refuses}
@@ -57,10 +58,10 @@ WaitsForMore left = HasNone left × IsUnderWay left
 abbrev pub GoesOnBy : Left → List RequestMessage → Left → Type 0
 GoesOnBy old ms new = (stream : List ℕ) (before : List RequestMessage) → Requests stream before old → Requests stream (before ++ ms) new
 
-abbrev pub TookOf : Left → Took → Left → Type 0
-TookOf old (One ask closes) new = (m : RequestMessage) × AsksFor m ask × (closes ≡ asks_close m) × GoesOnBy old (m ∷ []) new
-TookOf old NoneYet new = GoesOnBy old [] new × WaitsForMore new
-TookOf old (Fault fault) new = GoesOnBy old [] new × Refuses fault new
+abbrev pub TookOf : Access → Left → Took → Left → Type 0
+TookOf access old (One ask closes) new = (m : RequestMessage) × AsksFor access m ask × (closes ≡ asks_close m) × GoesOnBy old (m ∷ []) new
+TookOf access old NoneYet new = GoesOnBy old [] new × WaitsForMore new
+TookOf access old (Fault fault) new = GoesOnBy old [] new × Refuses fault new
 
 -- ---- what comes of a connection
 
@@ -88,7 +89,7 @@ EndsWith Stopped there new count_before count = ⊥
 EndsWith OutOfMemory there new count_before count = ⊥
 
 -- a request, a fault, or an end
-abbrev pub Comes : Stand → Came → Stand → ℕ → ℕ → Type 0
-Comes old (Asked ask closes) new count_before count = (m : RequestMessage) × AsksFor m ask × (closes ≡ asks_close m) × Takes old (m ∷ []) new
-Comes old (Refused fault) new count_before count = Takes old [] new × Refuses fault new.left
-Comes old (Over ending) new count_before count = Takes old [] new × EndsWith ending old.there new count_before count × WaitsForMore new.left
+abbrev pub Comes : Access → Stand → Came → Stand → ℕ → ℕ → Type 0
+Comes access old (Asked ask closes) new count_before count = (m : RequestMessage) × AsksFor access m ask × (closes ≡ asks_close m) × Takes old (m ∷ []) new
+Comes access old (Refused fault) new count_before count = Takes old [] new × Refuses fault new.left
+Comes access old (Over ending) new count_before count = Takes old [] new × EndsWith ending old.there new count_before count × WaitsForMore new.left

@@ -1,5 +1,5 @@
--- The responses to requests, and the entries of their calls.
-use Rattle.std.specs.Prelude.{◌≡◌, ◌⊎◌, ℕ, List, [], ◌∷◌, ◌++◌, Bool, false, ◌||◌, Option, Result, IfOk, IfErr, if◌then◌else◌}
+-- The responses to requests, and the entries of their calls. `IsReading` holds of what a clock may read.
+use Rattle.std.specs.Prelude.{◌≡◌, ◌⊎◌, ℕ, List, [], ◌∷◌, ◌++◌, Bool, true, false, ◌||◌, Option, Result, IfOk, IfErr, if◌then◌else◌}
 use Rattle.sb_machine.specs.History.{stops}
 use Rattle.sb_machine.specs.Ordered.{IsActInOrder}
 use Rattle.sb_machine.specs.declared.call.Call.{Call}
@@ -13,6 +13,8 @@ use Rattle.sb_http.specs.Responses.{ResponseMessage, response_bytes}
 use Rattle.sb_lines.specs.Replies.{answer_line}
 use Rattle.sb_lines.specs.declared.form.Form.{Form}
 use Rattle.sb_lines.specs.declared.form.Form.TheVariants.{Plain}
+use Rattle.sb_rest.specs.declared.access.Access.{Access}
+use Rattle.sb_rest.specs.Callers.{is_foreign, has_key}
 use Rattle.sb_rest.specs.Responses.{Gives, fault_response, line_response}
 use Rattle.sb_rest.specs.declared.call.RestFault.{RestFault}
 use Rattle.sb_server.specs.declared.ask.Ask.{Ask}
@@ -29,9 +31,9 @@ use Rattle.sb_server.specs.Waiting.{Waits, GoesBy}
 abbrev pub turn_of : Bool → Bool → Turn
 turn_of closes stops = if stops then Stops else (if closes then Closes else Goes)
 
--- these are the entries of one call
-abbrev pub IsOne : ℕ → Call → List Entry → Result Answered Refusal → Type 0
-IsOne seat call made answer = (tick : Option ℕ) × (reading : ℕ) × (made ≡ made_by seat tick reading call answer)
+-- these are the entries of one call, made at a reading of the clock
+abbrev pub IsOne : (ℕ → Type 0) → ℕ → Call → List Entry → Result Answered Refusal → Type 0
+IsOne IsReading seat call made answer = (tick : Option ℕ) × (reading : ℕ) × IsReading reading × (made ≡ made_by seat tick reading call answer)
 
 -- the same response, which also ends the connection where its request asks for that
 abbrev pub closed : Bool → ResponseMessage → ResponseMessage
@@ -58,28 +60,28 @@ IsInOrder (BadLine answer) = Unit {0}
 IsInOrder (Fault fault) = Unit {0}
 
 -- this is the response, these are the entries of its calls, and so it goes on
-abbrev pub RespondsTo : ℕ → Ask → Bool → List Entry → List ℕ → Turn → Type 0
-RespondsTo seat (Once w host) closes made out turn =
-    (answer : Result Answered Refusal) × IsOne seat w.call made answer × AnswersCall w.call answer host closes out × (turn ≡ turn_of closes (stops answer))
-RespondsTo seat (Patient w host limit) closes made out turn =
-    (answer : Result Answered Refusal) × Waits seat w.call limit made answer × AnswersCall w.call answer host closes out × (turn ≡ turn_of closes (stops answer))
-RespondsTo seat (Line line) closes made out turn =
-    (answer : Result Answered Refusal) × IsOne seat line.timed.call made answer × (out ≡ line_bytes line.form answer closes) × (turn ≡ turn_of closes (stops answer))
-RespondsTo seat (BadLine answer) closes made out turn = (made ≡ []) × (out ≡ line_bytes Plain answer closes) × (turn ≡ turn_of closes (stops answer))
-RespondsTo seat (Fault fault) closes made out turn = (made ≡ []) × (out ≡ fault_bytes fault closes) × (turn ≡ turn_of closes false)
+abbrev pub RespondsTo : (ℕ → Type 0) → ℕ → Ask → Bool → List Entry → List ℕ → Turn → Type 0
+RespondsTo IsReading seat (Once w host) closes made out turn =
+    (answer : Result Answered Refusal) × IsOne IsReading seat w.call made answer × AnswersCall w.call answer host closes out × (turn ≡ turn_of closes (stops answer))
+RespondsTo IsReading seat (Patient w host limit) closes made out turn =
+    (answer : Result Answered Refusal) × Waits IsReading seat w.call limit made answer × AnswersCall w.call answer host closes out × (turn ≡ turn_of closes (stops answer))
+RespondsTo IsReading seat (Line line) closes made out turn =
+    (answer : Result Answered Refusal) × IsOne IsReading seat line.timed.call made answer × (out ≡ line_bytes line.form answer closes) × (turn ≡ turn_of closes (stops answer))
+RespondsTo IsReading seat (BadLine answer) closes made out turn = (made ≡ []) × (out ≡ line_bytes Plain answer closes) × (turn ≡ turn_of closes (stops answer))
+RespondsTo IsReading seat (Fault fault) closes made out turn = (made ≡ []) × (out ≡ fault_bytes fault closes) × (turn ≡ turn_of closes false)
 
 -- these are the entries of its calls
-abbrev pub Acts : ℕ → Ask → List Entry → Type 0
-Acts seat (Once w host) made = (answer : Result Answered Refusal) × IsOne seat w.call made answer
-Acts seat (Patient w host limit) made = (answer : Result Answered Refusal) × Waits seat w.call limit made answer
-Acts seat (Line line) made = (answer : Result Answered Refusal) × IsOne seat line.timed.call made answer
-Acts seat (BadLine answer) made = made ≡ []
-Acts seat (Fault fault) made = made ≡ []
+abbrev pub Acts : (ℕ → Type 0) → ℕ → Ask → List Entry → Type 0
+Acts IsReading seat (Once w host) made = (answer : Result Answered Refusal) × IsOne IsReading seat w.call made answer
+Acts IsReading seat (Patient w host limit) made = (answer : Result Answered Refusal) × Waits IsReading seat w.call limit made answer
+Acts IsReading seat (Line line) made = (answer : Result Answered Refusal) × IsOne IsReading seat line.timed.call made answer
+Acts IsReading seat (BadLine answer) made = made ≡ []
+Acts IsReading seat (Fault fault) made = made ≡ []
 
 -- The pass went on by the entries of its calls, and this is the response, where there was memory for it.
-abbrev pub Answers : Sitting → Ask → Bool → Sitting → Written → Type 0
-Answers pass ask closes new written = (made : List Entry) × GoesBy pass made new
-    × IfOk written.bytes (λ v. RespondsTo pass.seat ask closes made v.items written.turn) × IfErr written.bytes (λ _. Acts pass.seat ask made)
+abbrev pub Answers : (ℕ → Type 0) → Sitting → Ask → Bool → Sitting → Written → Type 0
+Answers IsReading pass ask closes new written = (made : List Entry) × GoesBy pass made new
+    × IfOk written.bytes (λ v. RespondsTo IsReading pass.seat ask closes made v.items written.turn) × IfErr written.bytes (λ _. Acts IsReading pass.seat ask made)
 
 -- ---- the responses of a connection
 
@@ -92,21 +94,34 @@ pub record IsLast (turn : Turn) (ms : List RequestMessage) (made : List Entry) (
   pub after_is : after ≡ turn
 
 -- one request with its response
-pub record Responded (seat : ℕ) (m : RequestMessage) (mine : List Entry) (first : List ℕ) (turn : Turn) : Type 0 where
+pub record Responded (IsReading : ℕ → Type 0) (access : Access) (seat : ℕ) (m : RequestMessage) (mine : List Entry) (first : List ℕ) (turn : Turn) : Type 0 where
   pub ask : Ask
-  pub asks : AsksFor m ask
-  pub responds : RespondsTo seat ask (asks_close m) mine first turn
+  pub asks : AsksFor access m ask
+  pub responds : RespondsTo IsReading seat ask (asks_close m) mine first turn
 
 -- one request with the entries of its calls, and no response
-pub record Acted (seat : ℕ) (m : RequestMessage) (mine : List Entry) : Type 0 where
+pub record Acted (IsReading : ℕ → Type 0) (access : Access) (seat : ℕ) (m : RequestMessage) (mine : List Entry) : Type 0 where
   pub ask : Ask
-  pub asks : AsksFor m ask
-  pub acts : Acts seat ask mine
+  pub asks : AsksFor access m ask
+  pub acts : Acts IsReading seat ask mine
 
 -- the response to each request in order, and the entries of their calls
-abbrev pub Responds : ℕ → List RequestMessage → List Entry → List ℕ → Turn → Type 0
-Responds seat [] made out after = (made ≡ []) × (out ≡ []) × (after ≡ Goes)
-Responds seat (m ∷ ms) made out after =
+abbrev pub Responds : (ℕ → Type 0) → Access → ℕ → List RequestMessage → List Entry → List ℕ → Turn → Type 0
+Responds IsReading access seat [] made out after = (made ≡ []) × (out ≡ []) × (after ≡ Goes)
+Responds IsReading access seat (m ∷ ms) made out after =
     (mine : List Entry) × (rest : List Entry) × (first : List ℕ) × (others : List ℕ) × (turn : Turn)
-    × (made ≡ mine ++ rest) × (out ≡ first ++ others) × Responded seat m mine first turn
-    × (((turn ≡ Goes) × Responds seat ms rest others after) ⊎ IsLast turn ms rest others after)
+    × (made ≡ mine ++ rest) × (out ≡ first ++ others) × Responded IsReading access seat m mine first turn
+    × (((turn ≡ Goes) × Responds IsReading access seat ms rest others after) ⊎ IsLast turn ms rest others after)
+
+-- a request that is foreign, or doesn't show the key
+abbrev pub IsUnwelcome : Access → RequestMessage → Type 0
+IsUnwelcome access m = (is_foreign access m.head.fields ≡ true) ⊎ (has_key access m.head.fields ≡ false)
+
+-- is answered, and makes no call
+abbrev pub MakesNone : (ℕ → Type 0) → Type 0
+MakesNone IsReading =
+    (access : Access) (seat : ℕ) (m : RequestMessage) (mine : List Entry) (first : List ℕ) (turn : Turn) → IsUnwelcome access m → Responded IsReading access seat m mine first turn → mine ≡ []
+
+-- nor does it where there is no memory to answer it
+abbrev pub ActsNever : (ℕ → Type 0) → Type 0
+ActsNever IsReading = (access : Access) (seat : ℕ) (m : RequestMessage) (mine : List Entry) → IsUnwelcome access m → Acted IsReading access seat m mine → mine ≡ []

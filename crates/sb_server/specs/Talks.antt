@@ -1,4 +1,4 @@
--- A connection as far as it has come, and how it ends.
+-- A connection as far as it has come, and how it ends. `IsReading` holds of what the worker's clock may read.
 use Rattle.std.specs.Prelude.{◌≡◌, ◌⊎◌, ℕ, ◌^◌, ◌≤◌, ◌<◌, List, [], ◌∷◌, ◌++◌, length, true, Option, Some, None}
 use Rattle.sb_machine.specs.declared.history.Entry.{Entry}
 use Rattle.sb_desk.specs.Desks.{Sitting}
@@ -13,6 +13,7 @@ use Rattle.sb_http.specs.Messages.{RequestMessage}
 use Rattle.sb_http.specs.Responses.{ResponseMessage, response_bytes}
 use Rattle.sb_http.specs.Stages.{whole, held}
 use Rattle.sb_http.specs.Streams.{Requests}
+use Rattle.sb_rest.specs.declared.access.Access.{Access}
 use Rattle.sb_server.specs.declared.answer.Turn.{Turn}
 use Rattle.sb_server.specs.declared.answer.Turn.TheVariants.{Goes, Closes, Stops}
 use Rattle.sb_server.specs.declared.ending.Ending.{Ending}
@@ -21,9 +22,10 @@ use Rattle.sb_server.specs.Reads.{Stand, HasRead, IsDone, WaitsForMore}
 use Rattle.sb_server.specs.Responds.{Acted, Responds}
 use Rattle.sb_server.specs.Waiting.{GoesBy}
 
--- How a connection began: the pass, what it has left and what it was given, where it tells, and its counts of
+-- How a connection began: whom the server answers, the pass, what it has left and what it was given, where it tells, and its counts of
 -- faults.
 pub record Start : Type 0 where
+  pub access : Access
   pub pass : Sitting
   pub there : Option (List ℕ)
   pub given : Option (List ℕ)
@@ -40,7 +42,7 @@ pub record Here : Type 0 where
 
 -- A connection as far as it has come: the requests taken of the bytes that were fed, the entries of their calls, all
 -- their responses, which were written, and how it goes on.
-pub record Talks (s : Start) (h : Here) (turn : Turn) : Type 0 where
+pub record Talks (IsReading : ℕ → Type 0) (s : Start) (h : Here) (turn : Turn) : Type 0 where
   pub fed : List ℕ
   pub ms : List RequestMessage
   pub made : List Entry
@@ -49,7 +51,7 @@ pub record Talks (s : Start) (h : Here) (turn : Turn) : Type 0 where
   pub read : HasRead s.there fed h.stand.there
   pub count : h.stand.fed ≡ length fed
   pub goes : GoesBy s.pass made h.pass
-  pub responds : Responds s.pass.seat ms made out turn
+  pub responds : Responds IsReading s.access s.pass.seat ms made out turn
   pub wrote : Gains s.given h.written out
   pub reads : s.reads ≤ h.reads
   pub writes : s.writes ≤ h.writes
@@ -74,9 +76,9 @@ refusal_ending HeadLarge = HeadTooLarge
 refusal_ending BodyLarge = BodyTooLarge
 
 -- all responses were written, and behind them that of a refusal, which has its cause
-pub record IsRefused (s : Start) (h : Here) (fault : HttpFault) : Type 0 where
+pub record IsRefused (IsReading : ℕ → Type 0) (s : Start) (h : Here) (fault : HttpFault) : Type 0 where
   pub before : Option (List ℕ)
-  pub talks : Talks s (record h { written = before }) Goes
+  pub talks : Talks IsReading s (record h { written = before }) Goes
   pub wrote : Gains before h.written (refusal_bytes fault)
   pub cause : Refuses fault h.stand.left
 
@@ -87,7 +89,7 @@ abbrev pub IsAll : Here → Turn → List ℕ → List ℕ → Type 0
 IsAll h turn out all = (all ≡ out) ⊎ ((fault : HttpFault) × (turn ≡ Goes) × Refuses fault h.stand.left × (all ≡ out ++ refusal_bytes fault))
 
 -- a front of it was written
-pub record Parts (s : Start) (h : Here) : Type 0 where
+pub record Parts (IsReading : ℕ → Type 0) (s : Start) (h : Here) : Type 0 where
   pub fed : List ℕ
   pub ms : List RequestMessage
   pub made : List Entry
@@ -97,12 +99,12 @@ pub record Parts (s : Start) (h : Here) : Type 0 where
   pub requests : Requests fed ms h.stand.left
   pub read : HasRead s.there fed h.stand.there
   pub goes : GoesBy s.pass made h.pass
-  pub responds : Responds s.pass.seat ms made out turn
+  pub responds : Responds IsReading s.access s.pass.seat ms made out turn
   pub all_is : IsAll h turn out all
   pub wrote : GainsPart s.given h.written all
 
 -- all responses were written but that to the last request, of which nothing was
-pub record LacksLast (s : Start) (h : Here) : Type 0 where
+pub record LacksLast (IsReading : ℕ → Type 0) (s : Start) (h : Here) : Type 0 where
   pub fed : List ℕ
   pub ms : List RequestMessage
   pub m : RequestMessage
@@ -112,36 +114,36 @@ pub record LacksLast (s : Start) (h : Here) : Type 0 where
   pub requests : Requests fed (ms ++ m ∷ []) h.stand.left
   pub read : HasRead s.there fed h.stand.there
   pub goes : GoesBy s.pass (made ++ mine) h.pass
-  pub responds : Responds s.pass.seat ms made out Goes
-  pub acted : Acted s.pass.seat m mine
+  pub responds : Responds IsReading s.access s.pass.seat ms made out Goes
+  pub acted : Acted IsReading s.access s.pass.seat m mine
   pub wrote : Gains s.given h.written out
 
 -- ---- how it ends
 
 -- where reading ended, each request that had come whole was taken
-abbrev pub ReadsOut : Start → Here → Type 0
-ReadsOut s h = Talks s h Goes × WaitsForMore h.stand.left
+abbrev pub ReadsOut : (ℕ → Type 0) → Start → Here → Type 0
+ReadsOut IsReading s h = Talks IsReading s h Goes × WaitsForMore h.stand.left
 
 -- each ending by its cause; want of memory may come for each response
-abbrev pub Ends : Start → Here → Ending → Type 0
-Ends s h Closed = Talks s h Closes ⊎ (ReadsOut s h × IsDone s.there h.stand.there × (h.stand.left ≡ whole []))
-Ends s h Stopped = Talks s h Stops
-Ends s h Truncated = ReadsOut s h × IsDone s.there h.stand.there × (0 < held h.stand.left)
-Ends s h LongConnection = ReadsOut s h × (2 ^ 32 ≤ h.stand.fed)
-Ends s h ReadFault = ReadsOut s h × Rose s.reads h.reads
-Ends s h BadHead = IsRefused s h HeadBad
-Ends s h HeadTooLarge = IsRefused s h HeadLarge
-Ends s h BodyTooLarge = IsRefused s h BodyLarge
-Ends s h WriteFault = Parts s h × Rose s.writes h.writes
-Ends s h OutOfMemory = Talks s h Goes ⊎ LacksLast s h
+abbrev pub Ends : (ℕ → Type 0) → Start → Here → Ending → Type 0
+Ends IsReading s h Closed = Talks IsReading s h Closes ⊎ (ReadsOut IsReading s h × IsDone s.there h.stand.there × (h.stand.left ≡ whole []))
+Ends IsReading s h Stopped = Talks IsReading s h Stops
+Ends IsReading s h Truncated = ReadsOut IsReading s h × IsDone s.there h.stand.there × (0 < held h.stand.left)
+Ends IsReading s h LongConnection = ReadsOut IsReading s h × (2 ^ 32 ≤ h.stand.fed)
+Ends IsReading s h ReadFault = ReadsOut IsReading s h × Rose s.reads h.reads
+Ends IsReading s h BadHead = IsRefused IsReading s h HeadBad
+Ends IsReading s h HeadTooLarge = IsRefused IsReading s h HeadLarge
+Ends IsReading s h BodyTooLarge = IsRefused IsReading s h BodyLarge
+Ends IsReading s h WriteFault = Parts IsReading s h × Rose s.writes h.writes
+Ends IsReading s h OutOfMemory = Talks IsReading s h Goes ⊎ LacksLast IsReading s h
 
 -- it goes on, or ends
-abbrev pub TurnsTo : Start → Here → Option Ending → Type 0
-TurnsTo s h None = Talks s h Goes
-TurnsTo s h (Some ending) = Ends s h ending
+abbrev pub TurnsTo : (ℕ → Type 0) → Start → Here → Option Ending → Type 0
+TurnsTo IsReading s h None = Talks IsReading s h Goes
+TurnsTo IsReading s h (Some ending) = Ends IsReading s h ending
 
-abbrev pub Turns : Here → Option Ending → Here → Type 0
-Turns old ending new = (s : Start) → Talks s old Goes → TurnsTo s new ending
+abbrev pub Turns : (ℕ → Type 0) → Access → Here → Option Ending → Here → Type 0
+Turns IsReading access old ending new = (s : Start) → s.access ≡ access → Talks IsReading s old Goes → TurnsTo IsReading s new ending
 
 -- how it goes on after a response
 abbrev pub ending_of : Turn → Option Ending

@@ -1,4 +1,4 @@
--- The entries of a pass's own calls, and those of a receive that waits.
+-- The entries of a pass's own calls, and those of a receive that waits. `IsReading` holds of what a clock may read.
 use Rattle.std.specs.Prelude.{◌≡◌, ℕ, ◌+◌, ◌≤◌, ◌<◌, List, [], ◌∷◌, ◌++◌, Bool, true, false, Option, Result, Ok}
 use Rattle.sb_machine.specs.declared.call.Call.{Call}
 use Rattle.sb_machine.specs.declared.history.Entry.{Entry}
@@ -8,6 +8,7 @@ use Rattle.sb_machine.specs.declared.reply.Refusal.{Refusal}
 use Rattle.sb_machine.specs.declared.reply.Reply.TheVariants.{Empty}
 use Rattle.sb_desk.specs.Desks.{Sitting}
 use Rattle.sb_desk.specs.Entries.{made_by, entries_by}
+use Rattle.sb_desk.specs.Lists.{Each}
 
 -- ---- calls at a pass
 
@@ -44,23 +45,28 @@ abbrev pub AreEmpty : ℕ → List Round → Type 0
 AreEmpty end [] = Unit {0}
 AreEmpty end (r ∷ rs) = (is_empty r.answer ≡ true) × (r.reading < end) × AreEmpty end rs
 
+-- each was made at a reading of the clock
+abbrev pub AreRead : (ℕ → Type 0) → List Round → Type 0
+AreRead IsReading rs = Each (λ r. IsReading r.reading) rs
+
 abbrev pub first_reading : List Round → Round → ℕ
 first_reading [] last = last.reading
 first_reading (r ∷ rs) last = r.reading
 
 -- These are its entries, and this is its answer, that of the last call. Each call before found nothing and was
 -- made before the limit, in ms, had passed since the first reading; where the last one found nothing either, it
--- had passed.
-pub record Waits (seat : ℕ) (call : Call) (limit : ℕ) (made : List Entry) (answer : Result Answered Refusal) : Type 0 where
+-- had passed. Each was made at a reading of the clock.
+pub record Waits (IsReading : ℕ → Type 0) (seat : ℕ) (call : Call) (limit : ℕ) (made : List Entry) (answer : Result Answered Refusal) : Type 0 where
   pub before : List Round
   pub last : Round
   pub made_is : made ≡ rounds_made seat call before ++ round_made seat call last
   pub empty : AreEmpty (first_reading before last + limit) before
   pub answer_is : answer ≡ last.answer
   pub until : is_empty answer ≡ true → first_reading before last + limit ≤ last.reading
+  pub read : AreRead IsReading (before ++ last ∷ [])
 
 -- a receive that waits, so far
-pub record Waiting (pass : Sitting) (call : Call) (limit first now : ℕ) (answer : Result Answered Refusal) (new : Sitting) : Type 0 where
+pub record Waiting (IsReading : ℕ → Type 0) (pass : Sitting) (call : Call) (limit first now : ℕ) (answer : Result Answered Refusal) (new : Sitting) : Type 0 where
   pub before : List Round
   pub last : Round
   pub goes : GoesBy pass (rounds_made pass.seat call before ++ round_made pass.seat call last) new
@@ -68,3 +74,4 @@ pub record Waiting (pass : Sitting) (call : Call) (limit first now : ℕ) (answe
   pub answer_is : answer ≡ last.answer
   pub reading_is : now ≡ last.reading
   pub first_is : first ≡ first_reading before last
+  pub read : AreRead IsReading (before ++ last ∷ [])

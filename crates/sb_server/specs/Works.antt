@@ -7,6 +7,7 @@ use Rattle.sb_desk.specs.Desks.{Sitting}
 use Rattle.sb_desk.specs.Lists.{Each}
 use Rattle.sb_outside.specs.Causes.{Rose}
 use Rattle.sb_outside.specs.Streams.{Gains}
+use Rattle.sb_rest.specs.declared.access.Access.{Access}
 use Rattle.sb_server.specs.declared.ending.Ending.{Ending}
 use Rattle.sb_server.specs.declared.ending.Ending.TheVariants.{Closed, BadHead, HeadTooLarge, BodyTooLarge, Truncated, LongConnection, ReadFault, WriteFault, Stopped as NodeStopped, OutOfMemory as NoMemory}
 use Rattle.sb_server.specs.declared.work.Stop.{Stop}
@@ -20,10 +21,10 @@ pub record Visit (X : Type 0) : Type 0 where
   pub after : X
   pub ending : Ending
 
--- the connection was served with this pass
-abbrev pub ServesBy : {X : Type 0} → (X → Option (List ℕ)) → (X → Option (List ℕ)) → (X → ℕ) → (X → ℕ) → Sitting → Visit X → Sitting → Type 0
-ServesBy there given reads writes p v q = (stand : Stand)
-    × Ends (record { pass = p; there = there v.before; given = given v.before; reads = reads v.before; writes = writes v.before })
+-- the connection was served with this pass, by a clock that may read what `IsReading` holds of
+abbrev pub ServesBy : {X : Type 0} → (ℕ → Type 0) → Access → (X → Option (List ℕ)) → (X → Option (List ℕ)) → (X → ℕ) → (X → ℕ) → Sitting → Visit X → Sitting → Type 0
+ServesBy IsReading access there given reads writes p v q = (stand : Stand)
+    × Ends IsReading (record { access = access; pass = p; there = there v.before; given = given v.before; reads = reads v.before; writes = writes v.before })
     (record { pass = q; stand = stand; written = given v.after; reads = reads v.after; writes = writes v.after }) v.ending
 
 abbrev pub Worked : {X : Type 0} → (Sitting → Visit X → Sitting → Type 0) → Sitting → List (Visit X) → Sitting → Type 0

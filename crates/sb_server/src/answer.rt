@@ -48,7 +48,7 @@ pub(crate) fn answer<V: Served, R: Wait, C: Clock>(
 ) -> (Pass, Written)
     requires desk { IsOf desk.now pass }
     requires order { responds.IsInOrder ask }
-    ensures answers { responds.Answers pass ask closes result.0 result.1 }
+    ensures answers { responds.Answers (C.reads clock.now) pass ask closes result.0 result.1 }
     ensures desk { IsOf desk.now result.0 }
 {
     match ask {
@@ -79,7 +79,7 @@ fn answer_once<V: Served, R: Wait, C: Clock>(
 ) -> (Pass, Written)
     requires desk { IsOf desk.now pass }
     requires order { IsActInOrder wanted.call.act }
-    ensures answers { responds.Answers pass (Once wanted host) closes result.0 result.1 }
+    ensures answers { responds.Answers (C.reads clock.now) pass (Once wanted host) closes result.0 result.1 }
     ensures desk { IsOf desk.now result.0 }
 {
     let (pass, answer) = call_once(rt, desk, pass, clock.now(), &wanted.call);
@@ -104,7 +104,7 @@ fn answer_patient<V: Served, R: Wait, C: Clock>(
 ) -> (Pass, Written)
     requires desk { IsOf desk.now pass }
     requires order { IsActInOrder wanted.call.act }
-    ensures answers { responds.Answers pass (Patient wanted host limit_ms) closes result.0 result.1 }
+    ensures answers { responds.Answers (C.reads clock.now) pass (Patient wanted host limit_ms) closes result.0 result.1 }
     ensures desk { IsOf desk.now result.0 }
 {
     let (pass, answer) = receive_waiting(rt, desk, pass, clock, limit_ms, &wanted.call);
@@ -127,7 +127,7 @@ fn answer_line<V: Served, R: Wait, C: Clock>(
 ) -> (Pass, Written)
     requires desk { IsOf desk.now pass }
     requires order { IsActInOrder line.timed.call.act }
-    ensures answers { responds.Answers pass (Line line) closes result.0 result.1 }
+    ensures answers { responds.Answers (C.reads clock.now) pass (Line line) closes result.0 result.1 }
     ensures desk { IsOf desk.now result.0 }
 {
     let (pass, answer) = call_once(rt, desk, pass, clock.now(), &line.timed.call);

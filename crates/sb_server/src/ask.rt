@@ -12,7 +12,7 @@ use sb_lines::{LineFault, read_line};
 use sb_machine::{Act, Answer, Call, Refusal};
 use sb_model::Text;
 use sb_outside::Bytes;
-use sb_rest::{RestFault, Wanted, call_of, host_of};
+use sb_rest::{Access, RestFault, Wanted, call_of, host_of};
 use sb_routes::Routes;
 use std::alloc::Global;
 
@@ -45,14 +45,17 @@ pub enum Ask {
 }
 
 /// What a request asks for. Where there is no memory to tell, that is a fault.
-pub(crate) fn ask_of(alloc: Global, routes: &Routes, request: &Request) -> Ask
-    ensures { asks.AsksFor (said_by request.now) result }
+pub(crate) fn ask_of(alloc: Global, routes: &Routes, access: &Access, request: &Request) -> Ask
+    ensures { asks.AsksFor access.now (said_by request.now) result }
 {
-    match call_of(alloc, routes, request) {
-        Ok(wanted) => called(alloc, request, wanted),
-        Err(RestFault::Script) => line_ask(alloc, request),
+    match call_of(alloc, routes, access, request) {
+        Ok(wanted) => called(alloc, access, request, wanted),
+        Err(RestFault::Script) => line_ask(alloc, access, request),
         Err(RestFault::Foreign) => Ask::Fault {
             fault: RestFault::Foreign,
+        },
+        Err(RestFault::NoKey) => Ask::Fault {
+            fault: RestFault::NoKey,
         },
         Err(RestFault::NoRoute) => Ask::Fault {
             fault: RestFault::NoRoute,
@@ -90,10 +93,10 @@ fn waits(call: &Call) -> bool
 }
 
 // A call that may wait.
-fn called(alloc: Global, request: &Request, wanted: Wanted) -> Ask
-    requires said { call_of (said_by request.now) ≡ Ok wanted }
+fn called(alloc: Global, access: &Access, request: &Request, wanted: Wanted) -> Ask
+    requires said { call_of access.now (said_by request.now) ≡ Ok wanted }
     requires in_order { IsActInOrder wanted.call.act }
-    ensures { asks.AsksFor (said_by request.now) result }
+    ensures { asks.AsksFor access.now (said_by request.now) result }
 {
     let Ok(host) = Bytes::of(alloc, host_of(request)) else {
         drop(wanted);
@@ -113,9 +116,9 @@ fn called(alloc: Global, request: &Request, wanted: Wanted) -> Ask
 }
 
 // A body as a script line.
-fn line_ask(alloc: Global, request: &Request) -> Ask
-    requires { call_of (said_by request.now) ≡ Err Script }
-    ensures { asks.AsksFor (said_by request.now) result }
+fn line_ask(alloc: Global, access: &Access, request: &Request) -> Ask
+    requires { call_of access.now (said_by request.now) ≡ Err Script }
+    ensures { asks.AsksFor access.now (said_by request.now) result }
 {
     match line_in(alloc, request.body) {
         Ok(line) => Ask::Line { line },

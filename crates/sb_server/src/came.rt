@@ -5,6 +5,7 @@ use crate::ask::{Ask, ask_of};
 use crate::ending::Ending;
 use crate::head::closes;
 use sb_http::{HttpFault, Incoming};
+use sb_rest::Access;
 use sb_routes::Routes;
 use std::alloc::Global;
 
@@ -26,12 +27,17 @@ pub(crate) enum Came {
 }
 
 /// Takes the next request, where it is whole.
-pub(crate) fn take_one(alloc: Global, routes: &Routes, incoming: &mut Incoming) -> Took
-    ensures { TookOf incoming.old.left result incoming.new.left }
+pub(crate) fn take_one(
+    alloc: Global,
+    routes: &Routes,
+    access: &Access,
+    incoming: &mut Incoming,
+) -> Took
+    ensures { TookOf access.now incoming.old.left result incoming.new.left }
 {
     match incoming.next_request() {
         Ok(Some(request)) => {
-            let ask = ask_of(alloc, routes, &request);
+            let ask = ask_of(alloc, routes, access, &request);
             let closes = closes(&request);
             Took::One(ask, closes)
         }

@@ -13,6 +13,7 @@ use crate::inbox::Inbox;
 use sb_desk::{Desk, Pass, Served};
 use sb_http::{HttpFault, Response, Status, write_response};
 use sb_outside::{Clock, Conn, WriteFault};
+use sb_rest::Access;
 use sb_routes::Routes;
 use std::alloc::{AllocError, Global};
 use std::sync::Wait;
@@ -23,13 +24,14 @@ pub fn serve_connection<V: Served, R: Wait, C: Clock, N: Conn>(
     rt: &R,
     alloc: Global,
     routes: &Routes,
+    access: &Access,
     desk: &Desk<V>,
     pass: Pass,
     clock: &C,
     conn: &mut N,
 ) -> (Pass, Ending)
     requires { IsOf desk.now pass }
-    ensures ends { (stand : Stand) × talks.Ends (record { pass = pass; there = N.left conn.old; given = N.given conn.old; reads = N.reads conn.old; writes = N.writes conn.old })
+    ensures ends { (stand : Stand) × talks.Ends (C.reads clock.now) (record { access = access.now; pass = pass; there = N.left conn.old; given = N.given conn.old; reads = N.reads conn.old; writes = N.writes conn.old })
         (record { pass = result.0; stand = stand; written = N.given conn.new; reads = N.reads conn.new; writes = N.writes conn.new }) result.1 }
     ensures desk { IsOf desk.now result.0 }
 {
@@ -38,7 +40,7 @@ pub fn serve_connection<V: Served, R: Wait, C: Clock, N: Conn>(
     };
     let mut current = pass;
     for _ in rt.forever() {
-        let (next, ends) = turn(rt, alloc, routes, desk, current, clock, conn, &mut inbox);
+        let (next, ends) = turn(rt, alloc, routes, access, desk, current, clock, conn, &mut inbox);
         current = next;
         if let Some(ending) = ends {
             return (current, ending);
@@ -52,6 +54,7 @@ fn turn<V: Served, R: Wait, C: Clock, N: Conn>(
     rt: &R,
     alloc: Global,
     routes: &Routes,
+    access: &Access,
     desk: &Desk<V>,
     pass: Pass,
     clock: &C,
@@ -59,11 +62,11 @@ fn turn<V: Served, R: Wait, C: Clock, N: Conn>(
     inbox: &mut Inbox,
 ) -> (Pass, Option<Ending>)
     requires { IsOf desk.now pass }
-    ensures turns { talks.Turns (record { pass = pass; stand = stand_of inbox.old (N.left conn.old); written = N.given conn.old; reads = N.reads conn.old; writes = N.writes conn.old }) result.1
+    ensures turns { talks.Turns (C.reads clock.now) access.now (record { pass = pass; stand = stand_of inbox.old (N.left conn.old); written = N.given conn.old; reads = N.reads conn.old; writes = N.writes conn.old }) result.1
         (record { pass = result.0; stand = stand_of inbox.new (N.left conn.new); written = N.given conn.new; reads = N.reads conn.new; writes = N.writes conn.new }) }
     ensures desk { IsOf desk.now result.0 }
 {
-    match inbox.next(rt, alloc, routes, conn) {
+    match inbox.next(rt, alloc, routes, access, conn) {
         Came::Asked(ask, closes) => {
             let (pass, written) = answer(rt, alloc, desk, pass, clock, ask, closes);
             let Written { bytes, turn } = written;

@@ -5,6 +5,7 @@ use crate::came::{Came, Took, take_one};
 use crate::ending::Ending;
 use sb_http::Incoming;
 use sb_outside::Conn;
+use sb_rest::Access;
 use sb_routes::Routes;
 use std::alloc::{AllocError, Global};
 use std::sync::Wait;
@@ -64,15 +65,16 @@ impl Inbox {
         rt: &R,
         alloc: Global,
         routes: &Routes,
+        access: &Access,
         conn: &mut N,
     ) -> Came
-        ensures comes { Comes (stand_of self.old (N.left conn.old)) result (stand_of self.new (N.left conn.new)) (N.reads conn.old) (N.reads conn.new) }
+        ensures comes { Comes access.now (stand_of self.old (N.left conn.old)) result (stand_of self.new (N.left conn.new)) (N.reads conn.old) (N.reads conn.new) }
         ensures given { N.given conn.new ≡ N.given conn.old }
         ensures later { N.reads conn.old ≤ N.reads conn.new }
         ensures writes { N.writes conn.new ≡ N.writes conn.old }
     {
         for _ in rt.forever() {
-            match take_one(alloc, routes, &mut self.incoming) {
+            match take_one(alloc, routes, access, &mut self.incoming) {
                 Took::One(ask, closes) => return Came::Asked(ask, closes),
                 Took::Fault(fault) => return Came::Refused(fault),
                 Took::NoneYet => {}

@@ -9,7 +9,8 @@
 //!
 //! ```text
 //! let routes = Routes::new(alloc)?;
-//! let (pass, ending) = serve_connection(&rt, alloc, &routes, &desk, pass, &clock, &mut conn);
+//! let access = Access::unlocked(alloc);
+//! let (pass, ending) = serve_connection(&rt, alloc, &routes, &access, &desk, pass, &clock, &mut conn);
 //! ```
 #![tactic(auto)]
 
@@ -22,6 +23,7 @@ mod ending;
 mod head;
 mod inbox;
 mod job;
+mod laws;
 mod waiting;
 mod work;
 mod worked;
@@ -29,6 +31,7 @@ mod worked;
 pub use connection::serve_connection;
 pub use doors::serve;
 pub use ending::{Ending, ServeEnding};
+pub use laws::unwelcome_makes_no_entry;
 pub use waiting::receive_waiting;
 pub use work::{Stop, serve_door};
 pub use worked::worked_connections;

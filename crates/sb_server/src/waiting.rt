@@ -25,7 +25,7 @@ pub fn receive_waiting<V: Served, R: Wait, C: Clock>(
 ) -> (Pass, Answer)
     requires desk { IsOf desk.now pass }
     requires order { IsActInOrder call.now.act }
-    ensures waits { (made : List Entry) × GoesBy pass made result.0 × Waits pass.seat call.now limit made result.1 }
+    ensures waits { (made : List Entry) × GoesBy pass made result.0 × Waits (C.reads clock.now) pass.seat call.now limit made result.1 }
     ensures legal { HasLegal result.0 }
     ensures desk { IsOf desk.now result.0 }
 {

@@ -7,6 +7,7 @@ use crate::connection::serve_connection;
 use crate::ending::Ending;
 use sb_desk::{Desk, Pass, Served};
 use sb_outside::{Clock, Door};
+use sb_rest::Access;
 use sb_routes::Routes;
 use std::alloc::Global;
 use std::sync::Wait;
@@ -31,6 +32,7 @@ pub fn serve_door<V: Served, R: Wait, C: Clock, D: Door>(
     rt: &R,
     alloc: Global,
     routes: &Routes,
+    access: &Access,
     desk: &Desk<V>,
     pass: Pass,
     clock: &C,
@@ -38,14 +40,14 @@ pub fn serve_door<V: Served, R: Wait, C: Clock, D: Door>(
     most: u64,
 ) -> (Pass, Stop)
     requires { IsOf desk.now pass }
-    ensures works { (vs : List (Visit D.Conn)) × Works (ServesBy D.Conn.left D.Conn.given D.Conn.reads D.Conn.writes) pass (D.left door.old) (D.taken door.old) result.0 (D.left door.new) (D.taken door.new) vs
+    ensures works { (vs : List (Visit D.Conn)) × Works (ServesBy (C.reads clock.now) access.now D.Conn.left D.Conn.given D.Conn.reads D.Conn.writes) pass (D.left door.old) (D.taken door.old) result.0 (D.left door.new) (D.taken door.new) vs
         × StopsBy result.1 most vs (D.ended door.new) (D.count door.old) (D.count door.new) }
     ensures out { D.out door.new ≡ D.out door.old }
     ensures desk { IsOf desk.now result.0 }
 {
     let mut current = pass;
     for _ in 0..most {
-        let (next, stop) = serve_next(rt, alloc, routes, desk, current, clock, door);
+        let (next, stop) = serve_next(rt, alloc, routes, access, desk, current, clock, door);
         current = next;
         if let Some(stop) = stop {
             return (current, stop);
@@ -59,13 +61,14 @@ fn serve_next<V: Served, R: Wait, C: Clock, D: Door>(
     rt: &R,
     alloc: Global,
     routes: &Routes,
+    access: &Access,
     desk: &Desk<V>,
     pass: Pass,
     clock: &C,
     door: &mut D,
 ) -> (Pass, Option<Stop>)
     requires { IsOf desk.now pass }
-    ensures works { (vs : List (Visit D.Conn)) × Works (ServesBy D.Conn.left D.Conn.given D.Conn.reads D.Conn.writes) pass (D.left door.old) (D.taken door.old) result.0 (D.left door.new) (D.taken door.new) vs
+    ensures works { (vs : List (Visit D.Conn)) × Works (ServesBy (C.reads clock.now) access.now D.Conn.left D.Conn.given D.Conn.reads D.Conn.writes) pass (D.left door.old) (D.taken door.old) result.0 (D.left door.new) (D.taken door.new) vs
         × MayStopBy result.1 vs (D.ended door.new) (D.count door.old) (D.count door.new) }
     ensures out { D.out door.new ≡ D.out door.old }
     ensures desk { IsOf desk.now result.0 }
@@ -77,7 +80,7 @@ fn serve_next<V: Served, R: Wait, C: Clock, D: Door>(
         return (pass, Some(Stop::Ended));
     };
     let mut conn = conn;
-    let (pass, ending) = serve_connection(rt, alloc, routes, desk, pass, clock, &mut conn);
+    let (pass, ending) = serve_connection(rt, alloc, routes, access, desk, pass, clock, &mut conn);
     door.done(conn);
     (pass, stop_of(ending))
 }

@@ -17,6 +17,7 @@ fn status_lines(rt: HostRuntime) -> Result<(), Fail> {
         (Status::Created, "201 Created"),
         (Status::NoContent, "204 No Content"),
         (Status::BadRequest, "400 Bad Request"),
+        (Status::Unauthorized, "401 Unauthorized"),
         (Status::Forbidden, "403 Forbidden"),
         (Status::NotFound, "404 Not Found"),
         (Status::MethodNotAllowed, "405 Method Not Allowed"),

@@ -7,7 +7,7 @@ use Rattle.sb_server.proofs.doors.serve_doors.Goals as goal
 
 pub returns : goal.returns
 returns g c = λ i d lt.
-    let Does : Worker g.row.D.Denot → Type 0 = Working (ServesBy g.D.Conn.Conn.left g.D.Conn.Conn.given g.D.Conn.Conn.reads g.D.Conn.Conn.writes) g.D.Door.left g.D.Door.taken g.D.Door.ended g.D.Door.count g.D.Door.out c.args.desk.now c.args.most in
+    let Does : Worker g.row.D.Denot → Type 0 = Working (ServesBy (g.C.Clock.reads c.args.clock.now) c.args.access.now g.D.Conn.Conn.left g.D.Conn.Conn.given g.D.Conn.Conn.reads g.D.Conn.Conn.writes) g.D.Door.left g.D.Door.taken g.D.Door.ended g.D.Door.count g.D.Door.out c.args.desk.now c.args.most in
     let changes = c.for_each_mut.ensures i d lt in
     let call = changes.1.call in
     let did : Did Does changes.1.argument.now changes.1.after_call.now = search rules in

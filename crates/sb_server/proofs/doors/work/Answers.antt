@@ -7,7 +7,7 @@ pub returns : goal.returns
 returns g c =
     let worker : Worker g.row.D.Denot = record { pass = c.in-Some.pass; door = c.args.job.now.door; pass_after = c.serve_door-pass.result.0; door_after = c.serve_door-pass.new.door; stop = c.serve_door-pass.result.1 } in
     let did = c.serve_door-pass.ensures.works in
-    let stopped = stopped_seen (g.D.Conn.Conn.left) (g.D.Conn.Conn.given) (g.D.Conn.Conn.reads) (g.D.Conn.Conn.writes) worker.pass worker.pass_after did.0 worker.stop c.args.most (g.D.Door.ended worker.door_after) (g.D.Door.count worker.door) (g.D.Door.count worker.door_after) did.1.worked did.2 in
+    let stopped = stopped_seen (g.C.Clock.reads c.args.clock.now) c.args.access.now (g.D.Conn.Conn.left) (g.D.Conn.Conn.given) (g.D.Conn.Conn.reads) (g.D.Conn.Conn.writes) worker.pass worker.pass_after did.0 worker.stop c.args.most (g.D.Door.ended worker.door_after) (g.D.Door.count worker.door) (g.D.Door.count worker.door_after) did.1.worked did.2 in
     record {
       worker = worker;
       had = sym c.take.ensures.value ∙ c.in-Some.is;

@@ -6,15 +6,15 @@ pub loop-init : goal.loop-init
 loop-init g c = record {
   desk = c.call_once-current.ensures.desk;
   legal = c.call_once-current.ensures.legal;
-  waiting = waiting_first _ _ _ _ _ _ c.call_once-current.ensures.goes;
+  waiting = waiting_first (g.C.Clock.reads c.args.clock.now) _ _ _ _ _ _ c.call_once-current.ensures.goes c.now-first.ensures;
 }
 
 pub loop-preserved : goal.loop-preserved
 loop-preserved g c = record {
   desk = c.call_once-next.ensures.desk;
   legal = c.call_once-next.ensures.legal;
-  waiting = waiting_next _ _ _ _ _ _ _ _ _ _ c.loop.invariant.waiting (search rules) c.call_once-next.ensures.goes;
+  waiting = waiting_next (g.C.Clock.reads c.args.clock.now) _ _ _ _ _ _ _ _ _ _ c.loop.invariant.waiting (search rules) c.call_once-next.ensures.goes c.now-now.ensures;
 }
 
 pub returns-clause-waits : goal.returns-clause-waits
-returns-clause-waits g c = waiting_done _ _ _ _ _ _ _ c.loop.invariant.waiting (search rules)
+returns-clause-waits g c = waiting_done (g.C.Clock.reads c.args.clock.now) _ _ _ _ _ _ _ c.loop.invariant.waiting (search rules)

@@ -6,5 +6,5 @@ abbrev pub invariant-loop : goal.invariant-loop
 invariant-loop g l = record {
   desk : IsOf l.desk l.current;
   legal : HasLegal l.current;
-  waiting : Waiting l.fn.pass l.call l.limit l.first l.now l.answer l.current;
+  waiting : Waiting (g.C.Clock.reads l.clock) l.fn.pass l.call l.limit l.first l.now l.answer l.current;
 }
