@@ -106,8 +106,8 @@ no_line_goes said NoMemory r = refl
 no_line_goes said _ r = absurd r
 
 answer_stops : (IsReading : ℕ → Type 0) (access : Access) (seat : ℕ) (m : RequestMessage) (ask : Ask) (closes : Bool) (made : List Entry) (out : List ℕ) → AsksFor access m ask → RespondsTo IsReading seat ask closes made out Stops → list_any is_stop made ≡ true
-answer_stops IsReading access seat m (Once w host) closes made out a r = one_stops IsReading seat w.call made r.0 r.1 (turn_stops closes (stops r.0) r.3)
-answer_stops IsReading access seat m (Patient w host limit) closes made out a r = waits_stops IsReading seat w.call limit made r.0 r.1 (turn_stops closes (stops r.0) r.3)
+answer_stops IsReading access seat m (Once w asker) closes made out a r = one_stops IsReading seat w.call made r.0 r.1 (turn_stops closes (stops r.0) r.3)
+answer_stops IsReading access seat m (Patient w asker limit) closes made out a r = waits_stops IsReading seat w.call limit made r.0 r.1 (turn_stops closes (stops r.0) r.3)
 answer_stops IsReading access seat m (Line line) closes made out a r = one_stops IsReading seat line.timed.call made r.0 r.1 (turn_stops closes (stops r.0) r.3)
 answer_stops IsReading access seat m (BadLine (Ok reply)) closes made out a r = absurd a.1
 answer_stops IsReading access seat m (BadLine (Err refusal)) closes made out a r =

@@ -17,6 +17,7 @@ use Rattle.sb_server.specs.declared.answer.Turn.{Turn}
 use Rattle.sb_server.specs.declared.answer.Turn.TheVariants.{Goes, Closes, Stops}
 use Rattle.sb_server.specs.declared.answer.Written.{Written}
 use Rattle.sb_server.specs.declared.ask.Ask.{Ask}
+use Rattle.sb_server.specs.declared.ask.OwnedAsker.{OwnedAsker}
 use Rattle.sb_server.specs.declared.ask.Ask.TheVariants.{Once, Patient, Line, BadLine, Fault}
 use Rattle.sb_server.specs.Asks.{AsksFor}
 use Rattle.sb_server.specs.Responds.{IsInOrder, IsOne, AnswersCall, Acts, Answers, RespondsTo, Responds, Responded, IsLast, turn_of, line_bytes, fault_bytes}
@@ -25,8 +26,8 @@ use Rattle.sb_server.proofs.Going.{goes_by_none}
 
 -- what a request asks for is in order
 pub asks_in_order : (access : Access) (m : RequestMessage) (ask : Ask) → AsksFor access m ask → IsInOrder ask
-asks_in_order access m (Once w host) x = x.in_order
-asks_in_order access m (Patient w host limit) x = x.0.in_order
+asks_in_order access m (Once w asker) x = x.in_order
+asks_in_order access m (Patient w asker limit) x = x.0.in_order
 asks_in_order access m (Line line) x = x.1.1
 asks_in_order access m (BadLine answer) x = tt
 asks_in_order access m (Fault fault) x = tt
@@ -92,13 +93,13 @@ fault_answers IsReading pass ask closes fault w is bytes turn =
 
 -- ---- calls
 
-pub once_answers : (IsReading : ℕ → Type 0) (pass new : Sitting) (w : Wanted) (host : List ℕ) (closes : Bool) (answer : Result Answered Refusal) (reading : ℕ) (written : Written)
-    → GoesByCall pass reading w.call answer new → IsReading reading → IfOk written.bytes (λ v. AnswersCall w.call answer host closes v.items) → written.turn ≡ turn_of closes (stops answer)
-    → Answers IsReading pass (Once w host) closes new written
-once_answers IsReading pass new w host closes answer reading written goes here bytes turn =
+pub once_answers : (IsReading : ℕ → Type 0) (pass new : Sitting) (w : Wanted) (asker : OwnedAsker) (closes : Bool) (answer : Result Answered Refusal) (reading : ℕ) (written : Written)
+    → GoesByCall pass reading w.call answer new → IsReading reading → IfOk written.bytes (λ v. AnswersCall w.call answer asker closes v.items) → written.turn ≡ turn_of closes (stops answer)
+    → Answers IsReading pass (Once w asker) closes new written
+once_answers IsReading pass new w asker closes answer reading written goes here bytes turn =
     let made : List Entry = made_by pass.seat goes.0 reading w.call answer in
     let one : IsOne IsReading pass.seat w.call made answer = (goes.0, reading, here, refl) in
-    let both = gives written.bytes (λ v. AnswersCall w.call answer host closes v.items) (λ v. RespondsTo IsReading pass.seat (Once w host) closes made v.items written.turn) (Acts IsReading pass.seat (Once w host) made) bytes
+    let both = gives written.bytes (λ v. AnswersCall w.call answer asker closes v.items) (λ v. RespondsTo IsReading pass.seat (Once w asker) closes made v.items written.turn) (Acts IsReading pass.seat (Once w asker) made) bytes
     (λ v out. (answer, one, out, turn)) (answer, one) in
     (made, goes.1, both.0, both.1)
 
@@ -112,10 +113,10 @@ line_answers IsReading pass new line closes answer reading written goes here byt
     (λ v out. (answer, one, out, turn)) (answer, one) in
     (made, goes.1, both.0, both.1)
 
-pub patient_answers : (IsReading : ℕ → Type 0) (pass new : Sitting) (w : Wanted) (host : List ℕ) (limit : ℕ) (closes : Bool) (answer : Result Answered Refusal) (written : Written)
-    → ((made : List Entry) × GoesBy pass made new × Waits IsReading pass.seat w.call limit made answer) → IfOk written.bytes (λ v. AnswersCall w.call answer host closes v.items) → written.turn ≡ turn_of closes (stops answer)
-    → Answers IsReading pass (Patient w host limit) closes new written
-patient_answers IsReading pass new w host limit closes answer written waits bytes turn =
-    let both = gives written.bytes (λ v. AnswersCall w.call answer host closes v.items) (λ v. RespondsTo IsReading pass.seat (Patient w host limit) closes waits.0 v.items written.turn) (Acts IsReading pass.seat (Patient w host limit) waits.0) bytes
+pub patient_answers : (IsReading : ℕ → Type 0) (pass new : Sitting) (w : Wanted) (asker : OwnedAsker) (limit : ℕ) (closes : Bool) (answer : Result Answered Refusal) (written : Written)
+    → ((made : List Entry) × GoesBy pass made new × Waits IsReading pass.seat w.call limit made answer) → IfOk written.bytes (λ v. AnswersCall w.call answer asker closes v.items) → written.turn ≡ turn_of closes (stops answer)
+    → Answers IsReading pass (Patient w asker limit) closes new written
+patient_answers IsReading pass new w asker limit closes answer written waits bytes turn =
+    let both = gives written.bytes (λ v. AnswersCall w.call answer asker closes v.items) (λ v. RespondsTo IsReading pass.seat (Patient w asker limit) closes waits.0 v.items written.turn) (Acts IsReading pass.seat (Patient w asker limit) waits.0) bytes
     (λ v out. (answer, waits.2, out, turn)) (answer, waits.2) in
     (waits.0, waits.1, both.0, both.1)

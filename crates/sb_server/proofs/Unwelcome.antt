@@ -36,16 +36,16 @@ none_called : (access : Access) (m : RequestMessage) → IsUnwelcome access m �
 none_called access m u = none_by (is_foreign access m.head.fields) (has_key access m.head.fields) (routed m) u
 
 pub acts_none : (IsReading : ℕ → Type 0) (access : Access) (seat : ℕ) (m : RequestMessage) (ask : Ask) (made : List Entry) → IsUnwelcome access m → AsksFor access m ask → Acts IsReading seat ask made → made ≡ []
-acts_none IsReading access seat m (Once w host) made u a acts = absurd (subst IsNone a.call (none_called access m u))
-acts_none IsReading access seat m (Patient w host limit) made u a acts = absurd (subst IsNone a.0.call (none_called access m u))
+acts_none IsReading access seat m (Once w asker) made u a acts = absurd (subst IsNone a.call (none_called access m u))
+acts_none IsReading access seat m (Patient w asker limit) made u a acts = absurd (subst IsNone a.0.call (none_called access m u))
 acts_none IsReading access seat m (Line timed) made u a acts = absurd (subst IsNone a.0 (none_called access m u))
 acts_none IsReading access seat m (BadLine answer) made u a acts = acts
 acts_none IsReading access seat m (Fault fault) made u a acts = acts
 
 pub responds_none : (IsReading : ℕ → Type 0) (access : Access) (seat : ℕ) (m : RequestMessage) (ask : Ask) (closes : Bool) (made : List Entry) (out : List ℕ) (turn : Turn)
     → IsUnwelcome access m → AsksFor access m ask → RespondsTo IsReading seat ask closes made out turn → made ≡ []
-responds_none IsReading access seat m (Once w host) closes made out turn u a r = absurd (subst IsNone a.call (none_called access m u))
-responds_none IsReading access seat m (Patient w host limit) closes made out turn u a r = absurd (subst IsNone a.0.call (none_called access m u))
+responds_none IsReading access seat m (Once w asker) closes made out turn u a r = absurd (subst IsNone a.call (none_called access m u))
+responds_none IsReading access seat m (Patient w asker limit) closes made out turn u a r = absurd (subst IsNone a.0.call (none_called access m u))
 responds_none IsReading access seat m (Line timed) closes made out turn u a r = absurd (subst IsNone a.0 (none_called access m u))
 responds_none IsReading access seat m (BadLine answer) closes made out turn u a r = r.0
 responds_none IsReading access seat m (Fault fault) closes made out turn u a r = r.0

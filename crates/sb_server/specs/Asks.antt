@@ -17,11 +17,13 @@ use Rattle.sb_lines.specs.declared.line.Line.{Line as ScriptLine}
 use Rattle.sb_rest.specs.Batches.{is_blank}
 use Rattle.sb_rest.specs.declared.access.Access.{Access}
 use Rattle.sb_rest.specs.Calls.{call_of}
+use Rattle.sb_rest.specs.Forms.{wants_json}
 use Rattle.sb_rest.specs.Responses.{host_in}
 use Rattle.sb_rest.specs.declared.call.RestFault.{RestFault}
 use Rattle.sb_rest.specs.declared.call.RestFault.TheVariants.{Foreign, NoKey, NoRoute, BadMethod, Bad, Script, OutOfMemory}
 use Rattle.sb_rest.specs.declared.call.Wanted.{Wanted}
 use Rattle.sb_server.specs.declared.ask.Ask.{Ask}
+use Rattle.sb_server.specs.declared.ask.OwnedAsker.{OwnedAsker}
 use Rattle.sb_server.specs.declared.ask.Ask.TheVariants.{Once, Patient, Line, BadLine, Fault}
 
 -- ---- the head
@@ -92,17 +94,18 @@ IsFault access (Bad key) m = call_of access m ≡ Err (Bad key)
 IsFault access Script m = ⊥
 IsFault access OutOfMemory m = Unit {0}
 
--- a call, the host that its request names, and whether it waits
-pub record IsCall (access : Access) (m : RequestMessage) (w : Wanted) (host : List ℕ) (is_patient : Bool) : Type 0 where
+-- a call, what its response has of who asks, and whether it waits
+pub record IsCall (access : Access) (m : RequestMessage) (w : Wanted) (asker : OwnedAsker) (is_patient : Bool) : Type 0 where
   pub call : call_of access m ≡ Ok w
   pub in_order : IsActInOrder w.call.act
-  pub host_is : host ≡ host_in m.head.fields
+  pub host_is : asker.host ≡ host_in m.head.fields
+  pub json_is : asker.json ≡ wants_json m.head.fields
   pub waits_is : waits w.call ≡ is_patient
 
 -- the request asks for this, of a server that answers these
 abbrev pub AsksFor : Access → RequestMessage → Ask → Type 0
-AsksFor access m (Once w host) = IsCall access m w host false
-AsksFor access m (Patient w host limit) = IsCall access m w host true × (limit ≡ ms_in w.timeout)
+AsksFor access m (Once w asker) = IsCall access m w asker false
+AsksFor access m (Patient w asker limit) = IsCall access m w asker true × (limit ≡ ms_in w.timeout)
 AsksFor access m (Line line) = (call_of access m ≡ Err Script) × Reads (line_in m.body) (Ok line)
 AsksFor access m (BadLine answer) = (call_of access m ≡ Err Script) × IsNoLine (line_in m.body) answer
 AsksFor access m (Fault fault) = IsFault access fault m

@@ -18,6 +18,7 @@ use Rattle.sb_rest.specs.Callers.{is_foreign, has_key}
 use Rattle.sb_rest.specs.Responses.{Gives, fault_response, line_response}
 use Rattle.sb_rest.specs.declared.call.RestFault.{RestFault}
 use Rattle.sb_server.specs.declared.ask.Ask.{Ask}
+use Rattle.sb_server.specs.declared.ask.OwnedAsker.{OwnedAsker}
 use Rattle.sb_server.specs.declared.ask.Ask.TheVariants.{Once, Patient, Line, BadLine, Fault}
 use Rattle.sb_server.specs.declared.answer.Turn.{Turn}
 use Rattle.sb_server.specs.declared.answer.Turn.TheVariants.{Goes, Closes, Stops}
@@ -40,8 +41,8 @@ abbrev pub closed : Bool → ResponseMessage → ResponseMessage
 closed closes said = record said { ends = said.ends || closes }
 
 -- the bytes of the response to a call
-abbrev pub AnswersCall : Call → Result Answered Refusal → List ℕ → Bool → List ℕ → Type 0
-AnswersCall call answer host closes out = (said : ResponseMessage) × Gives call.act answer host said × (out ≡ response_bytes (closed closes said))
+abbrev pub AnswersCall : Call → Result Answered Refusal → OwnedAsker → Bool → List ℕ → Type 0
+AnswersCall call answer asker closes out = (said : ResponseMessage) × Gives call.act answer asker.host asker.json said × (out ≡ response_bytes (closed closes said))
 
 -- the bytes of the response to a script line: the line of its reply in the form that it asks for, which ends the
 -- connection too where the namespace acts no more
@@ -53,18 +54,18 @@ fault_bytes fault closes = response_bytes (closed closes (fault_response fault))
 
 -- the lists of what it asks for are in order
 abbrev pub IsInOrder : Ask → Type 0
-IsInOrder (Once w host) = IsActInOrder w.call.act
-IsInOrder (Patient w host limit) = IsActInOrder w.call.act
+IsInOrder (Once w asker) = IsActInOrder w.call.act
+IsInOrder (Patient w asker limit) = IsActInOrder w.call.act
 IsInOrder (Line line) = IsActInOrder line.timed.call.act
 IsInOrder (BadLine answer) = Unit {0}
 IsInOrder (Fault fault) = Unit {0}
 
 -- this is the response, these are the entries of its calls, and so it goes on
 abbrev pub RespondsTo : (ℕ → Type 0) → ℕ → Ask → Bool → List Entry → List ℕ → Turn → Type 0
-RespondsTo IsReading seat (Once w host) closes made out turn =
-    (answer : Result Answered Refusal) × IsOne IsReading seat w.call made answer × AnswersCall w.call answer host closes out × (turn ≡ turn_of closes (stops answer))
-RespondsTo IsReading seat (Patient w host limit) closes made out turn =
-    (answer : Result Answered Refusal) × Waits IsReading seat w.call limit made answer × AnswersCall w.call answer host closes out × (turn ≡ turn_of closes (stops answer))
+RespondsTo IsReading seat (Once w asker) closes made out turn =
+    (answer : Result Answered Refusal) × IsOne IsReading seat w.call made answer × AnswersCall w.call answer asker closes out × (turn ≡ turn_of closes (stops answer))
+RespondsTo IsReading seat (Patient w asker limit) closes made out turn =
+    (answer : Result Answered Refusal) × Waits IsReading seat w.call limit made answer × AnswersCall w.call answer asker closes out × (turn ≡ turn_of closes (stops answer))
 RespondsTo IsReading seat (Line line) closes made out turn =
     (answer : Result Answered Refusal) × IsOne IsReading seat line.timed.call made answer × (out ≡ line_bytes line.form answer closes) × (turn ≡ turn_of closes (stops answer))
 RespondsTo IsReading seat (BadLine answer) closes made out turn = (made ≡ []) × (out ≡ line_bytes Plain answer closes) × (turn ≡ turn_of closes (stops answer))
@@ -72,8 +73,8 @@ RespondsTo IsReading seat (Fault fault) closes made out turn = (made ≡ []) × 
 
 -- these are the entries of its calls
 abbrev pub Acts : (ℕ → Type 0) → ℕ → Ask → List Entry → Type 0
-Acts IsReading seat (Once w host) made = (answer : Result Answered Refusal) × IsOne IsReading seat w.call made answer
-Acts IsReading seat (Patient w host limit) made = (answer : Result Answered Refusal) × Waits IsReading seat w.call limit made answer
+Acts IsReading seat (Once w asker) made = (answer : Result Answered Refusal) × IsOne IsReading seat w.call made answer
+Acts IsReading seat (Patient w asker limit) made = (answer : Result Answered Refusal) × Waits IsReading seat w.call limit made answer
 Acts IsReading seat (Line line) made = (answer : Result Answered Refusal) × IsOne IsReading seat line.timed.call made answer
 Acts IsReading seat (BadLine answer) made = made ≡ []
 Acts IsReading seat (Fault fault) made = made ≡ []

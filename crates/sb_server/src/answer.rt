@@ -7,14 +7,14 @@ ghost use Rattle.sb_http.specs.Responses.{said_in, response_bytes};
 ghost use Rattle.sb_server.specs.declared.ask.Ask.TheVariants.{Once, Patient, Line};
 ghost use Rattle.sb_server.specs.Responds as responds;
 
-use crate::ask::Ask;
+use crate::ask::{Ask, OwnedAsker};
 use crate::waiting::{call_once, receive_waiting};
 use sb_desk::{Desk, Pass, Served};
 use sb_http::{Response, write_response};
 use sb_lines::{Form, reply_line};
 use sb_machine::{Answer, Call, Refusal};
-use sb_outside::{Bytes, Clock};
-use sb_rest::{RestFault, Wanted, fault_response, line_response, response_of};
+use sb_outside::Clock;
+use sb_rest::{Asker, RestFault, Wanted, fault_response, line_response, response_of};
 use std::alloc::{AllocError, Global};
 use std::sync::Wait;
 
@@ -52,14 +52,16 @@ pub(crate) fn answer<V: Served, R: Wait, C: Clock>(
     ensures desk { IsOf desk.now result.0 }
 {
     match ask {
-        Ask::Once { wanted, host } => {
-            answer_once(rt, alloc, desk, pass, clock, wanted, host, closes)
+        Ask::Once { wanted, asker } => {
+            answer_once(rt, alloc, desk, pass, clock, wanted, asker, closes)
         }
         Ask::Patient {
             wanted,
-            host,
+            asker,
             limit_ms,
-        } => answer_patient(rt, alloc, desk, pass, clock, wanted, host, limit_ms, closes),
+        } => answer_patient(
+            rt, alloc, desk, pass, clock, wanted, asker, limit_ms, closes,
+        ),
         Ask::Line { line } => answer_line(rt, alloc, desk, pass, clock, line, closes),
         Ask::BadLine { answer } => (pass, write_line(alloc, Form::Plain, answer, closes)),
         Ask::Fault { fault } => (pass, write_fault(alloc, fault, closes)),
@@ -74,16 +76,16 @@ fn answer_once<V: Served, R: Wait, C: Clock>(
     pass: Pass,
     clock: &C,
     wanted: Wanted,
-    host: Bytes,
+    asker: OwnedAsker,
     closes: bool,
 ) -> (Pass, Written)
     requires desk { IsOf desk.now pass }
     requires order { IsActInOrder wanted.call.act }
-    ensures answers { responds.Answers (C.reads clock.now) pass (Once wanted host) closes result.0 result.1 }
+    ensures answers { responds.Answers (C.reads clock.now) pass (Once wanted asker) closes result.0 result.1 }
     ensures desk { IsOf desk.now result.0 }
 {
     let (pass, answer) = call_once(rt, desk, pass, clock.now(), &wanted.call);
-    let bytes = call_bytes(alloc, &wanted.call, &answer, &host, closes);
+    let bytes = call_bytes(alloc, &wanted.call, &answer, &asker, closes);
     let turn = turn_of(closes, stops(&answer));
     drop(wanted);
     drop(answer);
@@ -98,17 +100,17 @@ fn answer_patient<V: Served, R: Wait, C: Clock>(
     pass: Pass,
     clock: &C,
     wanted: Wanted,
-    host: Bytes,
+    asker: OwnedAsker,
     limit_ms: u64,
     closes: bool,
 ) -> (Pass, Written)
     requires desk { IsOf desk.now pass }
     requires order { IsActInOrder wanted.call.act }
-    ensures answers { responds.Answers (C.reads clock.now) pass (Patient wanted host limit_ms) closes result.0 result.1 }
+    ensures answers { responds.Answers (C.reads clock.now) pass (Patient wanted asker limit_ms) closes result.0 result.1 }
     ensures desk { IsOf desk.now result.0 }
 {
     let (pass, answer) = receive_waiting(rt, desk, pass, clock, limit_ms, &wanted.call);
-    let bytes = call_bytes(alloc, &wanted.call, &answer, &host, closes);
+    let bytes = call_bytes(alloc, &wanted.call, &answer, &asker, closes);
     let turn = turn_of(closes, stops(&answer));
     drop(wanted);
     drop(answer);
@@ -154,12 +156,16 @@ fn call_bytes(
     alloc: Global,
     call: &Call,
     answer: &Answer,
-    host: &Bytes,
+    asker: &OwnedAsker,
     closes: bool,
 ) -> Result<Vec<u8>, AllocError>
-    ensures { IfOk result (λ v. responds.AnswersCall call.now answer.now host.now closes v.items) }
+    ensures { IfOk result (λ v. responds.AnswersCall call.now answer.now asker.now closes v.items) }
 {
-    let response = response_of(alloc, call, answer, host.as_slice())?;
+    let asker = Asker {
+        host: asker.host.as_slice(),
+        json: asker.json,
+    };
+    let response = response_of(alloc, call, answer, asker)?;
     bytes_of(alloc, response, closes)
 }
 

@@ -12,22 +12,31 @@ use sb_lines::{LineFault, read_line};
 use sb_machine::{Act, Answer, Call, Refusal};
 use sb_model::Text;
 use sb_outside::Bytes;
-use sb_rest::{Access, RestFault, Wanted, call_of, host_of};
+use sb_rest::{Access, RestFault, Wanted, call_of, host_of, wants_json};
 use sb_routes::Routes;
 use std::alloc::Global;
 
-/// What a request asks for. A host is the one that the request names, or `localhost`.
+/// What the response to a call has of who asks, as `sb_rest::Asker`, of its own.
+#[derive(Drop)]
+pub struct OwnedAsker {
+    /// The host that the request names, or `localhost`.
+    pub host: Bytes,
+    /// Whether the request asks for messages as JSON.
+    pub json: bool,
+}
+
+/// What a request asks for.
 #[derive(Drop)]
 pub enum Ask {
     /// A call that is answered at once.
     Once {
         wanted: Wanted,
-        host: Bytes,
+        asker: OwnedAsker,
     },
     /// A receive that waits so many ms at most.
     Patient {
         wanted: Wanted,
-        host: Bytes,
+        asker: OwnedAsker,
         limit_ms: u64,
     },
     /// A script line.
@@ -104,15 +113,17 @@ fn called(alloc: Global, access: &Access, request: &Request, wanted: Wanted) -> 
             fault: RestFault::OutOfMemory,
         };
     };
+    let json = wants_json(request);
+    let asker = OwnedAsker { host, json };
     if waits(&wanted.call) {
         let limit_ms = wanted.timeout.saturating_mul(1000);
         return Ask::Patient {
             wanted,
-            host,
+            asker,
             limit_ms,
         };
     }
-    Ask::Once { wanted, host }
+    Ask::Once { wanted, asker }
 }
 
 // A body as a script line.

@@ -3,4 +3,4 @@ use Rattle.sb_server.proofs.Responding.{patient_answers}
 use Rattle.sb_server.proofs.answer.answer_patient.Goals as goal
 
 pub returns-clause-answers : goal.returns-clause-answers
-returns-clause-answers g c = patient_answers (g.C.Clock.reads c.args.clock.now) _ _ c.args.wanted c.args.host _ _ _ _ c.receive_waiting-pass.ensures.waits c.call_bytes-bytes.ensures (search rules)
+returns-clause-answers g c = patient_answers (g.C.Clock.reads c.args.clock.now) _ _ c.args.wanted c.args.asker _ _ _ _ c.receive_waiting-pass.ensures.waits c.call_bytes-bytes.ensures (search rules)
