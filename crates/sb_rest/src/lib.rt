@@ -50,6 +50,4 @@ pub use call::{RestFault, Wanted, call_of};
 pub use form::wants_json;
 pub use laws::{escaped_is_ascii, foreign_is_no_call, keyless_is_no_call, methods_are_told};
 pub use response::{Asker, fault_response, host_of, line_response, response_of};
-pub use worked::{
-    worked_callers, worked_calls, worked_forms, worked_parts, worked_responses,
-};
+pub use worked::{worked_callers, worked_calls, worked_forms, worked_parts, worked_responses};
