@@ -20,6 +20,16 @@ use sb_machine::{Act, Answer, Answered, Call, CopyShown, Mode, Path, Refusal, Re
 use sb_routes::Route;
 use std::alloc::{AllocError, Global};
 
+/// What a response has of who asks.
+#[derive(Clone, Copy)]
+pub struct Asker<'a> {
+    /// The host that the request names (`host_of`): it stands in the Location of a message under a
+    /// lock.
+    pub host: &'a [u8],
+    /// Whether the request asks for messages as JSON (`wants_json`).
+    pub json: bool,
+}
+
 fn bare(alloc: Global, status: Status) -> Response
     ensures { said_in result ≡ responses.bare status }
 {
@@ -348,16 +358,6 @@ fn host_in<'a>(text: &'a [u8], lines: &[HeaderSpan]) -> &'a [u8]
         }
     }
     b"localhost"
-}
-
-/// What a response has of who asks.
-#[derive(Clone, Copy)]
-pub struct Asker<'a> {
-    /// The host that the request names (`host_of`): it stands in the Location of a message under a
-    /// lock.
-    pub host: &'a [u8],
-    /// Whether the request asks for messages as JSON (`wants_json`).
-    pub json: bool,
 }
 
 /// The host that a request names, as it was sent; `localhost` where it names none.
