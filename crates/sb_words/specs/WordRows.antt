@@ -1,32 +1,54 @@
 -- Words that were worked out by hand.
-use Rattle.std.specs.Prelude.{ℕ, ◌^◌, ◌-◌, List, [], ◌∷◌, codes, Option, None, map}
+use Rattle.std.specs.Prelude.{ℕ, ◌^◌, ◌-◌, List, [], ◌∷◌, codes, Option, None, map, replicate, true}
 use Rattle.clap.specs.Words.{Text}
 use Rattle.sb_words.specs.declared.command.Command.{Command}
-use Rattle.sb_words.specs.declared.command.Command.TheVariants.{Client, Serve}
-use Rattle.sb_words.specs.Words.{Form}
+use Rattle.sb_words.specs.declared.command.Command.TheVariants.{Run, Check, Client, Serve}
+use Rattle.sb_words.specs.Words.{Form, form_of}
 
 abbrev pub over : Command → Text → Form
-over command folder = record { command = command; folder = folder; port = 0; workers = 0; connections = 0 }
+over command folder = record (form_of command) { folder = folder }
 
 abbrev pub with_port : ℕ → Form
-with_port port = record { command = Client; folder = []; port = port; workers = 0; connections = 0 }
+with_port port = record (form_of Client) { port = port; patience = 120 }
 
 abbrev pub serving : (workers connections : ℕ) → Form
-serving workers connections = record { command = Serve; folder = codes "a"; port = 80; workers = workers; connections = connections }
+serving workers connections = record (over Serve (codes "a")) { port = 80; workers = workers; connections = connections; max_jump = 400 }
 
 -- the words of a server, with these options
 abbrev pub serve_with : List Text → List Text
 serve_with options = codes "serve" ∷ codes "--data=a" ∷ codes "--port=80" ∷ options
+
+-- the words of a client, a run and a check, with this option
+abbrev pub client_with : Text → List Text
+client_with option = codes "client" ∷ codes "--port=80" ∷ option ∷ []
+
+abbrev pub run_with : Text → List Text
+run_with option = codes "run" ∷ codes "--data=a" ∷ option ∷ []
+
+abbrev pub check_with : Text → List Text
+check_with option = codes "check" ∷ codes "--data=a" ∷ option ∷ []
 
 -- the options of a server, and the form
 abbrev pub servers : List (List Text × Form)
 servers = ([], serving 4 (2 ^ 64 - 1)) ∷ (codes "--workers=16" ∷ codes "--connections" ∷ codes "1000000" ∷ [], serving 16 1000000)
     ∷ (codes "--connections=1" ∷ codes "--workers" ∷ codes "1" ∷ [], serving 1 1) ∷ (codes "--workers=2" ∷ [], serving 2 (2 ^ 64 - 1)) ∷ (codes "--connections=9" ∷ [], serving 4 9) ∷ []
 
+-- the options of a server that say who may call it and how far time may jump, and the form
+abbrev pub callers : List (List Text × Form)
+callers = (codes "--host=a.example" ∷ codes "--max-jump=0" ∷ codes "--host" ∷ codes "b" ∷ codes "--key=k" ∷ [], record (serving 4 (2 ^ 64 - 1)) { hosts = codes "a.example" ∷ codes "b" ∷ []; max_jump = 0; key_file = codes "k" })
+    ∷ (codes "--max-jump=100000" ∷ replicate 8 (codes "--host=a"), record (serving 4 (2 ^ 64 - 1)) { max_jump = 100000; hosts = replicate 8 (codes "a") }) ∷ []
+
+-- words with an option that isn't a server's, and the form
+abbrev pub others : List (List Text × Form)
+others = (run_with (codes "--max-jump=7"), record (over Run (codes "a")) { max_jump = 7 }) ∷ (check_with (codes "--look"), record (over Check (codes "a")) { look = true })
+    ∷ (client_with (codes "--key=k"), record (with_port 80) { key_file = codes "k" }) ∷ (client_with (codes "--patience=7200"), record (with_port 80) { patience = 7200 })
+    ∷ (client_with (codes "--patience=1"), record (with_port 80) { patience = 1 }) ∷ []
+
 abbrev pub no_forms : List (List Text)
 no_forms = [] ∷ (codes "serve" ∷ []) ∷ (codes "run" ∷ []) ∷ (codes "run" ∷ codes "--data" ∷ []) ∷ (codes "--data=a" ∷ codes "run" ∷ [])
     ∷ (codes "run" ∷ codes "--data=a" ∷ codes "--data" ∷ codes "b" ∷ []) ∷ (codes "run" ∷ codes "--data" ∷ codes "--data" ∷ [])
     ∷ (codes "run" ∷ codes "--data=a" ∷ codes "b" ∷ []) ∷ (codes "--help" ∷ []) ∷ (codes "-h" ∷ []) ∷ (codes "--version" ∷ []) ∷ (codes "run" ∷ codes "-h" ∷ [])
+    ∷ (codes "help" ∷ []) ∷ (codes "help" ∷ codes "run" ∷ []) ∷ (codes "drill" ∷ [])
     ∷ (codes "client" ∷ []) ∷ (codes "client" ∷ codes "--data=a" ∷ []) ∷ (codes "client" ∷ codes "--port=0" ∷ []) ∷ (codes "client" ∷ codes "--port=080" ∷ []) ∷ (codes "client" ∷ codes "--port=+80" ∷ [])
     ∷ (codes "client" ∷ codes "--port=65536" ∷ []) ∷ (codes "client" ∷ codes "--port=" ∷ []) ∷ (codes "run" ∷ codes "--data=a" ∷ codes "--port=80" ∷ []) ∷ []
 
@@ -36,6 +58,17 @@ no_servers = (codes "serve" ∷ codes "--data=a" ∷ []) ∷ (codes "serve" ∷ 
     ∷ serve_with (codes "--workers" ∷ codes "17" ∷ []) ∷ serve_with (codes "--workers=0" ∷ []) ∷ serve_with (codes "--workers=04" ∷ []) ∷ serve_with (codes "--workers=" ∷ [])
     ∷ serve_with (codes "--connections=0" ∷ []) ∷ serve_with (codes "--connections=1000001" ∷ []) ∷ serve_with (codes "--connections=2" ∷ codes "--connections=2" ∷ [])
     ∷ (codes "client" ∷ codes "--port=80" ∷ codes "--workers=2" ∷ []) ∷ []
+
+-- the same of the options that say who may call and how far time may jump
+abbrev pub no_callers : List (List Text)
+no_callers = serve_with (codes "--max-jump=100001" ∷ []) ∷ serve_with (codes "--max-jump=" ∷ []) ∷ serve_with (codes "--max-jump=00" ∷ []) ∷ serve_with (codes "--max-jump=-1" ∷ []) ∷ serve_with (codes "--max-jump=1" ∷ codes "--max-jump=1" ∷ [])
+    ∷ serve_with (codes "--host=" ∷ []) ∷ serve_with (codes "--host=a b" ∷ []) ∷ serve_with (replicate 9 (codes "--host=a")) ∷ serve_with (codes "--key=" ∷ []) ∷ serve_with (codes "--key=a" ∷ codes "--key=a" ∷ [])
+    ∷ serve_with (codes "--patience=1" ∷ []) ∷ serve_with (codes "--look" ∷ []) ∷ []
+
+-- the same of a run, a check and a client
+abbrev pub no_others : List (List Text)
+no_others = run_with (codes "--max-jump=100001") ∷ run_with (codes "--max-jump=07") ∷ run_with (codes "--look") ∷ run_with (codes "--host=a") ∷ check_with (codes "--look=true") ∷ check_with (codes "--max-jump=1")
+    ∷ (codes "check" ∷ codes "--look" ∷ codes "--data=a" ∷ codes "--look" ∷ []) ∷ client_with (codes "--key=") ∷ client_with (codes "--patience=0") ∷ client_with (codes "--patience=7201") ∷ client_with (codes "--patience=012") ∷ client_with (codes "--host=a") ∷ []
 
 abbrev pub nones : List (List Text) → List (Option Form)
 nones = map (λ (words : List Text). None)

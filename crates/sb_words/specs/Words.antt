@@ -1,14 +1,15 @@
 -- What the words of a call name: what `clap` makes of them at the program's command line.
-use Rattle.std.specs.Prelude.{◌≡◌, ◌⊎◌, ℕ, ◌^◌, ◌-◌, ◌==◌, ◌&&◌, nat_le, not, Bool, false, List, [], ◌∷◌, codes, bytes_eq, true, Option, Some, None, option_map, string_bytes, if◌then◌else◌}
+use Rattle.std.specs.Prelude.{◌≡◌, ◌⊎◌, ℕ, ◌^◌, ◌-◌, ◌==◌, ◌&&◌, nat_le, not, Bool, false, List, [], ◌∷◌, codes, bytes_eq, length, map, true, Option, Some, None, option_map, if◌then◌else◌}
+use Rattle.std.specs.List.{list_all}
 use Rattle.clap.specs.Simple.{on_top}
-use Rattle.clap.specs.Words.{App, IsAmong, Kinds, Row, Rule, Shape, Text, fault_of, first_of, new_app, new_rule, subcommand_of, with_rule, with_subcommand}
+use Rattle.clap.specs.Words.{App, IsAmong, Kinds, Row, Rule, Shape, Text, all_of, fault_of, first_of, new_app, new_rule, subcommand_of, with_rule, with_subcommand}
+use Rattle.clap.specs.declared.builder.action.ArgAction.TheVariants.{Append, SetTrue}
 use Rattle.clap.specs.declared.error.kind.ErrorKind.{ErrorKind}
 use Rattle.clap.specs.declared.error.kind.ErrorKind.TheVariants.{DisplayHelp, DisplayVersion}
 use Rattle.sb_http.specs.Fields.{is_number, number_of}
 use Rattle.sb_words.specs.declared.command.Command.{Command}
 use Rattle.sb_words.specs.declared.command.Command.TheVariants.{Run, Check, Client, Serve}
 use Rattle.sb_words.specs.declared.command.Form.{Form as ReadForm}
-use Rattle.sb_words.specs.declared.command.Needs.{Needs}
 
 -- ---- the command line
 
@@ -16,57 +17,99 @@ use Rattle.sb_words.specs.declared.command.Needs.{Needs}
 abbrev pub data_option : Rule
 data_option = record (new_rule (codes "data")) { long = Some (codes "data"); value_names = 1; required = true }
 
--- a command over a folder
-abbrev pub over_folder : Text → Shape
-over_folder name = (with_rule (new_app name) data_option).top
-
--- its words don't begin with its own name, one of them has to be a command, it tells its version, and `help` is no command
-abbrev pub bus : App
-bus = on_top (λ s. record s { no_binary_name = true; disable_help_subcommand = true; has_version = true; subcommand_required = true }) (new_app (codes "bus"))
-
 -- `--port P`, which has to be there
 abbrev pub port_option : Rule
 port_option = record (new_rule (codes "port")) { long = Some (codes "port"); value_names = 1; required = true }
 
--- a command with a server
-abbrev pub with_server : Text → Shape
-with_server name = (with_rule (new_app name) port_option).top
+-- an option with a value, which needn't be there
+abbrev pub value_option : Text → Rule
+value_option name = record (new_rule name) { long = Some name; value_names = 1 }
 
--- an option with a number, which needn't be there
-abbrev pub number_option : Text → Rule
-number_option name = record (new_rule name) { long = Some name; value_names = 1 }
+-- an option with a value, which may be there several times
+abbrev pub list_option : Text → Rule
+list_option name = record (value_option name) { action = Some Append }
 
--- the command that is a server
+-- an option without a value
+abbrev pub flag_option : Text → Rule
+flag_option name = record (new_rule name) { long = Some name; action = Some SetTrue }
+
+-- its words don't begin with its own name, one of them has to be a command, and it tells its version
+abbrev pub bus : App
+bus = on_top (λ s. record s { no_binary_name = true; has_version = true; subcommand_required = true }) (new_app (codes "bus"))
+
+abbrev pub run_command : Shape
+run_command = (with_rule (with_rule (new_app (codes "run")) data_option) (value_option (codes "max-jump"))).top
+
+abbrev pub check_command : Shape
+check_command = (with_rule (with_rule (new_app (codes "check")) data_option) (flag_option (codes "look"))).top
+
+abbrev pub client_command : Shape
+client_command = (with_rule (with_rule (with_rule (new_app (codes "client")) port_option) (value_option (codes "key"))) (value_option (codes "patience"))).top
+
+-- a server with its folder, its port and its workers
+abbrev pub plain_server : App
+plain_server = with_rule (with_rule (with_rule (with_rule (new_app (codes "serve")) data_option) port_option) (value_option (codes "workers"))) (value_option (codes "connections"))
+
 abbrev pub serve_command : Shape
-serve_command = (with_rule (with_rule (with_rule (with_rule (new_app (codes "serve")) data_option) port_option) (number_option (codes "workers"))) (number_option (codes "connections"))).top
+serve_command = (with_rule (with_rule (with_rule plain_server (value_option (codes "max-jump"))) (list_option (codes "host"))) (value_option (codes "key"))).top
 
 abbrev pub folder_commands : App
-folder_commands = with_subcommand (with_subcommand bus (over_folder (codes "run"))) (over_folder (codes "check"))
+folder_commands = with_subcommand (with_subcommand bus run_command) check_command
 
 abbrev pub program : App
-program = with_subcommand (with_subcommand folder_commands (with_server (codes "client"))) serve_command
+program = with_subcommand (with_subcommand folder_commands client_command) serve_command
 
 -- ---- the forms
 
--- what a form names; 0 and no text where its command has no such option
+-- what a form names; 0, empty and false where its command has no such option
 pub record Form : Type 0 where
   pub command : Command
   pub folder : Text
   pub port : ℕ
   pub workers : ℕ
   pub connections : ℕ
+  pub max_jump : ℕ
+  pub hosts : List Text
+  pub key_file : Text
+  pub patience : ℕ
+  pub look : Bool
 
 abbrev pub form_value : ReadForm → Form
-form_value f = record { command = f.command; folder = f.folder.now; port = f.port; workers = f.workers; connections = f.connections }
+form_value f = record {
+  command = f.command;
+  folder = f.folder.now;
+  port = f.port;
+  workers = f.workers;
+  connections = f.connections;
+  max_jump = f.max_jump;
+  hosts = map (λ h. h.now) f.hosts.items;
+  key_file = f.key_file.now;
+  patience = f.patience;
+  look = f.look;
+}
 
-abbrev pub needs_value : Needs → Form
-needs_value n = record { command = n.command; folder = string_bytes n.folder; port = n.port; workers = n.workers; connections = n.connections }
+-- the form of a command that names nothing beside it
+abbrev pub form_of : Command → Form
+form_of command = record {
+  command = command;
+  folder = [];
+  port = 0;
+  workers = 0;
+  connections = 0;
+  max_jump = 0;
+  hosts = [];
+  key_file = [];
+  patience = 0;
+  look = false;
+}
 
 abbrev pub command_named : Text → Option Command
 command_named word = if bytes_eq word (codes "run") then Some Run
     else (if bytes_eq word (codes "check") then Some Check
     else (if bytes_eq word (codes "client") then Some Client
     else (if bytes_eq word (codes "serve") then Some Serve else None)))
+
+-- ---- the values of the options
 
 abbrev pub begins_with_zero : Text → Bool
 begins_with_zero [] = false
@@ -75,6 +118,10 @@ begins_with_zero (b ∷ bs) = b == 48
 -- a number from 1 to this one, in decimal digits of which the first isn't 0
 abbrev pub number_within : ℕ → Text → Option ℕ
 number_within most word = if is_number word && (not (begins_with_zero word) && nat_le (number_of word) most) then Some (number_of word) else None
+
+-- a number from 0 to this one, written in the same way; 0 is written `0`
+abbrev pub number_to : ℕ → Text → Option ℕ
+number_to most word = if bytes_eq word (codes "0") then Some 0 else number_within most word
 
 -- a port, 1 to 65,535, which has to be there
 abbrev pub port_by : Option Text → Option ℕ
@@ -92,29 +139,89 @@ abbrev pub connections_by : Option Text → Option ℕ
 connections_by None = Some (2 ^ 64 - 1)
 connections_by (Some word) = number_within 1000000 word
 
-abbrev pub over_folder_in : Command → Option Text → Option Form
-over_folder_in command None = None
-over_folder_in command (Some folder) = Some (record { command = command; folder = folder; port = 0; workers = 0; connections = 0 })
+-- the most days that time may jump, 0 to 100,000, where this is the command's own number
+abbrev pub max_jump_by : ℕ → Option Text → Option ℕ
+max_jump_by usual None = Some usual
+max_jump_by usual (Some word) = number_to 100000 word
 
-abbrev pub with_server_at : Option ℕ → Option Form
-with_server_at None = None
-with_server_at (Some port) = Some (record { command = Client; folder = []; port = port; workers = 0; connections = 0 })
+-- for how many seconds a server may say nothing, 1 to 7,200, by default 120
+abbrev pub patience_by : Option Text → Option ℕ
+patience_by None = Some 120
+patience_by (Some word) = number_within 7200 word
 
--- all four have to be there
-abbrev pub serving_at : Option Text → (port workers connections : Option ℕ) → Option Form
-serving_at (Some folder) (Some port) (Some workers) (Some connections) = Some (record { command = Serve; folder = folder; port = port; workers = workers; connections = connections })
-serving_at _ _ _ _ = None
+-- a visible character of ASCII
+abbrev pub is_visible : ℕ → Bool
+is_visible b = nat_le 33 b && nat_le b 126
 
-abbrev pub serving_in : (folder port workers connections : Option Text) → Option Form
-serving_in folder port workers connections = serving_at folder (port_by port) (workers_by workers) (connections_by connections)
+-- 1 to 255 visible characters
+unfoldable pub is_host : Text → Bool
+is_host name = nat_le 1 (length name) && nat_le (length name) 255 && list_all is_visible name
+
+-- up to 8 names
+abbrev pub are_hosts : List Text → Bool
+are_hosts names = nat_le (length names) 8 && list_all is_host names
+
+abbrev pub hosts_by : Option (List Text) → Option (List Text)
+hosts_by None = Some []
+hosts_by (Some names) = if are_hosts names then Some names else None
+
+-- the file of a key, which isn't empty; empty where none is named
+abbrev pub key_by : Option Text → Option Text
+key_by None = Some []
+key_by (Some []) = None
+key_by (Some (b ∷ bs)) = Some (b ∷ bs)
+
+-- what `clap` finds of a flag that is there
+abbrev pub look_by : Option Text → Bool
+look_by None = false
+look_by (Some word) = bytes_eq word (codes "true")
+
+-- ---- the forms of the commands
+
+abbrev pub run_at : Option Text → Option ℕ → Option Form
+run_at (Some folder) (Some max_jump) = Some (record (form_of Run) { folder = folder; max_jump = max_jump })
+run_at _ _ = None
+
+abbrev pub check_at : Option Text → Bool → Option Form
+check_at None look = None
+check_at (Some folder) look = Some (record (form_of Check) { folder = folder; look = look })
+
+abbrev pub client_at : Option ℕ → Option Text → Option ℕ → Option Form
+client_at (Some port) (Some key_file) (Some patience) = Some (record (form_of Client) { port = port; key_file = key_file; patience = patience })
+client_at _ _ _ = None
+
+-- who may call a server, in a form that is there
+abbrev pub with_callers : Option Form → Option (List Text) → Option Text → Option Form
+with_callers (Some form) (Some hosts) (Some key_file) = Some (record form { hosts = hosts; key_file = key_file })
+with_callers _ _ _ = None
+
+-- all five have to be there
+abbrev pub open_server_at : Option Text → (port workers connections max_jump : Option ℕ) → Option Form
+open_server_at (Some folder) (Some port) (Some workers) (Some connections) (Some max_jump) = Some (record (form_of Serve) { folder = folder; port = port; workers = workers; connections = connections; max_jump = max_jump })
+open_server_at _ _ _ _ _ = None
+
+abbrev pub run_in : List Row → Option Form
+run_in rows = run_at (first_of (codes "data") rows) (max_jump_by 0 (first_of (codes "max-jump") rows))
+
+abbrev pub check_in : List Row → Option Form
+check_in rows = check_at (first_of (codes "data") rows) (look_by (first_of (codes "look") rows))
+
+abbrev pub client_in : List Row → Option Form
+client_in rows = client_at (port_by (first_of (codes "port") rows)) (key_by (first_of (codes "key") rows)) (patience_by (first_of (codes "patience") rows))
+
+abbrev pub open_server_in : List Row → Option Form
+open_server_in rows = open_server_at (first_of (codes "data") rows) (port_by (first_of (codes "port") rows)) (workers_by (first_of (codes "workers") rows)) (connections_by (first_of (codes "connections") rows)) (max_jump_by 400 (first_of (codes "max-jump") rows))
+
+abbrev pub serve_in : List Row → Option Form
+serve_in rows = with_callers (open_server_in rows) (hosts_by (all_of (codes "host") rows)) (key_by (first_of (codes "key") rows))
 
 -- the form of a command, by its options
 abbrev pub form_by : Option Command → List Row → Option Form
 form_by None rows = None
-form_by (Some Run) rows = over_folder_in Run (first_of (codes "data") rows)
-form_by (Some Check) rows = over_folder_in Check (first_of (codes "data") rows)
-form_by (Some Client) rows = with_server_at (port_by (first_of (codes "port") rows))
-form_by (Some Serve) rows = serving_in (first_of (codes "data") rows) (first_of (codes "port") rows) (first_of (codes "workers") rows) (first_of (codes "connections") rows)
+form_by (Some Run) rows = run_in rows
+form_by (Some Check) rows = check_in rows
+form_by (Some Client) rows = client_in rows
+form_by (Some Serve) rows = serve_in rows
 
 -- a command's name, and what was found for its options
 abbrev pub form_at : Option (Text × List Row) → Option Form
@@ -141,6 +248,22 @@ connections_of (Some form) = form.connections
 -- after how many connections a worker ends, as they name it; 0 where they are no form
 abbrev pub connections_in : List Text → ℕ
 connections_in words = connections_of (form_in words)
+
+abbrev pub max_jump_of : Option Form → ℕ
+max_jump_of None = 0
+max_jump_of (Some form) = form.max_jump
+
+-- the most days that time may jump, as they name it; 0 where they are no form
+abbrev pub max_jump_in : List Text → ℕ
+max_jump_in words = max_jump_of (form_in words)
+
+abbrev pub look_of : Option Form → Bool
+look_of None = false
+look_of (Some form) = form.look
+
+-- a check is to write nothing, as they name it; false where they are no form
+abbrev pub look_in : List Text → Bool
+look_in words = look_of (form_in words)
 
 -- ---- help and the version
 

@@ -12,9 +12,9 @@ pub enum Command {
     Serve,
 }
 
-/// What a form of the words names. Where the command has no such option a number is 0, and the folder
-/// empty.
-#[derive(Clone, Copy)]
+/// What a form of the words names. Where the command has no such option a number is 0, a text or a
+/// list empty, and a flag false.
+#[derive(Drop)]
 pub struct Form<'w> {
     /// What is to be done.
     pub command: Command,
@@ -27,21 +27,17 @@ pub struct Form<'w> {
     /// After how many connections a worker ends; 2^64 - 1 where the words name no number, which is no
     /// end, as no worker takes so many.
     pub connections: u64,
-}
-
-/// What a command needs of the outside: a form with its own folder.
-#[derive(Drop)]
-pub struct Needs {
-    /// What is to be done.
-    pub command: Command,
-    /// The folder of the two journal files; empty where the form has none.
-    pub folder: String,
-    /// The port that is listened at or connected to; 0 where the form has none.
-    pub port: u16,
-    /// How many connections are served at once; 0 where the form has none.
-    pub workers: u16,
-    /// After how many connections a worker ends, as in a form; 0 where the form has none.
-    pub connections: u64,
+    /// The most days, up to 100,000, that time may jump; at 0 it may jump by any number.
+    pub max_jump: u32,
+    /// The names, up to 8, by which a server lets itself be called beside those of this machine; with
+    /// none it doesn't look at the name.
+    pub hosts: Vec<&'w str>,
+    /// The file whose first line is the key that each request shows; empty where there is none.
+    pub key_file: &'w str,
+    /// For how many seconds, 1 to 7,200, a client waits for a server that says nothing.
+    pub patience: u16,
+    /// A check is to write nothing.
+    pub look: bool,
 }
 
 /// Why there is no form.

@@ -1,14 +1,18 @@
 // The command line of the program, as `clap` has it.
-ghost use Rattle.std.specs.Prelude.{◌≡◌, map, false, IfOk};
-ghost use Rattle.clap.specs.Words.{FailsBy, HasMatchesOf, app_of, fault_of, rule_of, shape_of};
+ghost use Rattle.std.specs.Prelude.{◌≡◌, codes, map, false, IfOk};
+ghost use Rattle.clap.specs.Words.{FailsBy, HasMatchesOf, app_of, fault_of, new_app, rule_of, shape_of};
 ghost use Rattle.sb_words.specs.Words as line;
 ghost use Rattle.clap.specs.declared.builder.command.Command.TheViews.{out-Command as fields_of};
 
-use clap::{Arg, ArgMatches};
+use clap::{Arg, ArgAction, ArgMatches};
 use std::alloc::{AllocError, Global};
 
 /// What the program tells as its version.
 const VERSION: &str = "0.1.0";
+
+// What stands at the end of the program's help.
+const EXAMPLES: &str =
+    "Examples:{n}  bus serve --data data --port 8080{n}  bus client --port 8080 < orders.script{n}  bus help serve";
 
 /// What `clap` makes of these words, without the program's name.
 pub(crate) fn parsed<'w>(alloc: Global, words: &'w [&str]) -> Result<ArgMatches<'w>, clap::Error>
@@ -22,11 +26,7 @@ fn command_line<'a>(alloc: Global) -> Result<clap::Command<'a>, AllocError>
     ensures { IfOk result (λ c. app_of c ≡ line.program) }
 {
     let commands = folder_commands(alloc)?;
-    let client = with_server(
-        alloc,
-        "client",
-        "Have a server answer the script lines of the input",
-    )?;
+    let client = client_command(alloc)?;
     let serve = serve_command(alloc)?;
     commands.subcommand(client)?.subcommand(serve)
 }
@@ -35,65 +35,143 @@ fn command_line<'a>(alloc: Global) -> Result<clap::Command<'a>, AllocError>
 fn folder_commands<'a>(alloc: Global) -> Result<clap::Command<'a>, AllocError>
     ensures { IfOk result (λ c. app_of c ≡ line.folder_commands) }
 {
-    let run = over_folder(alloc, "run", "Answer the script lines of the input")?;
-    let check = over_folder(alloc, "check", "Tell the numbers of the namespace")?;
-    clap::Command::new(alloc, "bus")
-        .about("A message broker over a journal in a folder")
+    let run = run_command(alloc)?;
+    let check = check_command(alloc)?;
+    let bus = bus_command(alloc)?;
+    bus.subcommand(run)?.subcommand(check)
+}
+
+// The program without its commands.
+fn bus_command<'a>(alloc: Global) -> Result<clap::Command<'a>, AllocError>
+    ensures app { IfOk result (λ c. app_of c ≡ line.bus) }
+    ensures local { IfOk result (λ c. (fields_of c).has_globals ≡ false) }
+{
+    let about = "A message broker over a journal in a folder";
+    let bus = described(alloc, "bus", about, EXAMPLES)
         .version(VERSION)
         .no_binary_name(true)
-        .disable_help_subcommand(true)
-        .subcommand_required(true)
-        .subcommand(run)?
-        .subcommand(check)
+        .subcommand_required(true);
+    let called = called_bus(bus)?;
+    Ok(called)
 }
 
-// A command over a folder.
-fn over_folder<'a>(
+// A command without options, and what its help says of it.
+fn described<'a>(
     alloc: Global,
     name: &'a str,
     about: &'a str,
-) -> Result<clap::Command<'a>, AllocError>
-    ensures shape { IfOk result (λ c. shape_of c ≡ line.over_folder name.entry.now) }
-    ensures local { IfOk result (λ c. (fields_of c).has_globals ≡ false) }
+    example: &'a str,
+) -> clap::Command<'a>
+    ensures app { app_of result ≡ new_app name.entry.now }
+    ensures local { (fields_of result).has_globals ≡ false }
 {
     clap::Command::new(alloc, name)
         .about(about)
-        .arg(data_option(alloc))
+        .after_help(example)
 }
 
-// A command with a server.
-fn with_server<'a>(
-    alloc: Global,
-    name: &'a str,
-    about: &'a str,
-) -> Result<clap::Command<'a>, AllocError>
-    ensures shape { IfOk result (λ c. shape_of c ≡ line.with_server name.entry.now) }
+// The same command, which stands as `bus` in each usage.
+fn called_bus(command: clap::Command<'_>) -> Result<clap::Command<'_>, AllocError>
+    ensures app { IfOk result (λ c. app_of c ≡ app_of command.entry) }
+    ensures local { IfOk result (λ c. (fields_of c).has_globals ≡ (fields_of command.entry).has_globals) }
+{
+    let called = command.bin_name("bus")?;
+    Ok(called)
+}
+
+fn run_command<'a>(alloc: Global) -> Result<clap::Command<'a>, AllocError>
+    ensures shape { IfOk result (λ c. shape_of c ≡ line.run_command) }
     ensures local { IfOk result (λ c. (fields_of c).has_globals ≡ false) }
 {
-    clap::Command::new(alloc, name)
-        .about(about)
-        .arg(port_option(alloc))
+    let max_jump = value_option(
+        alloc,
+        "max-jump",
+        "DAYS",
+        "The most days that the time of a line may be beyond the clock of the system: 0 to 100000; 0 is any number [default: 0]",
+    );
+    let about = "Answer the script lines of the input";
+    let example = "Example: bus run --data data < orders.script";
+    described(alloc, "run", about, example)
+        .arg(data_option(alloc))?
+        .arg(max_jump)
 }
 
-// The command that is a server.
+fn check_command<'a>(alloc: Global) -> Result<clap::Command<'a>, AllocError>
+    ensures shape { IfOk result (λ c. shape_of c ≡ line.check_command) }
+    ensures local { IfOk result (λ c. (fields_of c).has_globals ≡ false) }
+{
+    let look = flag_option(
+        alloc,
+        "look",
+        "Write nothing: look at the files as they stand, beside a server too",
+    );
+    let about = "Tell the numbers of the namespace";
+    let example = "Example: bus check --data data";
+    described(alloc, "check", about, example)
+        .arg(data_option(alloc))?
+        .arg(look)
+}
+
+fn client_command<'a>(alloc: Global) -> Result<clap::Command<'a>, AllocError>
+    ensures shape { IfOk result (λ c. shape_of c ≡ line.client_command) }
+    ensures local { IfOk result (λ c. (fields_of c).has_globals ≡ false) }
+{
+    let patience = value_option(
+        alloc,
+        "patience",
+        "S",
+        "After how many seconds a server that says nothing is given up: 1 to 7200 [default: 120]",
+    );
+    let about = "Have a server answer the script lines of the input";
+    let example = "Example: bus client --port 8080 < orders.script";
+    described(alloc, "client", about, example)
+        .arg(port_option(alloc))?
+        .arg(key_option(alloc))?
+        .arg(patience)
+}
+
 fn serve_command<'a>(alloc: Global) -> Result<clap::Command<'a>, AllocError>
     ensures shape { IfOk result (λ c. shape_of c ≡ line.serve_command) }
     ensures local { IfOk result (λ c. (fields_of c).has_globals ≡ false) }
 {
-    let workers = number_option(
+    let host = list_option(
+        alloc,
+        "host",
+        "NAME",
+        "A name by which the server may be called, beside localhost: up to 8 times, each of 1 to 255 visible characters [default: any name]",
+    );
+    let max_jump = value_option(
+        alloc,
+        "max-jump",
+        "DAYS",
+        "The most days that the clock may be ahead of the journal as it opens: 0 to 100000; 0 is any number [default: 400]",
+    );
+    plain_server(alloc)?
+        .arg(max_jump)?
+        .arg(host)?
+        .arg(key_option(alloc))
+}
+
+// The server with its folder, its port and its workers.
+fn plain_server<'a>(alloc: Global) -> Result<clap::Command<'a>, AllocError>
+    ensures app { IfOk result (λ c. app_of c ≡ line.plain_server) }
+    ensures local { IfOk result (λ c. (fields_of c).has_globals ≡ false) }
+{
+    let workers = value_option(
         alloc,
         "workers",
         "N",
-        "How many connections are served at once",
+        "How many connections are served at once: 1 to 16 [default: 4]",
     );
-    let connections = number_option(
+    let connections = value_option(
         alloc,
         "connections",
         "K",
-        "After how many connections a worker ends",
+        "After how many connections a worker ends: 1 to 1000000 [default: it doesn't end]",
     );
-    clap::Command::new(alloc, "serve")
-        .about("Answer the requests of connections")
+    let about = "Answer the requests of connections";
+    let example = "Example: bus serve --data data --port 8080";
+    described(alloc, "serve", about, example)
         .arg(data_option(alloc))?
         .arg(port_option(alloc))?
         .arg(workers)?
@@ -108,7 +186,7 @@ fn data_option<'a>(alloc: Global) -> Arg<'a>
         .long("data")
         .value_name("DIR")
         .required(true)
-        .help("The folder of the journal")
+        .help("The folder of the journal, which has to be there")
 }
 
 fn port_option<'a>(alloc: Global) -> Arg<'a>
@@ -119,16 +197,47 @@ fn port_option<'a>(alloc: Global) -> Arg<'a>
         .long("port")
         .value_name("P")
         .required(true)
-        .help("The port of the server on this machine")
+        .help("The port of the server on this machine: 1 to 65535")
 }
 
-// An option with a number, which needn't be there.
-fn number_option<'a>(alloc: Global, name: &'a str, value: &'a str, help: &'a str) -> Arg<'a>
-    ensures rule { rule_of result ≡ line.number_option name.entry.now }
+fn key_option<'a>(alloc: Global) -> Arg<'a>
+    ensures rule { rule_of result ≡ line.value_option (codes "key") }
+    ensures local { result.global ≡ false }
+{
+    value_option(
+        alloc,
+        "key",
+        "FILE",
+        "The file whose first line is the key that requests show: 16 to 256 visible characters [default: no key]",
+    )
+}
+
+// An option with a value, which needn't be there.
+fn value_option<'a>(alloc: Global, name: &'a str, value: &'a str, help: &'a str) -> Arg<'a>
+    ensures rule { rule_of result ≡ line.value_option name.entry.now }
     ensures local { result.global ≡ false }
 {
     Arg::new(alloc, name)
         .long(name)
         .value_name(value)
+        .help(help)
+}
+
+// An option with a value, which may be there several times.
+fn list_option<'a>(alloc: Global, name: &'a str, value: &'a str, help: &'a str) -> Arg<'a>
+    ensures rule { rule_of result ≡ line.list_option name.entry.now }
+    ensures local { result.global ≡ false }
+{
+    value_option(alloc, name, value, help).action(ArgAction::Append)
+}
+
+// An option without a value.
+fn flag_option<'a>(alloc: Global, name: &'a str, help: &'a str) -> Arg<'a>
+    ensures rule { rule_of result ≡ line.flag_option name.entry.now }
+    ensures local { result.global ≡ false }
+{
+    Arg::new(alloc, name)
+        .long(name)
+        .action(ArgAction::SetTrue)
         .help(help)
 }

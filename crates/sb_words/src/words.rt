@@ -1,10 +1,11 @@
 // The words that the program is called with, and the form that they are.
 ghost use Rattle.std.specs.Prelude.{◌≡◌, ◌≢◌, ◌≤◌, codes, map, option_map, option_and_then, Option, None, Some, IfOk, IfErr, IfSome, IfNone};
-ghost use Rattle.clap.specs.Words.{first_of, found_of, kind_of, rows_of, subcommand_rows_of};
-ghost use Rattle.sb_words.specs.Words.{MayAsk, MayNotAsk, command_named, form_at, form_in, form_value, needs_value};
+ghost use Rattle.std.specs.List.{list_all};
+ghost use Rattle.clap.specs.Words.{all_of, first_of, found_of, kind_of, rows_of, subcommand_rows_of};
+ghost use Rattle.sb_words.specs.Words.{MayAsk, MayNotAsk, command_named, form_at, form_in, form_value};
 ghost use Rattle.sb_words.specs.Words as line;
 
-use crate::command::{Command, Form, Needs, WordsFault};
+use crate::command::{Command, Form, WordsFault};
 use crate::command_line::parsed;
 use clap::ArgMatches;
 use clap::error::ErrorKind;
@@ -25,6 +26,27 @@ const MAX_CONNECTIONS: u64 = 1_000_000;
 /// The number of connections of a worker that ends after none: none ever takes so many.
 const NO_END: u64 = u64::MAX;
 
+/// The most days that words may let time jump.
+const MAX_JUMP: u64 = 100_000;
+
+/// The days that a server lets time jump where words name no number.
+const SERVE_JUMP: u32 = 400;
+
+/// A run lets time jump by any number of days where words name none.
+const RUN_JUMP: u32 = 0;
+
+/// The longest patience that words may ask for, in seconds.
+const MAX_PATIENCE: u64 = 7_200;
+
+/// The seconds of patience where words name no number.
+const DEFAULT_PATIENCE: u16 = 120;
+
+/// The most names of hosts that words may list.
+const MAX_HOSTS: usize = 8;
+
+/// The longest name of a host.
+const MAX_HOST: usize = 255;
+
 /// The form that these words, without the program's name, are.
 pub fn read_form<'w>(alloc: Global, words: &'w [&str]) -> Result<Form<'w>, WordsFault>
     ensures ok { IfOk result (λ f. form_in (map (λ w. w.now) words.now) ≡ Some (form_value f)) }
@@ -34,28 +56,13 @@ pub fn read_form<'w>(alloc: Global, words: &'w [&str]) -> Result<Form<'w>, Words
         Ok(matches) => matches,
         Err(error) => return Err(words_fault(&error)),
     };
-    match form_found(&matches) {
-        Some(form) => Ok(form),
-        None => Err(WordsFault::BadWords),
+    let found = form_found(alloc, &matches);
+    drop(matches);
+    match found {
+        Ok(Some(form)) => Ok(form),
+        Ok(None) => Err(WordsFault::BadWords),
+        Err(_) => Err(WordsFault::OutOfMemory),
     }
-}
-
-/// What the command of these words needs.
-pub fn needs(alloc: Global, words: &[&str]) -> Result<Needs, WordsFault>
-    ensures form { IfOk result (λ n. form_in (map (λ w. w.now) words.now) ≡ Some (needs_value n)) }
-    ensures bad { IfErr result (λ e. e ≡ WordsFault.BadWords → form_in (map (λ w. w.now) words.now) ≡ None) }
-{
-    let form = read_form(alloc, words)?;
-    let Ok(folder) = String::from_str(alloc, form.folder) else {
-        return Err(WordsFault::OutOfMemory);
-    };
-    Ok(Needs {
-        command: form.command,
-        folder,
-        port: form.port,
-        workers: form.workers,
-        connections: form.connections,
-    })
 }
 
 /// The help or the version that these words ask for, if they do: they are no form then.
@@ -97,31 +104,35 @@ fn asks(error: &clap::Error) -> bool
 }
 
 // The form of what was found.
-fn form_found<'w>(matches: &ArgMatches<'w>) -> Option<Form<'w>>
-    ensures { option_map form_value result ≡ form_at (subcommand_rows_of matches.now) }
+fn form_found<'w>(alloc: Global, matches: &ArgMatches<'w>) -> Result<Option<Form<'w>>, AllocError>
+    ensures { IfOk result (λ form. option_map form_value form ≡ form_at (subcommand_rows_of matches.now)) }
 {
     match matches.subcommand() {
-        Some((name, options)) => form_of(name, options),
-        None => None,
+        Some((name, options)) => form_of(alloc, name, options),
+        None => Ok(None),
     }
 }
 
 // The form of the command with this name, by what was found for its options.
-fn form_of<'w>(name: &str, options: &ArgMatches<'w>) -> Option<Form<'w>>
-    ensures { option_map form_value result ≡ form_at (Some (name.now, rows_of (found_of options.now))) }
+fn form_of<'w>(
+    alloc: Global,
+    name: &str,
+    options: &ArgMatches<'w>,
+) -> Result<Option<Form<'w>>, AllocError>
+    ensures { IfOk result (λ form. option_map form_value form ≡ form_at (Some (name.now, rows_of (found_of options.now)))) }
 {
     let Some(command) = command_of(name) else {
-        return None;
+        return Ok(None);
     };
     match command {
-        Command::Run => folder_form(Command::Run, options),
-        Command::Check => folder_form(Command::Check, options),
-        Command::Client => client_form(options),
-        Command::Serve => serve_form(options),
+        Command::Run => Ok(run_form(alloc, options)),
+        Command::Check => Ok(check_form(alloc, options)),
+        Command::Client => Ok(client_form(alloc, options)),
+        Command::Serve => serve_form(alloc, options),
     }
 }
 
-fn command_of(word: &str) -> Option<Command>
+pub(crate) fn command_of(word: &str) -> Option<Command>
     ensures { result ≡ command_named word.now }
 {
     if word == "run" {
@@ -137,39 +148,93 @@ fn command_of(word: &str) -> Option<Command>
     }
 }
 
-// The form of a command over a folder alone.
-fn folder_form<'w>(command: Command, options: &ArgMatches<'w>) -> Option<Form<'w>>
-    ensures { option_map form_value result ≡ line.over_folder_in command (first_of (codes "data") (rows_of (found_of options.now))) }
+// The form of a command that names nothing beside it.
+fn form_with<'w>(alloc: Global, command: Command) -> Form<'w>
+    ensures { form_value result ≡ line.form_of command }
+{
+    Form {
+        command,
+        folder: "",
+        port: 0,
+        workers: 0,
+        connections: 0,
+        max_jump: 0,
+        hosts: Vec::new(alloc),
+        key_file: "",
+        patience: 0,
+        look: false,
+    }
+}
+
+fn run_form<'w>(alloc: Global, options: &ArgMatches<'w>) -> Option<Form<'w>>
+    ensures { option_map form_value result ≡ line.run_in (rows_of (found_of options.now)) }
+{
+    let Some(folder) = word_of(options, "data") else {
+        return None;
+    };
+    let Some(max_jump) = max_jump_of(RUN_JUMP, word_of(options, "max-jump")) else {
+        return None;
+    };
+    Some(Form {
+        folder,
+        max_jump,
+        ..form_with(alloc, Command::Run)
+    })
+}
+
+fn check_form<'w>(alloc: Global, options: &ArgMatches<'w>) -> Option<Form<'w>>
+    ensures { option_map form_value result ≡ line.check_in (rows_of (found_of options.now)) }
 {
     let Some(folder) = word_of(options, "data") else {
         return None;
     };
     Some(Form {
-        command,
         folder,
-        port: 0,
-        workers: 0,
-        connections: 0,
+        look: look_of(word_of(options, "look")),
+        ..form_with(alloc, Command::Check)
     })
 }
 
-fn client_form<'w>(options: &ArgMatches<'w>) -> Option<Form<'w>>
-    ensures { option_map form_value result ≡ line.with_server_at (line.port_by (first_of (codes "port") (rows_of (found_of options.now)))) }
+fn client_form<'w>(alloc: Global, options: &ArgMatches<'w>) -> Option<Form<'w>>
+    ensures { option_map form_value result ≡ line.client_in (rows_of (found_of options.now)) }
 {
     let Some(port) = port_of(word_of(options, "port")) else {
         return None;
     };
+    let Some(key_file) = key_of(word_of(options, "key")) else {
+        return None;
+    };
+    let Some(patience) = patience_of(word_of(options, "patience")) else {
+        return None;
+    };
     Some(Form {
-        command: Command::Client,
-        folder: "",
         port,
-        workers: 0,
-        connections: 0,
+        key_file,
+        patience,
+        ..form_with(alloc, Command::Client)
     })
 }
 
-fn serve_form<'w>(options: &ArgMatches<'w>) -> Option<Form<'w>>
-    ensures { option_map form_value result ≡ line.serving_in (first_of (codes "data") (rows_of (found_of options.now))) (first_of (codes "port") (rows_of (found_of options.now))) (first_of (codes "workers") (rows_of (found_of options.now))) (first_of (codes "connections") (rows_of (found_of options.now))) }
+fn serve_form<'w>(alloc: Global, options: &ArgMatches<'w>) -> Result<Option<Form<'w>>, AllocError>
+    ensures { IfOk result (λ form. option_map form_value form ≡ line.serve_in (rows_of (found_of options.now))) }
+{
+    let Some(mut form) = open_server_form(alloc, options) else {
+        return Ok(None);
+    };
+    let Some(names) = hosts_of(words_of(options, "host")) else {
+        return Ok(None);
+    };
+    let Some(key_file) = key_of(word_of(options, "key")) else {
+        return Ok(None);
+    };
+    form.hosts = names.to_vec(alloc)?;
+    form.key_file = key_file;
+    Ok(Some(form))
+}
+
+// The form of a server without the rules of who may call it.
+fn open_server_form<'w>(alloc: Global, options: &ArgMatches<'w>) -> Option<Form<'w>>
+    ensures { option_map form_value result ≡ line.open_server_in (rows_of (found_of options.now)) }
 {
     let Some(folder) = word_of(options, "data") else {
         return None;
@@ -183,23 +248,34 @@ fn serve_form<'w>(options: &ArgMatches<'w>) -> Option<Form<'w>>
     let Some(connections) = connections_of(word_of(options, "connections")) else {
         return None;
     };
+    let Some(max_jump) = max_jump_of(SERVE_JUMP, word_of(options, "max-jump")) else {
+        return None;
+    };
     Some(Form {
-        command: Command::Serve,
         folder,
         port,
         workers,
         connections,
+        max_jump,
+        ..form_with(alloc, Command::Serve)
     })
 }
 
 // The word behind an option, if it is there.
-fn word_of<'w>(options: &ArgMatches<'w>, name: &str) -> Option<&'w str>
+pub(crate) fn word_of<'w>(options: &ArgMatches<'w>, name: &str) -> Option<&'w str>
     ensures { option_map (λ w. w.now) result ≡ first_of name.now (rows_of (found_of options.now)) }
 {
     options.get_str(name)
 }
 
-fn port_of(word: Option<&str>) -> Option<u16>
+// The words behind all uses of an option, if it is there.
+pub(crate) fn words_of<'m, 'w>(options: &'m ArgMatches<'w>, name: &str) -> Option<&'m [&'w str]>
+    ensures { option_map (λ ws. map (λ w. w.now) ws.now) result ≡ all_of name.now (rows_of (found_of options.now)) }
+{
+    options.get_raw(name)
+}
+
+pub(crate) fn port_of(word: Option<&str>) -> Option<u16>
     ensures { result ≡ line.port_by (option_map (λ w. w.now) word.entry) }
 {
     let Some(word) = word else {
@@ -211,7 +287,7 @@ fn port_of(word: Option<&str>) -> Option<u16>
     Some(port as u16)
 }
 
-fn workers_of(word: Option<&str>) -> Option<u16>
+pub(crate) fn workers_of(word: Option<&str>) -> Option<u16>
     ensures { result ≡ line.workers_by (option_map (λ w. w.now) word.entry) }
 {
     let Some(word) = word else {
@@ -223,12 +299,109 @@ fn workers_of(word: Option<&str>) -> Option<u16>
     Some(workers as u16)
 }
 
-fn connections_of(word: Option<&str>) -> Option<u64>
+pub(crate) fn connections_of(word: Option<&str>) -> Option<u64>
     ensures { result ≡ line.connections_by (option_map (λ w. w.now) word.entry) }
 {
     match word {
         Some(word) => number_within(word, MAX_CONNECTIONS),
         None => Some(NO_END),
+    }
+}
+
+pub(crate) fn max_jump_of(usual: u32, word: Option<&str>) -> Option<u32>
+    ensures { result ≡ line.max_jump_by usual (option_map (λ w. w.now) word.entry) }
+{
+    let Some(word) = word else {
+        return Some(usual);
+    };
+    let Some(days) = number_to(word, MAX_JUMP) else {
+        return None;
+    };
+    Some(days as u32)
+}
+
+pub(crate) fn patience_of(word: Option<&str>) -> Option<u16>
+    ensures { result ≡ line.patience_by (option_map (λ w. w.now) word.entry) }
+{
+    let Some(word) = word else {
+        return Some(DEFAULT_PATIENCE);
+    };
+    let Some(seconds) = number_within(word, MAX_PATIENCE) else {
+        return None;
+    };
+    Some(seconds as u16)
+}
+
+pub(crate) fn key_of<'w>(word: Option<&'w str>) -> Option<&'w str>
+    ensures { option_map (λ w. w.now) result ≡ line.key_by (option_map (λ w. w.now) word.entry) }
+{
+    match word {
+        Some(file) if file.is_empty() => None,
+        Some(file) => Some(file),
+        None => Some(""),
+    }
+}
+
+pub(crate) fn hosts_of<'m, 'w>(words: Option<&'m [&'w str]>) -> Option<&'m [&'w str]>
+    ensures { option_map (λ ws. map (λ w. w.now) ws.now) result ≡ line.hosts_by (option_map (λ ws. map (λ w. w.now) ws.now) words.entry) }
+{
+    match words {
+        Some(names) if are_hosts(names) => Some(names),
+        Some(_) => None,
+        None => Some(&[]),
+    }
+}
+
+fn are_hosts(names: &[&str]) -> bool
+    ensures { result ≡ line.are_hosts (map (λ w. w.now) names.now) }
+{
+    names.len() <= MAX_HOSTS && all_hosts(names)
+}
+
+fn all_hosts(names: &[&str]) -> bool
+    ensures { result ≡ list_all (λ n. line.is_host n.now) names.now }
+{
+    names.iter().all(|name| is_host(name))
+}
+
+#[tactic(auto, unfolding(crate::specs::Words::is_host))]
+fn is_host(name: &str) -> bool
+    ensures { result ≡ line.is_host name.now }
+{
+    let bytes = name.as_bytes();
+    1 <= bytes.len() && bytes.len() <= MAX_HOST && all_visible(bytes)
+}
+
+fn all_visible(bytes: &[u8]) -> bool
+    ensures { result ≡ list_all line.is_visible bytes.now }
+{
+    bytes.iter().all(|b| is_visible(*b))
+}
+
+fn is_visible(b: u8) -> bool
+    ensures { result ≡ line.is_visible b }
+{
+    33 <= b && b <= 126
+}
+
+fn look_of(word: Option<&str>) -> bool
+    ensures { result ≡ line.look_by (option_map (λ w. w.now) word.entry) }
+{
+    match word {
+        Some(word) => word == "true",
+        None => false,
+    }
+}
+
+// The number that a word writes, which may be 0, up to this one.
+fn number_to(word: &str, most: u64) -> Option<u64>
+    ensures value { result ≡ line.number_to most word.now }
+    ensures bound { IfSome result (λ n. n ≤ most) }
+{
+    if word == "0" {
+        Some(0)
+    } else {
+        number_within(word, most)
     }
 }
 
