@@ -1,5 +1,5 @@
 // Keeping time from running away: what is too far ahead of a clock, or a clock of it, is held back.
-ghost use Rattle.std.specs.Prelude.{◌≡◌, IfErr, IfOk, OnErr, OnOk, string_bytes};
+ghost use Rattle.std.specs.Prelude.{◌≡◌, ℕ, true, false, IfErr, IfOk, OnErr, OnOk, string_bytes};
 ghost use Rattle.sb_app.specs.Outside.{output_of};
 ghost use Rattle.sb_app.specs.Endings.{IsLineWritten};
 ghost use Rattle.sb_app.specs.Held.{IsJumpStatus, IsOvertaken, IsTooFar};
@@ -31,15 +31,10 @@ pub fn hold_line<C: Clock>(clock: &C, days: u32, line: &ScriptLine) -> Result<()
     ensures ok { OnOk result (IsWithin any_reading days line.now) }
     ensures err { IfErr result (IsTooFar any_reading days line.now) }
 {
-    let ScriptLine::Request(asked) = line else {
-        return Ok(());
-    };
-    let moment = asked.reading;
-    let reading = clock.now();
-    if is_far_ahead(days, reading, moment) {
-        return Err(Jump { moment, reading });
+    match line {
+        ScriptLine::Blank | ScriptLine::Malformed(_) => Ok(()),
+        ScriptLine::Request(asked) => hold_moment(clock, days, asked.reading),
     }
-    Ok(())
 }
 
 /// Holds a server back where the clock is more than so many days ahead of the moment of its namespace,
@@ -83,6 +78,18 @@ pub fn jump_status<K: Sink>(alloc: Global, jump: Jump, output: &mut K) -> u8
         Ok(()) => 14,
         Err(_) => 7,
     }
+}
+
+// Holds a moment back that is more than so many days ahead of the clock.
+fn hold_moment<C: Clock>(clock: &C, days: u32, moment: u64) -> Result<(), Jump>
+    ensures ok { OnOk result ((reading : ℕ) × any_reading reading × (limits.is_far_ahead days reading moment ≡ false)) }
+    ensures err { IfErr result (λ jump. (jump.moment ≡ moment) × any_reading jump.reading × (limits.is_far_ahead days jump.reading jump.moment ≡ true)) }
+{
+    let reading = clock.now();
+    if is_far_ahead(days, reading, moment) {
+        return Err(Jump { moment, reading });
+    }
+    Ok(())
 }
 
 fn tell_opening<W: Watcher>(watcher: &W, opened: Summary, reading_ms: u64) {
