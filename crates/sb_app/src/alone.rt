@@ -20,6 +20,7 @@ use crate::checking::check_status;
 use crate::client::client_status;
 use crate::ending::status_of;
 use crate::final_line::write_final_line;
+use crate::looking::look_over;
 use crate::opening::open_node;
 use crate::running::run_script;
 use crate::task::Task;
@@ -61,6 +62,7 @@ pub fn carry_out<D: Disk, S: Source, K: Sink, N: Link>(
     match task {
         Task::Run => run_over(alloc, disk_a, disk_b, salt, input, output),
         Task::Check => check_over(alloc, disk_a, disk_b, salt, input, output),
+        Task::Look => look_over(alloc, disk_a, disk_b, salt, input, output),
         Task::Client => {
             let status = client_status(alloc, link, input, output);
             (status, disk_a, disk_b)

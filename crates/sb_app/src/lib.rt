@@ -20,6 +20,7 @@ mod client;
 mod dispatch;
 mod ending;
 mod final_line;
+mod looking;
 mod opening;
 mod program;
 mod running;
