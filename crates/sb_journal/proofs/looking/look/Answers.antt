@@ -18,3 +18,7 @@ returns-in-Ok-look_at-clause-gates g c =
     let s = stand_file c.in-Ok-look_at.looked.stand in
     let last = gate_after_file s refl in
     (ap (λ f. f.base) file, omega (arith, ap (λ f. gate_after (first_gate f) f.payloads) file, last, c.in-Ok-look_at.ensures.stand.end_is, c.in-Ok-look_at.ensures.stand.end_fits))
+
+pub returns-in-Err-clause-cause : goal.returns-in-Err-clause-cause
+returns-in-Err-clause-cause g c failed =
+    one_fault (disks_of g.D.Disk c.args.disk_a.now c.args.disk_b.now) (disks_of g.D.Disk c.look_at.new.disk c.args.disk_b.now) (c.in-Err.ensures.cause failed) refl
