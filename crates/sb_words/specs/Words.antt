@@ -46,12 +46,12 @@ check_command = (with_rule (with_rule (new_app (codes "check")) data_option) (fl
 abbrev pub client_command : Shape
 client_command = (with_rule (with_rule (with_rule (new_app (codes "client")) port_option) (value_option (codes "key"))) (value_option (codes "patience"))).top
 
--- a server without the rules of who may call it
-abbrev pub open_server : App
-open_server = with_rule (with_rule (with_rule (with_rule (with_rule (new_app (codes "serve")) data_option) port_option) (value_option (codes "workers"))) (value_option (codes "connections"))) (value_option (codes "max-jump"))
+-- a server with its folder, its port and its workers
+abbrev pub plain_server : App
+plain_server = with_rule (with_rule (with_rule (with_rule (new_app (codes "serve")) data_option) port_option) (value_option (codes "workers"))) (value_option (codes "connections"))
 
 abbrev pub serve_command : Shape
-serve_command = (with_rule (with_rule open_server (list_option (codes "host"))) (value_option (codes "key"))).top
+serve_command = (with_rule (with_rule (with_rule plain_server (value_option (codes "max-jump"))) (list_option (codes "host"))) (value_option (codes "key"))).top
 
 abbrev pub folder_commands : App
 folder_commands = with_subcommand (with_subcommand bus run_command) check_command
@@ -154,7 +154,7 @@ abbrev pub is_visible : ℕ → Bool
 is_visible b = nat_le 33 b && nat_le b 126
 
 -- 1 to 255 visible characters
-abbrev pub is_host : Text → Bool
+unfoldable pub is_host : Text → Bool
 is_host name = nat_le 1 (length name) && nat_le (length name) 255 && list_all is_visible name
 
 -- up to 8 names

@@ -1,6 +1,6 @@
 // The command line of the program, as `clap` has it.
 ghost use Rattle.std.specs.Prelude.{◌≡◌, codes, map, false, IfOk};
-ghost use Rattle.clap.specs.Words.{FailsBy, HasMatchesOf, app_of, fault_of, rule_of, shape_of};
+ghost use Rattle.clap.specs.Words.{FailsBy, HasMatchesOf, app_of, fault_of, new_app, rule_of, shape_of};
 ghost use Rattle.sb_words.specs.Words as line;
 ghost use Rattle.clap.specs.declared.builder.command.Command.TheViews.{out-Command as fields_of};
 
@@ -11,7 +11,8 @@ use std::alloc::{AllocError, Global};
 const VERSION: &str = "0.1.0";
 
 // What stands at the end of the program's help.
-const EXAMPLES: &str = "Examples:{n}  bus serve --data data --port 8080{n}  bus client --port 8080 < orders.script{n}  bus help serve";
+const EXAMPLES: &str =
+    "Examples:{n}  bus serve --data data --port 8080{n}  bus client --port 8080 < orders.script{n}  bus help serve";
 
 /// What `clap` makes of these words, without the program's name.
 pub(crate) fn parsed<'w>(alloc: Global, words: &'w [&str]) -> Result<ArgMatches<'w>, clap::Error>
@@ -36,15 +37,46 @@ fn folder_commands<'a>(alloc: Global) -> Result<clap::Command<'a>, AllocError>
 {
     let run = run_command(alloc)?;
     let check = check_command(alloc)?;
-    clap::Command::new(alloc, "bus")
-        .about("A message broker over a journal in a folder")
-        .after_help(EXAMPLES)
+    let bus = bus_command(alloc)?;
+    bus.subcommand(run)?.subcommand(check)
+}
+
+// The program without its commands.
+fn bus_command<'a>(alloc: Global) -> Result<clap::Command<'a>, AllocError>
+    ensures app { IfOk result (λ c. app_of c ≡ line.bus) }
+    ensures local { IfOk result (λ c. (fields_of c).has_globals ≡ false) }
+{
+    let about = "A message broker over a journal in a folder";
+    let bus = described(alloc, "bus", about, EXAMPLES)
         .version(VERSION)
         .no_binary_name(true)
-        .subcommand_required(true)
-        .bin_name("bus")?
-        .subcommand(run)?
-        .subcommand(check)
+        .subcommand_required(true);
+    let called = called_bus(bus)?;
+    Ok(called)
+}
+
+// A command without options, and what its help says of it.
+fn described<'a>(
+    alloc: Global,
+    name: &'a str,
+    about: &'a str,
+    example: &'a str,
+) -> clap::Command<'a>
+    ensures app { app_of result ≡ new_app name.entry.now }
+    ensures local { (fields_of result).has_globals ≡ false }
+{
+    clap::Command::new(alloc, name)
+        .about(about)
+        .after_help(example)
+}
+
+// The same command, which stands as `bus` in each usage.
+fn called_bus(command: clap::Command<'_>) -> Result<clap::Command<'_>, AllocError>
+    ensures app { IfOk result (λ c. app_of c ≡ app_of command.entry) }
+    ensures local { IfOk result (λ c. (fields_of c).has_globals ≡ (fields_of command.entry).has_globals) }
+{
+    let called = command.bin_name("bus")?;
+    Ok(called)
 }
 
 fn run_command<'a>(alloc: Global) -> Result<clap::Command<'a>, AllocError>
@@ -57,9 +89,9 @@ fn run_command<'a>(alloc: Global) -> Result<clap::Command<'a>, AllocError>
         "DAYS",
         "The most days that the time of a line may be beyond the clock of the system: 0 to 100000; 0 is any number [default: 0]",
     );
-    clap::Command::new(alloc, "run")
-        .about("Answer the script lines of the input")
-        .after_help("Example: bus run --data data < orders.script")
+    let about = "Answer the script lines of the input";
+    let example = "Example: bus run --data data < orders.script";
+    described(alloc, "run", about, example)
         .arg(data_option(alloc))?
         .arg(max_jump)
 }
@@ -73,9 +105,9 @@ fn check_command<'a>(alloc: Global) -> Result<clap::Command<'a>, AllocError>
         "look",
         "Write nothing: look at the files as they stand, beside a server too",
     );
-    clap::Command::new(alloc, "check")
-        .about("Tell the numbers of the namespace")
-        .after_help("Example: bus check --data data")
+    let about = "Tell the numbers of the namespace";
+    let example = "Example: bus check --data data";
+    described(alloc, "check", about, example)
         .arg(data_option(alloc))?
         .arg(look)
 }
@@ -88,11 +120,11 @@ fn client_command<'a>(alloc: Global) -> Result<clap::Command<'a>, AllocError>
         alloc,
         "patience",
         "S",
-        "After how many seconds a server that says nothing is given up, beside a line's own wait: 1 to 7200 [default: 120]",
+        "After how many seconds a server that says nothing is given up: 1 to 7200 [default: 120]",
     );
-    clap::Command::new(alloc, "client")
-        .about("Have a server answer the script lines of the input")
-        .after_help("Example: bus client --port 8080 < orders.script")
+    let about = "Have a server answer the script lines of the input";
+    let example = "Example: bus client --port 8080 < orders.script";
+    described(alloc, "client", about, example)
         .arg(port_option(alloc))?
         .arg(key_option(alloc))?
         .arg(patience)
@@ -108,12 +140,21 @@ fn serve_command<'a>(alloc: Global) -> Result<clap::Command<'a>, AllocError>
         "NAME",
         "A name by which the server may be called, beside localhost: up to 8 times, each of 1 to 255 visible characters [default: any name]",
     );
-    open_server(alloc)?.arg(host)?.arg(key_option(alloc))
+    let max_jump = value_option(
+        alloc,
+        "max-jump",
+        "DAYS",
+        "The most days that the clock may be ahead of the journal as it opens: 0 to 100000; 0 is any number [default: 400]",
+    );
+    plain_server(alloc)?
+        .arg(max_jump)?
+        .arg(host)?
+        .arg(key_option(alloc))
 }
 
-// The server without the rules of who may call it.
-fn open_server<'a>(alloc: Global) -> Result<clap::Command<'a>, AllocError>
-    ensures app { IfOk result (λ c. app_of c ≡ line.open_server) }
+// The server with its folder, its port and its workers.
+fn plain_server<'a>(alloc: Global) -> Result<clap::Command<'a>, AllocError>
+    ensures app { IfOk result (λ c. app_of c ≡ line.plain_server) }
     ensures local { IfOk result (λ c. (fields_of c).has_globals ≡ false) }
 {
     let workers = value_option(
@@ -128,20 +169,13 @@ fn open_server<'a>(alloc: Global) -> Result<clap::Command<'a>, AllocError>
         "K",
         "After how many connections a worker ends: 1 to 1000000 [default: it doesn't end]",
     );
-    let max_jump = value_option(
-        alloc,
-        "max-jump",
-        "DAYS",
-        "The most days that the clock may be ahead of the journal as it opens: 0 to 100000; 0 is any number [default: 400]",
-    );
-    clap::Command::new(alloc, "serve")
-        .about("Answer the requests of connections")
-        .after_help("Example: bus serve --data data --port 8080")
+    let about = "Answer the requests of connections";
+    let example = "Example: bus serve --data data --port 8080";
+    described(alloc, "serve", about, example)
         .arg(data_option(alloc))?
         .arg(port_option(alloc))?
         .arg(workers)?
-        .arg(connections)?
-        .arg(max_jump)
+        .arg(connections)
 }
 
 fn data_option<'a>(alloc: Global) -> Arg<'a>

@@ -2,8 +2,8 @@
 //!
 //! It stands on `clap`, whose command line is a definition, and so are the faults and the matches that it
 //! has for words (`specs/Words`): words are a form where there is no fault, and what is found for the
-//! options of a command is in range. `read_form` gives the form, and `asked_text` the help or the version,
-//! which are no form. Words are `BadWords` only where they are no form. A port is read as `sb_http` reads
+//! options of a command is in range. `read_form` gives the form, `asked_text` the help or the version,
+//! which are no form, and `fault_text` says what is wrong with words. Words are `BadWords` only where they are no form. A port is read as `sb_http` reads
 //! a length.
 //!
 //! ```rust
@@ -16,8 +16,10 @@
 
 mod command;
 mod command_line;
+mod faults;
 pub mod laws;
 mod words;
 
 pub use command::{Command, Form, WordsFault};
+pub use faults::fault_text;
 pub use words::{asked_text, read_form};

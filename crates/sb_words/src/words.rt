@@ -1,5 +1,6 @@
 // The words that the program is called with, and the form that they are.
 ghost use Rattle.std.specs.Prelude.{◌≡◌, ◌≢◌, ◌≤◌, codes, map, option_map, option_and_then, Option, None, Some, IfOk, IfErr, IfSome, IfNone};
+ghost use Rattle.std.specs.List.{list_all};
 ghost use Rattle.clap.specs.Words.{all_of, first_of, found_of, kind_of, rows_of, subcommand_rows_of};
 ghost use Rattle.sb_words.specs.Words.{MayAsk, MayNotAsk, command_named, form_at, form_in, form_value};
 ghost use Rattle.sb_words.specs.Words as line;
@@ -55,7 +56,9 @@ pub fn read_form<'w>(alloc: Global, words: &'w [&str]) -> Result<Form<'w>, Words
         Ok(matches) => matches,
         Err(error) => return Err(words_fault(&error)),
     };
-    match form_found(alloc, &matches) {
+    let found = form_found(alloc, &matches);
+    drop(matches);
+    match found {
         Ok(Some(form)) => Ok(form),
         Ok(None) => Err(WordsFault::BadWords),
         Err(_) => Err(WordsFault::OutOfMemory),
@@ -129,7 +132,7 @@ fn form_of<'w>(
     }
 }
 
-fn command_of(word: &str) -> Option<Command>
+pub(crate) fn command_of(word: &str) -> Option<Command>
     ensures { result ≡ command_named word.now }
 {
     if word == "run" {
@@ -212,10 +215,7 @@ fn client_form<'w>(alloc: Global, options: &ArgMatches<'w>) -> Option<Form<'w>>
     })
 }
 
-fn serve_form<'w>(
-    alloc: Global,
-    options: &ArgMatches<'w>,
-) -> Result<Option<Form<'w>>, AllocError>
+fn serve_form<'w>(alloc: Global, options: &ArgMatches<'w>) -> Result<Option<Form<'w>>, AllocError>
     ensures { IfOk result (λ form. option_map form_value form ≡ line.serve_in (rows_of (found_of options.now))) }
 {
     let Some(mut form) = open_server_form(alloc, options) else {
@@ -262,20 +262,20 @@ fn open_server_form<'w>(alloc: Global, options: &ArgMatches<'w>) -> Option<Form<
 }
 
 // The word behind an option, if it is there.
-fn word_of<'w>(options: &ArgMatches<'w>, name: &str) -> Option<&'w str>
+pub(crate) fn word_of<'w>(options: &ArgMatches<'w>, name: &str) -> Option<&'w str>
     ensures { option_map (λ w. w.now) result ≡ first_of name.now (rows_of (found_of options.now)) }
 {
     options.get_str(name)
 }
 
 // The words behind all uses of an option, if it is there.
-fn words_of<'m, 'w>(options: &'m ArgMatches<'w>, name: &str) -> Option<&'m [&'w str]>
+pub(crate) fn words_of<'m, 'w>(options: &'m ArgMatches<'w>, name: &str) -> Option<&'m [&'w str]>
     ensures { option_map (λ ws. map (λ w. w.now) ws.now) result ≡ all_of name.now (rows_of (found_of options.now)) }
 {
     options.get_raw(name)
 }
 
-fn port_of(word: Option<&str>) -> Option<u16>
+pub(crate) fn port_of(word: Option<&str>) -> Option<u16>
     ensures { result ≡ line.port_by (option_map (λ w. w.now) word.entry) }
 {
     let Some(word) = word else {
@@ -287,7 +287,7 @@ fn port_of(word: Option<&str>) -> Option<u16>
     Some(port as u16)
 }
 
-fn workers_of(word: Option<&str>) -> Option<u16>
+pub(crate) fn workers_of(word: Option<&str>) -> Option<u16>
     ensures { result ≡ line.workers_by (option_map (λ w. w.now) word.entry) }
 {
     let Some(word) = word else {
@@ -299,7 +299,7 @@ fn workers_of(word: Option<&str>) -> Option<u16>
     Some(workers as u16)
 }
 
-fn connections_of(word: Option<&str>) -> Option<u64>
+pub(crate) fn connections_of(word: Option<&str>) -> Option<u64>
     ensures { result ≡ line.connections_by (option_map (λ w. w.now) word.entry) }
 {
     match word {
@@ -308,7 +308,7 @@ fn connections_of(word: Option<&str>) -> Option<u64>
     }
 }
 
-fn max_jump_of(usual: u32, word: Option<&str>) -> Option<u32>
+pub(crate) fn max_jump_of(usual: u32, word: Option<&str>) -> Option<u32>
     ensures { result ≡ line.max_jump_by usual (option_map (λ w. w.now) word.entry) }
 {
     let Some(word) = word else {
@@ -320,7 +320,7 @@ fn max_jump_of(usual: u32, word: Option<&str>) -> Option<u32>
     Some(days as u32)
 }
 
-fn patience_of(word: Option<&str>) -> Option<u16>
+pub(crate) fn patience_of(word: Option<&str>) -> Option<u16>
     ensures { result ≡ line.patience_by (option_map (λ w. w.now) word.entry) }
 {
     let Some(word) = word else {
@@ -332,7 +332,7 @@ fn patience_of(word: Option<&str>) -> Option<u16>
     Some(seconds as u16)
 }
 
-fn key_of<'w>(word: Option<&'w str>) -> Option<&'w str>
+pub(crate) fn key_of<'w>(word: Option<&'w str>) -> Option<&'w str>
     ensures { option_map (λ w. w.now) result ≡ line.key_by (option_map (λ w. w.now) word.entry) }
 {
     match word {
@@ -342,7 +342,7 @@ fn key_of<'w>(word: Option<&'w str>) -> Option<&'w str>
     }
 }
 
-fn hosts_of<'m, 'w>(words: Option<&'m [&'w str]>) -> Option<&'m [&'w str]>
+pub(crate) fn hosts_of<'m, 'w>(words: Option<&'m [&'w str]>) -> Option<&'m [&'w str]>
     ensures { option_map (λ ws. map (λ w. w.now) ws.now) result ≡ line.hosts_by (option_map (λ ws. map (λ w. w.now) ws.now) words.entry) }
 {
     match words {
@@ -355,14 +355,27 @@ fn hosts_of<'m, 'w>(words: Option<&'m [&'w str]>) -> Option<&'m [&'w str]>
 fn are_hosts(names: &[&str]) -> bool
     ensures { result ≡ line.are_hosts (map (λ w. w.now) names.now) }
 {
-    names.len() <= MAX_HOSTS && names.iter().all(|name| is_host(name))
+    names.len() <= MAX_HOSTS && all_hosts(names)
 }
 
+fn all_hosts(names: &[&str]) -> bool
+    ensures { result ≡ list_all (λ n. line.is_host n.now) names.now }
+{
+    names.iter().all(|name| is_host(name))
+}
+
+#[tactic(auto, unfolding(crate::specs::Words::is_host))]
 fn is_host(name: &str) -> bool
     ensures { result ≡ line.is_host name.now }
 {
     let bytes = name.as_bytes();
-    1 <= bytes.len() && bytes.len() <= MAX_HOST && bytes.iter().all(|b| is_visible(*b))
+    1 <= bytes.len() && bytes.len() <= MAX_HOST && all_visible(bytes)
+}
+
+fn all_visible(bytes: &[u8]) -> bool
+    ensures { result ≡ list_all line.is_visible bytes.now }
+{
+    bytes.iter().all(|b| is_visible(*b))
 }
 
 fn is_visible(b: u8) -> bool
