@@ -1,12 +1,13 @@
 #!/usr/bin/env python3
-"""Copies the journal of a server under load, and opens each copy.
+"""Copies the journal of a server under load, and looks at each copy and at the journal itself.
 
 usage: tools/copied_journals.py PROGRAM [COPIES]
 
 PROGRAM is the built program (crates/sb_bus/out/sb_bus). Four callers send while the journal is copied again
-and again, 1,000 times where nothing is said. `check` has to open each copy as sound, with every message whose send
-was acknowledged before the copying began, and none whose send began after it ended. The exit status is 1 where one
-is otherwise.
+and again, 1,000 times where nothing is said. `check --look` has to find each copy sound, with every message whose send
+was acknowledged before the copying began, and none whose send began after it ended; it has to leave the copy as it is,
+and `check` has to tell the same. So it has to be of a look at the server's own folder, in which it makes no file, and
+the server goes on. The exit status is 1 where one is otherwise.
 """
 import json
 import os
@@ -57,12 +58,43 @@ class Load:
             thread.join()
 
 
-def checked(program, folder):
-    """How many messages a copy has."""
-    call = [program, "check", "--data", folder]
+def told(program, folder, *words):
+    """The line that a check of a folder tells."""
+    call = [program, "check", "--data", folder, *words]
     done = subprocess.run(call, stdin=subprocess.DEVNULL, capture_output=True, text=True, timeout=600, check=False)
-    lib.wants(done.returncode == 0, f"check ended with status {done.returncode}: {done.stdout}{done.stderr}")
-    return json.loads(done.stdout)["copies"]
+    lib.wants(done.returncode == 0, f"{' '.join(call)} ended with status {done.returncode}: {done.stdout}{done.stderr}")
+    return done.stdout
+
+
+def content(path):
+    with open(path, "rb") as file:
+        return file.read()
+
+
+def copies_told(program, data):
+    """How many messages a copy of the journal has, by a look at it and by a check."""
+    with tempfile.TemporaryDirectory() as folder:
+        path = os.path.join(folder, "a.journal")
+        shutil.copyfile(os.path.join(data, "a.journal"), path)
+        os.chmod(path, 0o400)
+        before = content(path)
+        looked = told(program, folder, "--look")
+        lib.wants(os.listdir(folder) == ["a.journal"], f"a look made files: {os.listdir(folder)}")
+        lib.wants(content(path) == before, "a look changed the copy")
+        os.chmod(path, 0o600)
+        lib.wants(told(program, folder) == looked, f"a check doesn't tell the look's {looked}")
+        return json.loads(looked)["copies"]
+
+
+def is_within(load, number, what, find):
+    """What `find` finds has all that was acknowledged before, and nothing that began after it."""
+    load.most = number * SENDS
+    time.sleep(random.uniform(0, WAIT))
+    least = load.acknowledged
+    found = find()
+    most = load.begun
+    lib.wants(least <= found <= most, f"{what} {number} has {found} messages, and not {least} to {most}")
+    return found
 
 
 def copied(program, copies):
@@ -70,19 +102,16 @@ def copied(program, copies):
     with tempfile.TemporaryDirectory() as data, lib.serving(program, data, port, "--workers", str(CALLERS + 1)):
         with lib.Caller(port) as caller:
             caller.line({"do": "create-queue", "name": "q"})
+        names = sorted(os.listdir(data))
         load = Load(port)
         try:
             for number in range(1, copies + 1):
-                with tempfile.TemporaryDirectory() as folder:
-                    load.most = number * SENDS
-                    time.sleep(random.uniform(0, WAIT))
-                    least = load.acknowledged
-                    shutil.copyfile(os.path.join(data, "a.journal"), os.path.join(folder, "a.journal"))
-                    most = load.begun
-                    found = checked(program, folder)
-                lib.wants(least <= found <= most, f"copy {number} has {found} messages, and not {least} to {most}")
+                found = is_within(load, number, "copy", lambda: copies_told(program, data))
+                if number % 10 == 0:
+                    is_within(load, number, "look", lambda: json.loads(told(program, data, "--look"))["copies"])
         finally:
             load.stop()
+        lib.wants(sorted(os.listdir(data)) == names, f"a look made files: {os.listdir(data)}")
     lib.wants(not load.refused, f"sends were answered {load.refused[:3]}")
     print(f"{copies} copies, the last one with {found} messages")
 

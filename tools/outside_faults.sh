@@ -3,7 +3,7 @@
 # statuses: no folder, files and folders that may not be written, standard streams that are closed, an
 # output that is full or has no reader, a disk that is full. After each of them the journal must open.
 # Where strace is there it also looks at the order of system calls: a record is written and synced, then
-# its gate, and only then the reply is written.
+# its gate, and only then the reply is written; and that a look makes none that could change a file.
 # As root it also tries what only an unprivileged user is refused, and the full disk (a tmpfs of 16 KiB).
 set -u
 program=$(realpath "${1:?the path of the program}") || exit 2
@@ -33,6 +33,11 @@ opens() {
 
 ./bus run --data none </dev/null
 expect "no folder" $? 11
+
+mkdir no_journal
+./bus check --data no_journal --look
+expect "a look at a folder without a journal" $? 11
+[ -z "$(ls no_journal)" ] || { echo "WRONG: a look made $(ls no_journal)"; failed=1; }
 
 mkdir closed_output
 ./bus run --data closed_output <"$script" >&-
@@ -93,6 +98,14 @@ if command -v strace >/dev/null; then
         *w* | *r* | '') echo "WRONG: calls of an opening: $opening" && failed=1 ;;
         *) echo "ok: calls of an opening: $opening" ;;
     esac
+    strace -e trace=openat,write,pwrite64,ftruncate,flock,fsync,fdatasync -o trace ./bus check --data synced --look
+    expect "a look" $? 0
+    if grep -v '^write(1,' trace | grep -qE 'O_(WRONLY|RDWR|CREAT)|^(p?write|ftruncate|flock|f.*sync)'; then
+        echo "WRONG: calls of a look: $(cat trace)"
+        failed=1
+    else
+        echo "ok: a look opens for reading alone, and doesn't lock, write or sync"
+    fi
 fi
 
 if [ "$(id -u)" -eq 0 ]; then
@@ -103,6 +116,8 @@ if [ "$(id -u)" -eq 0 ]; then
     mkdir read_only_files && ./bus run --data read_only_files </dev/null && chmod 444 read_only_files/*
     su nobody -s /bin/sh -c "'$work/bus' run --data '$work/read_only_files' </dev/null"
     expect "files that may not be written" $? 11
+    su nobody -s /bin/sh -c "'$work/bus' check --data '$work/read_only_files' --look"
+    expect "a look at files that may not be written" $? 0
 
     mkdir full_disk
     if mount -t tmpfs -o size=16k tmpfs full_disk; then

@@ -5,7 +5,7 @@ usage: tools/two_runs.py PROGRAM
 
 PROGRAM is the built program (crates/sb_bus/out/sb_bus). While a first run is at work, a second one on
 its folder has to end with status 11 and one line on standard error, without a byte on standard output
-or in the journal; the first one then goes on. It is ended by kill -9, and a third run has to find all
+or in the journal; a look has to tell what the first one acknowledged; the first one then goes on. It is ended by kill -9, and a third run has to find all
 that the first one acknowledged. So it is also where the first run ends by itself. The exit status is 1
 where something else happens.
 """
@@ -54,6 +54,13 @@ def main():
         expect(f"{name}: it answers nothing", second.stdout == b"")
         expect(f"{name}: it writes nothing", journal(folder) == before)
 
+    def is_looked_at(name, folder):
+        before = journal(folder)
+        look = subprocess.run([program, "check", "--data", folder, "--look"], capture_output=True, timeout=60, check=False)
+        expect(f"{name}: a look beside it ends with 0", look.returncode == 0)
+        expect(f"{name}: it tells what was acknowledged", json.loads(look.stdout or "{}").get("copies") == 1)
+        expect(f"{name}: it writes nothing", journal(folder) == before)
+
     def finds(name, folder, bodies):
         third = lib.run(program, folder, [PEEK])
         expect(f"{name}: a third run ends with 0", third.returncode == 0)
@@ -66,6 +73,7 @@ def main():
             expect(f"{name}: a queue is made", ask(first, CREATE) == {"ok": "done"})
             expect(f"{name}: a send", ask(first, send("one"))["ok"] == "sent")
             is_kept_out(name, folder)
+            is_looked_at(name, folder)
             expect(f"{name}: the first run goes on", ask(first, send("two"))["ok"] == "sent")
             end(first)
             expect(f"{name}: the first run's status", first.wait() == (-9 if name == "killed" else 0))

@@ -1,7 +1,7 @@
 -- A whole call, by the task that its words name, and what words name.
-use Rattle.std.proofs.Common.{◌≡◌, ◌≢◌, ℕ, List, Option, Some, None, Result, Err, refl, sym, ◌∙◌, ap}
+use Rattle.std.proofs.Common.{◌≡◌, ◌≢◌, ℕ, List, Bool, true, false, Option, Some, None, Result, Err, refl, sym, ◌∙◌, ap}
 use Rattle.std.specs.Prelude.{option_and_then, option_map}
-use Rattle.sb_words.specs.Words.{command_in, connections_in, connections_of, form_in, form_value}
+use Rattle.sb_words.specs.Words.{command_in, connections_in, connections_of, form_in, form_value, look_in, look_of}
 use Rattle.sb_words.specs.declared.command.Command.{Command}
 use Rattle.sb_words.specs.declared.command.Command.TheVariants.{Run as RunCommand, Check as CheckCommand, Client as ClientCommand, Serve}
 use Rattle.sb_words.specs.declared.command.Form.{Form as ReadForm}
@@ -10,30 +10,35 @@ use Rattle.sb_words.specs.declared.command.WordsFault.TheVariants.{BadWords, Out
 use Rattle.sb_app.specs.Outside.{Output, Outside}
 use Rattle.sb_app.specs.declared.task.Named.{Named}
 use Rattle.sb_app.specs.declared.task.Task.{Task}
-use Rattle.sb_app.specs.declared.task.Task.TheVariants.{Run, Check, Client}
+use Rattle.sb_app.specs.declared.task.Task.TheVariants.{Run, Check, Look, Client}
 use Rattle.sb_app.specs.Endings.{IsLineWritten}
 use Rattle.sb_app.specs.Tops.{usage_line, IsCarriedOut}
 use Rattle.sb_app.specs.Clients.{Exchanges, IsClientCall}
+use Rattle.sb_app.specs.Looks.{IsLooked}
 use Rattle.sb_app.specs.Calls.{IsCall, IsNamed, task_in, task_of}
 use Rattle.sb_app.proofs.Carried.{unread_alone, usage_alone}
 use Rattle.sb_app.proofs.Clients.{at_once}
+use Rattle.sb_app.proofs.Looks.{look_at_once}
 
 -- ---- calls
 
 pub usage_call : (clock : ℕ → Type 0) (days salt : ℕ) (was : Outside) (output : Output) (link : Exchanges) → IsLineWritten usage_line was.output output → IsCall clock days None salt was (record was { output = output }) link link 2
-usage_call clock days salt was output link written = record { carried_out = λ other. usage_alone clock days salt was output written; client = λ is. absurd cc }
+usage_call clock days salt was output link written = record { carried_out = λ other last. usage_alone clock days salt was output written; looked = λ is. absurd cc; client = λ is. absurd cc }
 
 pub unread_call : (clock : ℕ → Type 0) (days : ℕ) (task : Option Task) (salt : ℕ) (was : Outside) (link : Exchanges) → IsCall clock days task salt was was link link 7
-unread_call clock days task salt was link = record { carried_out = λ other. unread_alone clock days task salt was; client = λ is. at_once was link }
+unread_call clock days task salt was link = record { carried_out = λ other last. unread_alone clock days task salt was; looked = λ is. look_at_once salt was; client = λ is. at_once was link }
 
 pub run_call : (clock : ℕ → Type 0) (days salt : ℕ) (was now : Outside) (link : Exchanges) (status : ℕ) → IsCarriedOut clock days (Some Run) salt was now status → IsCall clock days (Some Run) salt was now link link status
-run_call clock days salt was now link status carried = record { carried_out = λ other. carried; client = λ is. absurd cc }
+run_call clock days salt was now link status carried = record { carried_out = λ other last. carried; looked = λ is. absurd cc; client = λ is. absurd cc }
 
 pub check_call : (clock : ℕ → Type 0) (days salt : ℕ) (was now : Outside) (link : Exchanges) (status : ℕ) → IsCarriedOut clock days (Some Check) salt was now status → IsCall clock days (Some Check) salt was now link link status
-check_call clock days salt was now link status carried = record { carried_out = λ other. carried; client = λ is. absurd cc }
+check_call clock days salt was now link status carried = record { carried_out = λ other last. carried; looked = λ is. absurd cc; client = λ is. absurd cc }
+
+pub look_call : (clock : ℕ → Type 0) (days salt : ℕ) (was now : Outside) (link : Exchanges) (status : ℕ) → IsLooked salt was now status → IsCall clock days (Some Look) salt was now link link status
+look_call clock days salt was now link status looked = record { carried_out = λ other last. absurd (last refl); looked = λ is. looked; client = λ is. absurd cc }
 
 pub link_call : (clock : ℕ → Type 0) (days salt : ℕ) (was now : Outside) (link link_now : Exchanges) (status : ℕ) → IsClientCall was now link link_now status → IsCall clock days (Some Client) salt was now link link_now status
-link_call clock days salt was now link link_now status called = record { carried_out = λ other. absurd (other refl); client = λ is. called }
+link_call clock days salt was now link link_now status called = record { carried_out = λ other last. absurd (other refl); looked = λ is. absurd cc; client = λ is. called }
 
 -- ---- what words name
 
@@ -48,30 +53,34 @@ most_in words f is = sym (ap connections_of is)
 
 -- words that couldn't be read name no task, or memory was wanting
 pub unnamed : (words : List (List ℕ)) (days : ℕ) (fault : WordsFault) → (fault ≡ BadWords → form_in words ≡ None) → IsNamed (task_in words) days (Err fault)
-unnamed words days BadWords bad = ap (option_and_then task_of) (no_form words (bad refl))
+unnamed words days BadWords bad = ap (option_and_then (task_of (look_in words))) (no_form words (bad refl))
 unnamed words days OutOfMemory bad = tt
 
-pub named : (words : List (List ℕ)) (f : ReadForm) (task : Option Task) → form_in words ≡ Some (form_value f) → task ≡ task_of f.command → task_in words ≡ task
-named words f task is of = ap (option_and_then task_of) (a_form words f is) ∙ sym of
+pub named : (words : List (List ℕ)) (f : ReadForm) (task : Option Task) → form_in words ≡ Some (form_value f) → task ≡ task_of f.look f.command → task_in words ≡ task
+named words f task is of =
+    ap (option_and_then (task_of (look_in words))) (a_form words f is)
+    ∙ ap (λ (look : Bool). task_of look f.command) (ap look_of is)
+    ∙ sym of
 
-pub serves : (command : Command) → None ≡ task_of command → command ≡ Serve
-serves RunCommand none = absurd cc
-serves CheckCommand none = absurd cc
-serves ClientCommand none = absurd cc
-serves Serve none = refl
+pub serves : (look : Bool) (command : Command) → None ≡ task_of look command → command ≡ Serve
+serves look RunCommand none = absurd cc
+serves look CheckCommand none = absurd cc
+serves look ClientCommand none = absurd cc
+serves look Serve none = refl
 
 pub client_task : (words : List (List ℕ)) → command_in words ≡ Some ClientCommand → task_in words ≡ Some Client
-client_task words is = ap (option_and_then task_of) is
+client_task words is = ap (option_and_then (task_of (look_in words))) is
 
 pub other_task : (words : List (List ℕ)) → command_in words ≢ Some ClientCommand → task_in words ≢ Some Client
-other_task words other = by_command (command_in words) other
+other_task words other = by_command (look_in words) (command_in words) other
   where
-    by_command : (c : Option Command) → c ≢ Some ClientCommand → option_and_then task_of c ≢ Some Client
-    by_command None other is = absurd cc
-    by_command (Some RunCommand) other is = absurd cc
-    by_command (Some CheckCommand) other is = absurd cc
-    by_command (Some ClientCommand) other is = other refl
-    by_command (Some Serve) other is = absurd cc
+    by_command : (look : Bool) (c : Option Command) → c ≢ Some ClientCommand → option_and_then (task_of look) c ≢ Some Client
+    by_command look None other is = absurd cc
+    by_command look (Some RunCommand) other is = absurd cc
+    by_command true (Some CheckCommand) other is = absurd cc
+    by_command false (Some CheckCommand) other is = absurd cc
+    by_command look (Some ClientCommand) other is = other refl
+    by_command look (Some Serve) other is = absurd cc
 
 -- what was read of words is that they name nothing
 abbrev pub IsBadWords : Result Named WordsFault → Type 0

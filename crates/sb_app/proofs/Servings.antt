@@ -515,7 +515,7 @@ module _ {R : Type 0} (clock : ℕ → Type 0) (days : ℕ) (Works : Open → Wo
 pub unread_serve : {R : Type 0} (clock : ℕ → Type 0) (days : ℕ) (Works : Open → Worker R → Type 0) (count : R → ℕ) (words : List (List ℕ)) (fault : WordsFault) (salt : ℕ) (was now : Outside) (link link_now : Exchanges) (doors : List R) (status : ℕ) → (fault ≡ BadWords → form_in words ≡ None)
     → command_in words ≡ Some Serve → ((task : Option Task) (days : ℕ) → IsNamed task days (Err fault) → IsCall clock days task salt was now link link_now status) → (status ≡ 2 → IsBadWords (Err fault)) → IsServeCall clock days Works count salt was now doors doors status
 unread_serve clock days Works count words BadWords salt was now link link_now doors status bad serves done usage = let other : None ≡ Some Serve = sym (no_form words (bad refl)) ∙ serves in absurd cc
-unread_serve clock days Works count words WordsUnread salt was now link link_now doors status bad serves done usage = by_end (((done None days tt).carried_out (λ is. absurd cc)).unnamed refl)
+unread_serve clock days Works count words WordsUnread salt was now link link_now doors status bad serves done usage = by_end (((done None days tt).carried_out (λ is. absurd cc) (λ is. absurd cc)).unnamed refl)
   where
     by_end : (status ≡ 2) ⊎ ((status ≡ 7) × (now ≡ was)) → IsServeCall clock days Works count salt was now doors doors status
     by_end (inl two) = let other = usage two in absurd cc

@@ -1,6 +1,6 @@
 -- What a whole call of the program does that waits for nobody: over its journal, or with a server.
-use Rattle.std.specs.Prelude.{◌≡◌, ◌≢◌, ℕ, List, Option, Some, None, Result, Ok, Err, option_and_then}
-use Rattle.sb_words.specs.Words.{command_in}
+use Rattle.std.specs.Prelude.{◌≡◌, ◌≢◌, ℕ, List, Bool, true, false, Option, Some, None, Result, Ok, Err, option_and_then}
+use Rattle.sb_words.specs.Words.{command_in, look_in}
 use Rattle.sb_words.specs.declared.command.Command.{Command}
 use Rattle.sb_words.specs.declared.command.Command.TheVariants.{Run as RunCommand, Check as CheckCommand, Client as ClientCommand, Serve}
 use Rattle.sb_words.specs.declared.command.WordsFault.{WordsFault}
@@ -8,20 +8,26 @@ use Rattle.sb_words.specs.declared.command.WordsFault.TheVariants.{BadWords, Out
 use Rattle.sb_app.specs.Outside.{Outside}
 use Rattle.sb_app.specs.declared.task.Named.{Named}
 use Rattle.sb_app.specs.declared.task.Task.{Task}
-use Rattle.sb_app.specs.declared.task.Task.TheVariants.{Run, Check, Client}
+use Rattle.sb_app.specs.declared.task.Task.TheVariants.{Run, Check, Look, Client}
 use Rattle.sb_app.specs.Tops.{IsCarriedOut}
+use Rattle.sb_app.specs.Looks.{IsLooked}
 use Rattle.sb_app.specs.Clients.{Exchanges, IsClientCall}
 
+-- a check, or a look alone
+abbrev pub check_task : (look : Bool) → Task
+check_task true = Look
+check_task false = Check
+
 -- the task of a command, which waits for nobody; a server has none
-abbrev pub task_of : Command → Option Task
-task_of RunCommand = Some Run
-task_of CheckCommand = Some Check
-task_of ClientCommand = Some Client
-task_of Serve = None
+abbrev pub task_of : (look : Bool) → Command → Option Task
+task_of look RunCommand = Some Run
+task_of look CheckCommand = Some (check_task look)
+task_of look ClientCommand = Some Client
+task_of look Serve = None
 
 -- the task that the words name, if they name one
 abbrev pub task_in : List (List ℕ) → Option Task
-task_in words = option_and_then task_of (command_in words)
+task_in words = option_and_then (task_of (look_in words)) (command_in words)
 
 -- this came of reading words that name this task, with so many days, or none; for want of memory nothing is known of them
 abbrev pub IsNamed : Option Task → (days : ℕ) → Result Named WordsFault → Type 0
@@ -31,5 +37,6 @@ IsNamed task days (Err OutOfMemory) = Unit {0}
 
 pub record IsCall (reads : ℕ → Type 0) (days : ℕ) (task : Option Task) (salt : ℕ) (was now : Outside) (link link_now : Exchanges) (status : ℕ) : Type 0 where
   -- a run, a check, and words that name no task
-  pub carried_out : task ≢ Some Client → IsCarriedOut reads days task salt was now status
+  pub carried_out : task ≢ Some Client → task ≢ Some Look → IsCarriedOut reads days task salt was now status
+  pub looked : task ≡ Some Look → IsLooked salt was now status
   pub client : task ≡ Some Client → IsClientCall was now link link_now status

@@ -12,5 +12,6 @@ pub mod Lawful
 pub mod Tops
 pub mod Openings
 pub mod Clients
+pub mod Looks
 pub mod Calls
 pub mod Servings

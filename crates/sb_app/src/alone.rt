@@ -21,6 +21,7 @@ use crate::checking::check_status;
 use crate::client::client_status;
 use crate::ending::status_of;
 use crate::final_line::write_final_line;
+use crate::looking::look_over;
 use crate::opening::open_node;
 use crate::running::run_script;
 use crate::task::{Named, Task};
@@ -65,6 +66,7 @@ pub fn carry_out<D: Disk, C: Clock, S: Source, K: Sink, N: Link>(
             alloc, disk_a, disk_b, salt, clock, max_jump, input, output,
         ),
         Task::Check => check_over(alloc, disk_a, disk_b, salt, input, output),
+        Task::Look => look_over(alloc, disk_a, disk_b, salt, input, output),
         Task::Client => {
             let status = client_status(alloc, link, input, output);
             (status, disk_a, disk_b)

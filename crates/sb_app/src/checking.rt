@@ -10,6 +10,28 @@ use sb_node::{Node, Summary};
 use sb_outside::{Disk, Sink, write_all};
 use std::alloc::{AllocError, Global};
 
+/// Writes the line of a namespace's numbers. The status is 0, 4 where the output failed, or 7 for want
+/// of memory.
+pub fn check_status<D: Disk, K: Sink>(alloc: Global, node: &Node<D>, output: &mut K) -> u8
+    ensures { IsLineTold (checks.check_line (summary_of (node_state node.now) (node_last node.now))) (output_of K.Sink output.old) (output_of K.Sink output.new) result }
+{
+    tell_numbers(alloc, node.summary(), output)
+}
+
+/// Writes the line of these numbers. The status is 0, 4 where the output failed, or 7 for want of
+/// memory.
+pub fn tell_numbers<K: Sink>(alloc: Global, numbers: Summary, output: &mut K) -> u8
+    ensures { IsLineTold (checks.check_line numbers) (output_of K.Sink output.old) (output_of K.Sink output.new) result }
+{
+    let Ok(line) = check_line(alloc, numbers) else {
+        return 7;
+    };
+    match write_all(output, line.as_bytes()) {
+        Ok(()) => 0,
+        Err(_) => 4,
+    }
+}
+
 fn check_line(alloc: Global, summary: Summary) -> Result<String, AllocError>
     ensures { IfOk result (λ s. string_bytes s ≡ checks.check_line summary) }
 {
@@ -23,18 +45,4 @@ fn check_line(alloc: Global, summary: Summary) -> Result<String, AllocError>
     format!(in alloc;
         "{{\"copies\":{copies},\"entities\":{entities},\"events\":{events},\"made\":{made},\"now\":{now},\"ok\":\"check\"}}\n"
     )
-}
-
-/// Writes the line of a namespace's numbers. The status is 0, 4 where the output failed, or 7 for want
-/// of memory.
-pub fn check_status<D: Disk, K: Sink>(alloc: Global, node: &Node<D>, output: &mut K) -> u8
-    ensures { IsLineTold (checks.check_line (summary_of (node_state node.now) (node_last node.now))) (output_of K.Sink output.old) (output_of K.Sink output.new) result }
-{
-    let Ok(line) = check_line(alloc, node.summary()) else {
-        return 7;
-    };
-    match write_all(output, line.as_bytes()) {
-        Ok(()) => 0,
-        Err(_) => 4,
-    }
 }

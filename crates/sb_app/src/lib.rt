@@ -23,6 +23,7 @@ mod ending;
 mod final_line;
 mod jump;
 mod notices;
+mod looking;
 mod opening;
 mod program;
 mod running;

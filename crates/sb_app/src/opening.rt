@@ -65,7 +65,7 @@ fn damage_line(alloc: Global, side: Side, place: u64) -> Result<String, AllocErr
 }
 
 // The status of an opening that failed, with the line that says so of a damaged journal.
-fn failed_status<K: Sink>(alloc: Global, output: &mut K, why: OpenWhy) -> u8
+pub(crate) fn failed_status<K: Sink>(alloc: Global, output: &mut K, why: OpenWhy) -> u8
     ensures damaged { result ≡ 6 → IsDamageReported why (output_of K.Sink output.old) (output_of K.Sink output.new) }
     ensures silent { result ≢ 6 → output.new ≡ output.old }
     ensures disk_fault { result ≡ 5 → why ≡ OpenWhy.DiskFault }

@@ -6,6 +6,8 @@ pub enum Task {
     Run,
     /// Tell the numbers of the namespace.
     Check,
+    /// Tell them from what is read alone.
+    Look,
     /// Have a server answer the script lines of the input.
     Client,
 }

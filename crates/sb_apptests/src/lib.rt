@@ -11,6 +11,8 @@ mod client_tests;
 #[cfg(test)]
 mod linked_tests;
 #[cfg(test)]
+mod look_tests;
+#[cfg(test)]
 mod server_tests;
 #[cfg(test)]
 mod tests;

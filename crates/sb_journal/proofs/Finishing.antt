@@ -15,7 +15,7 @@ use Rattle.sb_journal.specs.declared.reading.Stand.{Stand}
 use Rattle.sb_journal.proofs.Moments.{started, from_start, weaker_moments}
 use Rattle.sb_journal.proofs.Images.{rest_image}
 use Rattle.sb_journal.proofs.Heads.{length-file_text, new_rests, reads_closed}
-use Rattle.sb_journal.proofs.Texts.{has_text}
+use Rattle.sb_journal.proofs.Texts.{has_text, spells_text}
 use Rattle.sb_journal.proofs.Wholes.{is_free}
 
 read_is_created : (bytes : List ℕ) (r : Result (List (List ℕ)) ℕ) → whole_or_damaged bytes r ≡ Uncreated → ⊥
@@ -110,18 +110,28 @@ read_file bytes e f whole spells made closed end next = record {
   next = λ salt file stands. next ∙ ap (λ g. g.first + length g.payloads) (sym (same_file_is salt (framing bytes) f file whole stands));
 }
 
--- what is read of a disk that was synced
-pub read_none_synced : (p0 p1 : List Held) (h0 h1 h2 : Held) (e : Ending) → Moves p0 h0 p1 h1 (at_rest h0.seen) → h2 ≡ h1 → framing h1.seen ≡ Uncreated → e.made ≡ false → e.end ≡ 42 → e.next ≡ 1 → IsRead h2 e
-read_none_synced p0 p1 h0 h1 h2 e synced same none made end next =
-    let at : h2 ≡ at_rest h0.seen = same ∙ synced.now_is in
-    subst (λ h. IsRead h e) (sym at) (read_no_file h0.seen e (ap framing (sym (ap (λ m. m.seen) synced.now_is)) ∙ none) made end next)
+-- where a whole file was read of it
+pub read_stand : (bytes : List ℕ) (s : Stand) (e : Ending) → IsWholeStand s bytes → IsStand s → e.made ≡ true → e.closed ≡ s.closed → e.end ≡ s.end → e.next ≡ s.next → IsRead (at_rest bytes) e
+read_stand bytes s e read stand made closed end next =
+    read_file bytes e (stand_file s) read.whole read.spells made (closed ∙ read.closed ∙ ap (λ n. is_shut n bytes) (sym end)) (end ∙ stand.end_is) (next ∙ stand.next_is)
 
-pub read_file_synced : (p0 p1 : List Held) (h0 h1 h2 : Held) (s : Stand) (e : Ending) → Moves p0 h0 p1 h1 (at_rest h0.seen) → h2 ≡ h1 → IsWholeStand s h1.seen → IsStand s → e.made ≡ true → e.closed ≡ s.closed → e.end ≡ s.end → e.next ≡ s.next → IsRead h2 e
-read_file_synced p0 p1 h0 h1 h2 s e synced same read stand made closed end next =
-    let at : h2 ≡ at_rest h0.seen = same ∙ synced.now_is in
-    let seen : h1.seen ≡ h0.seen = ap (λ m. m.seen) synced.now_is in
-    let here = subst (IsWholeStand s) seen read in
-    subst (λ h. IsRead h e) (sym at) (read_file h0.seen e (stand_file s) here.whole here.spells made (closed ∙ here.closed ∙ ap (λ n. is_shut n h0.seen) (sym end)) (end ∙ stand.end_is) (next ∙ stand.next_is))
+-- a disk that was synced and then only read is as its bytes rest
+pub rests_synced : (p0 p1 : List Held) (h0 h1 h2 : Held) → Moves p0 h0 p1 h1 (at_rest h0.seen) → h2 ≡ h1 → at_rest h1.seen ≡ h2
+rests_synced p0 p1 h0 h1 h2 synced same = ap (λ m. at_rest m.seen) synced.now_is ∙ sym (same ∙ synced.now_is)
+
+-- the file that counts is one that can be written and read back
+pub found_within : (salt : ℕ) (h : Held) (e : Ending) (file : File) → salt < 2 ^ 64 → IsRead h e → opened_alone salt (framing h.seen) ≡ Stands A file → IsWithin file
+found_within salt h e file fits read stands = by_framing (framing h.seen) refl
+  where
+    by_framing : (r : Framing) → framing h.seen ≡ r → IsWithin file
+    by_framing Uncreated is =
+        let same = new_file_is salt (framing h.seen) file is stands in
+        subst IsWithin (sym same) (new_rests (at_rest (new_bytes salt 1 1 [])) salt 1 1 fits (omega arith) (omega arith) (omega arith) (omega arith) refl).within
+    by_framing Occupied is = let no_file : opened_alone salt Occupied ≡ Stands A file = ap (opened_alone salt) (sym is) ∙ stands in absurd cc
+    by_framing (Whole f) is =
+        let same = same_file_is salt (framing h.seen) f file is stands in
+        (spells_text file h.seen (read.text file (is ∙ ap Whole (sym same)))).within
+    by_framing (Damaged place) is = let no_file : opened_alone salt (Damaged place) ≡ Stands A file = ap (opened_alone salt) (sym is) ∙ stands in absurd cc
 
 -- nothing was written
 pub unwritten_same : (p q : List Held) (h k : Held) → q ≡ p → k ≡ h → IsUnwritten p h q k

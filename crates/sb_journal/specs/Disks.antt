@@ -64,6 +64,14 @@ KeepFound salt was later = AreOurs was → FromSync was.a.past was.a.held later.
 abbrev pub AreUnwritten : (was later : Disks) → Type 0
 AreUnwritten was later = IsUnwritten was.a.past was.a.held later.a.past later.a.held × IsUnwritten was.b.past was.b.held later.b.past later.b.held
 
+-- Nothing was done to it, not even a sync: it holds what it held, and no moment is past.
+abbrev pub IsStill : (was later : OneDisk) → Type 0
+IsStill was later = (later.held ≡ was.held) × (later.past ≡ was.past)
+
+-- nor to both
+abbrev pub AreStill : (was later : Disks) → Type 0
+AreStill was later = IsStill was.a later.a × IsStill was.b later.b
+
 -- what counts was made safe, and nothing else was done; disk b doesn't count yet
 abbrev pub AreSynced : (was later : Disks) → Type 0
 AreSynced was later = Moves was.a.past was.a.held later.a.past later.a.held (at_rest was.a.held.seen)

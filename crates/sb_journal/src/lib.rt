@@ -7,7 +7,8 @@
 //! with all of them. That is what `add` and `seal` say, and `append` of one record; `open` says that
 //! it reads exactly what the bytes stand for, and names the place of damage where they can't be
 //! read. Who judges the payloads too before anything is written opens in two parts:
-//! `Unopened::read`, and then `finish`.
+//! `Unopened::read`, and then `finish`. `look` says what an opening would find, and does nothing to the
+//! disks.
 //!
 //! ```text
 //! let (mut journal, found) = Journal::open(alloc, disk_a, disk_b, salt)?;
@@ -24,6 +25,7 @@ mod creating;
 mod found;
 mod journal;
 pub mod laws;
+mod looking;
 mod opening;
 mod piece;
 mod reading;
@@ -33,5 +35,6 @@ pub use append::next_gate;
 pub use creating::create;
 pub use found::{Found, OpenFault, OpenWhy, Side, first_gate};
 pub use journal::Journal;
+pub use looking::look;
 pub use sb_outside::Bytes;
 pub use unopened::Unopened;

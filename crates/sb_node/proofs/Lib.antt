@@ -3,6 +3,7 @@ pub mod Machine
 pub mod Taking
 pub mod Recovered
 pub mod Gates
+pub mod Reaching
 pub mod Crashes
 pub mod Keeping
 pub mod Histories

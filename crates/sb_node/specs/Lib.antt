@@ -4,3 +4,4 @@ pub mod Nodes
 pub mod Serving
 pub mod Laws
 pub mod Worked
+pub mod Looks

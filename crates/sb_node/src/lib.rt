@@ -3,7 +3,8 @@
 //! `Node` joins the engine, which plans, reserves and commits in memory, with the journal, which is
 //! between planning and committing. A step makes one call: where something is due at its moment,
 //! time goes on first, as an event of its own, and then the call acts. What a journal says is
-//! carried out again (`replay`) as it is opened.
+//! carried out again (`replay`) as it is opened; `look` does that too, tells the numbers, and does nothing to
+//! the disks.
 //!
 //! It is a `Served`: as it was opened it stands for an empty history, and each step adds its entries to
 //! the one for which it stands. Whatever a crash leaves of its disks leads to the state after that
@@ -19,10 +20,13 @@
 
 mod counting;
 mod laws;
+mod looking;
 mod node;
+mod recovering;
 mod replay;
 mod serving;
 
 pub use laws::{recovers_consistent, worked_journal};
+pub use looking::look;
 pub use node::Node;
 pub use sb_engine::Summary;

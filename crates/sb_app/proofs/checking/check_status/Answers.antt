@@ -1,9 +1,8 @@
-use Rattle.std.proofs.Common.{◌∙◌, ap}
+use Rattle.std.proofs.Common.{subst}
 use Rattle.sb_app.specs.Outside.{output_of}
-use Rattle.sb_app.specs.Checks.{check_line}
-use Rattle.sb_app.proofs.Telling.{cut_told}
+use Rattle.sb_app.specs.Checks.{check_line, IsLineTold}
 use Rattle.sb_app.proofs.checking.check_status.Goals as goal
 
 pub returns : goal.returns
 returns g c =
-    cut_told _ c.as_bytes.result.now (output_of g.K.Sink c.args.output.now) (output_of g.K.Sink c.write_all.new.sink) (c.as_bytes.ensures.value ∙ c.in-Ok.ensures ∙ ap check_line c.summary.ensures.numbers) c.in-Err.ensures.err c.in-Err.ensures.cause.failed
+    subst (λ s. IsLineTold (check_line s) (output_of g.K.Sink c.args.output.now) (output_of g.K.Sink c.tell_numbers.new.output) c.tell_numbers.result) c.summary.ensures.numbers c.tell_numbers.ensures

@@ -8,12 +8,12 @@ use Rattle.sb_journal.specs.Text.{first_gate, gate_after}
 use Rattle.sb_journal.proofs.Heads.{gate_after_file}
 use Rattle.sb_journal.proofs.unopened.Unopened.read.Goals as goal
 
-pub returns-in-Ok-look-clause-gates : goal.returns-in-Ok-look-clause-gates
-returns-in-Ok-look-clause-gates g c =
+pub returns-in-Ok-look_synced-clause-gates : goal.returns-in-Ok-look_synced-clause-gates
+returns-in-Ok-look_synced-clause-gates g c =
     let file = c.found_in.ensures.file in
-    let s = stand_file c.in-Ok-look.looked.stand in
+    let s = stand_file c.in-Ok-look_synced.looked.stand in
     let last = gate_after_file s refl in
-    (ap (λ f. f.base) file, omega (arith, ap (λ f. gate_after (first_gate f) f.payloads) file, last, c.in-Ok-look.ensures.stand.end_is, c.in-Ok-look.ensures.stand.end_fits))
+    (ap (λ f. f.base) file, omega (arith, ap (λ f. gate_after (first_gate f) f.payloads) file, last, c.in-Ok-look_synced.ensures.stand.end_is, c.in-Ok-look_synced.ensures.stand.end_fits))
 
 pub returns-in-Err-clause-cause : goal.returns-in-Err-clause-cause
 returns-in-Err-clause-cause g c failed =

@@ -1,0 +1,224 @@
+// Looks at the disks of a table of images: each tells what a check of such disks tells, and leaves them
+// byte for byte. The lines were worked out by hand.
+use crate::tests::{ONE_EVENT, SALT};
+use sb_app::top_alone;
+use sb_outside::{MemDisk, MemSink, MemSource, NoLink, StepClock};
+use std::alloc::Global;
+use std::test::Fail;
+
+const CHECK: [&str; 2] = ["check", "--data=."];
+
+const LOOK: [&str; 3] = ["check", "--data=.", "--look"];
+
+// Of an empty namespace.
+const NONE: &str = r#"{"copies":0,"entities":0,"events":0,"made":0,"now":0,"ok":"check"}"#;
+
+// Of the queue of the one event.
+const ONE: &str = r#"{"copies":0,"entities":1,"events":1,"made":0,"now":0,"ok":"check"}"#;
+
+// What stands on disk a, and what is told of it.
+#[derive(Clone, Copy)]
+struct Row {
+    // The journal of one event up to this length, with this byte at this place.
+    length: usize,
+    place: usize,
+    byte: u8,
+    told: &'static str,
+    status: u8,
+    // What a check leaves there otherwise: its byte at the end gate, or a new file.
+    changes: bool,
+}
+
+fn same(length: usize, place: usize, byte: u8, told: &'static str) -> Row {
+    Row {
+        length,
+        place,
+        byte,
+        told,
+        status: 0,
+        changes: false,
+    }
+}
+
+fn changed(length: usize, place: usize, byte: u8, told: &'static str) -> Row {
+    Row {
+        changes: true,
+        ..same(length, place, byte, told)
+    }
+}
+
+fn damaged(length: usize, place: usize, byte: u8, told: &'static str) -> Row {
+    Row {
+        status: 6,
+        ..same(length, place, byte, told)
+    }
+}
+
+// The lines of damage, by their places.
+const AT_0: &str = r#"{"disk":"a","place":0,"refused":"Damaged"}"#;
+
+const AT_1: &str = r#"{"disk":"a","place":1,"refused":"Damaged"}"#;
+
+const AT_9: &str = r#"{"disk":"a","place":9,"refused":"Damaged"}"#;
+
+const AT_18: &str = r#"{"disk":"a","place":18,"refused":"Damaged"}"#;
+
+const AT_26: &str = r#"{"disk":"a","place":26,"refused":"Damaged"}"#;
+
+const AT_42: &str = r#"{"disk":"a","place":42,"refused":"Damaged"}"#;
+
+const AT_86: &str = r#"{"disk":"a","place":86,"refused":"Damaged"}"#;
+
+fn image_of(alloc: Global, row: Row) -> Result<Vec<u8>, Fail> {
+    let mut bytes = ONE_EVENT.to_vec(alloc)?;
+    if let Some(byte) = bytes.get_mut(row.place) {
+        *byte = row.byte;
+    }
+    bytes.truncate(row.length);
+    Ok(bytes)
+}
+
+// What a call tells of a disk that fails at these calls, and what it leaves there.
+#[derive(Drop)]
+struct Outcome {
+    status: u8,
+    told: Vec<u8>,
+    left: Vec<u8>,
+}
+
+fn outcome_of(
+    alloc: Global,
+    words: &[&str],
+    image: &[u8],
+    failing: Vec<u64>,
+    failing_output: Vec<u64>,
+) -> Result<Outcome, Fail> {
+    let disk_a = MemDisk::new(alloc, image.to_vec(alloc)?, failing)?;
+    let disk_b = MemDisk::new(alloc, Vec::new(alloc), Vec::new(alloc))?;
+    let mut input = MemSource::new(b"[\n".to_vec(alloc)?, 7, Vec::new(alloc));
+    let mut output = MemSink::new(alloc, 4096, failing_output)?;
+    let (status, disk_a, disk_b) = top_alone(
+        alloc,
+        words,
+        disk_a,
+        disk_b,
+        SALT,
+        &StepClock::new(0, 1),
+        &mut input,
+        &mut output,
+        &mut NoLink::new(),
+    );
+    if !disk_b.bytes().is_empty() {
+        return Err(Fail::from("disk b was written"));
+    }
+    Ok(Outcome {
+        status,
+        told: output.bytes().to_vec(alloc)?,
+        left: disk_a.bytes().to_vec(alloc)?,
+    })
+}
+
+// Whether this line alone was told.
+fn is_told(told: &[u8], line: &str) -> bool {
+    told.starts_with(line.as_bytes())
+        && told.ends_with(b"\n")
+        && told.len() == line.len().saturating_add(1)
+}
+
+// Tries a look, and a check of the same bytes.
+fn try_row(alloc: Global, row: Row) -> Result<(), Fail> {
+    let image = image_of(alloc, row)?;
+    let looked = outcome_of(alloc, &LOOK, &image, Vec::new(alloc), Vec::new(alloc))?;
+    if looked.status != row.status || !is_told(&looked.told, row.told) {
+        return Err(Fail::from("a look told something else"));
+    }
+    if looked.left.as_slice() != image.as_slice() {
+        return Err(Fail::from("a look changed the disk"));
+    }
+    drop(looked);
+    let checked = outcome_of(alloc, &CHECK, &image, Vec::new(alloc), Vec::new(alloc))?;
+    if checked.status != row.status || !is_told(&checked.told, row.told) {
+        return Err(Fail::from("a check told something else"));
+    }
+    let changes = checked.left.as_slice() != image.as_slice();
+    if changes != row.changes {
+        return Err(Fail::from("a check left something else"));
+    }
+    Ok(())
+}
+
+#[test]
+fn a_look_tells_what_a_check_does(rt: HostRuntime) -> Result<(), Fail> {
+    let rows = [
+        // Whole; with a torn end, or none; with its gate closed.
+        same(87, 86, 0, ONE),
+        changed(87, 86, 7, ONE),
+        changed(86, 86, 0, ONE),
+        same(87, 42, 0, NONE),
+        // No journal yet.
+        changed(0, 0, 0, NONE),
+        changed(1, 0, 0, NONE),
+        changed(42, 0, 1, NONE),
+        changed(43, 0, 0, NONE),
+        // Somebody else's bytes.
+        damaged(87, 0, 0, AT_0),
+        damaged(87, 0, 0x58, AT_0),
+        damaged(44, 0, 0x58, AT_0),
+        // Damage of the head, of a record and of its event.
+        damaged(87, 8, 0, AT_1),
+        damaged(87, 9, 2, AT_9),
+        damaged(87, 25, 0, AT_18),
+        damaged(87, 33, 0, AT_26),
+        damaged(87, 41, 1, AT_42),
+        damaged(85, 0, 1, AT_42),
+        damaged(43, 0, 1, AT_42),
+        damaged(87, 44, 0x11, AT_42),
+        damaged(87, 54, 2, AT_42),
+        damaged(87, 55, 2, AT_42),
+        damaged(87, 70, 0x20, AT_42),
+        damaged(87, 86, 1, AT_86),
+    ];
+    for row in &rows {
+        try_row(rt.alloc(), *row)?;
+    }
+    Ok(())
+}
+
+// The same of a disk that has one event, where these calls of the disk and of the output fail.
+fn try_failing(
+    alloc: Global,
+    failing: Vec<u64>,
+    failing_output: Vec<u64>,
+    status: u8,
+) -> Result<(), Fail> {
+    let looked = outcome_of(alloc, &LOOK, &ONE_EVENT, failing, failing_output)?;
+    if looked.status != status || looked.left.as_slice() != ONE_EVENT.as_slice() {
+        return Err(Fail::from("another status, or other bytes"));
+    }
+    let is_good = if status == 0 {
+        is_told(&looked.told, ONE)
+    } else {
+        looked.told.is_empty()
+    };
+    if !is_good {
+        return Err(Fail::from("a look told something else"));
+    }
+    Ok(())
+}
+
+fn one(alloc: Global, call: u64) -> Result<Vec<u64>, Fail> {
+    let mut calls = Vec::new(alloc);
+    calls.push(call)?;
+    Ok(calls)
+}
+
+// A look asks the disk for its length and reads it, and no more: it doesn't even sync.
+#[test]
+fn a_look_reads_alone(rt: HostRuntime) -> Result<(), Fail> {
+    let alloc = rt.alloc();
+    try_failing(alloc, one(alloc, 0)?, Vec::new(alloc), 5)?;
+    try_failing(alloc, one(alloc, 1)?, Vec::new(alloc), 5)?;
+    try_failing(alloc, one(alloc, 2)?, Vec::new(alloc), 0)?;
+    try_failing(alloc, Vec::new(alloc), one(alloc, 0)?, 4)?;
+    Ok(())
+}
