@@ -40,7 +40,9 @@ pub fn serve_connection<V: Served, R: Wait, C: Clock, N: Conn>(
     };
     let mut current = pass;
     for _ in rt.forever() {
-        let (next, ends) = turn(rt, alloc, routes, access, desk, current, clock, conn, &mut inbox);
+        let (next, ends) = turn(
+            rt, alloc, routes, access, desk, current, clock, conn, &mut inbox,
+        );
         current = next;
         if let Some(ending) = ends {
             return (current, ending);

@@ -42,7 +42,16 @@ where
         return ServeEnding::OutOfMemory;
     };
     let mut jobs = pair_up(room, passes, doors);
-    serve_doors(rt, alloc, routes, access, desk, clock, most, jobs.as_mut_slice());
+    serve_doors(
+        rt,
+        alloc,
+        routes,
+        access,
+        desk,
+        clock,
+        most,
+        jobs.as_mut_slice(),
+    );
     let ending = ending_of(jobs.as_slice());
     put_back(jobs, passes, doors);
     ending
@@ -94,7 +103,17 @@ fn work<V: Served, R: Wait, C: Clock, D: Door>(
     let Some(pass) = job.pass.take() else {
         unreachable!()
     };
-    let (pass, stop) = serve_door(rt, alloc, routes, access, desk, pass, clock, &mut job.door, most);
+    let (pass, stop) = serve_door(
+        rt,
+        alloc,
+        routes,
+        access,
+        desk,
+        pass,
+        clock,
+        &mut job.door,
+        most,
+    );
     job.pass = Some(pass);
     job.stop = stop;
 }
