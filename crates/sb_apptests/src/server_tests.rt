@@ -3,8 +3,8 @@ ghost use Rattle.std.specs.Prelude.{◌≤◌};
 
 use crate::tests::{ONE_EVENT, SALT};
 use sb_app::{NoWatcher, top};
-use sb_outside::{MemConn, MemDisk, MemDoor, MemSink, MemSource, NoLink, StepClock};
 use sb_model::{Rows, Text};
+use sb_outside::{MemConn, MemDisk, MemDoor, MemSink, MemSource, NoLink, StepClock};
 use sb_rest::Access;
 use std::sync::Wait;
 use std::test::Fail;
@@ -118,7 +118,12 @@ const CASES: [Case<'static>; 10] = [
         hosts: &["bus"],
         key: Some("a-key-of-20-letters."),
         connections: &[(
-            &[SEND, SEND_FROM_A_PAGE, "POST /q/messages HTTP/1.1\r\nHost: bus\r\n\r\n", SEND_WITH_KEY],
+            &[
+                SEND,
+                SEND_FROM_A_PAGE,
+                "POST /q/messages HTTP/1.1\r\nHost: bus\r\n\r\n",
+                SEND_WITH_KEY,
+            ],
             &[FOREIGN, FOREIGN, NO_KEY, SENT],
         )],
         told: "{\"changing\":1,\"entries\":1,\"ok\":\"report\",\"refused\":0}\n",
@@ -317,7 +322,15 @@ fn connections_are_served(rt: HostRuntime) -> Result<(), Fail> {
 fn no_doors(rt: HostRuntime) -> Result<(), Fail> {
     let mut output = MemSink::new(rt.alloc(), 256, Vec::new(rt.alloc()))?;
     let mut doors = Vec::new(rt.alloc());
-    let status = served(&rt, &rt, &SERVE, &Access::unlocked(rt.alloc()), (&[], &[]), &mut output, &mut doors)?;
+    let status = served(
+        &rt,
+        &rt,
+        &SERVE,
+        &Access::unlocked(rt.alloc()),
+        (&[], &[]),
+        &mut output,
+        &mut doors,
+    )?;
     assert_eq!(rt; status, 0);
     assert_eq!(rt;
         output.bytes(),

@@ -32,12 +32,21 @@ fn answer_value(alloc: Global, form: Form, answer: &Answer) -> Result<Value, All
     }
 }
 
+/// The text of a value with no float.
+pub(crate) fn compact(alloc: Global, value: &Value) -> Result<String, AllocError>
+    requires { has_float (view value.now) ≡ false }
+    ensures { IfOk result (λ s. string_bytes s ≡ compact_text (view value.now)) }
+{
+    let text = value.to_string(alloc)?;
+    Ok(text)
+}
+
 // The text of a value with no float, and a line feed.
 fn line_text(alloc: Global, value: &Value) -> Result<String, AllocError>
     requires { has_float (view value.now) ≡ false }
     ensures { IfOk result (λ s. string_bytes s ≡ compact_text (view value.now) ++ 10 ∷ []) }
 {
-    let mut text = value.to_string(alloc)?;
+    let mut text = compact(alloc, value)?;
     text.push('\n')?;
     Ok(text)
 }

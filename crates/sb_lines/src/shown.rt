@@ -7,6 +7,7 @@ ghost use Rattle.sb_lines.specs.Shown as shown;
 
 use crate::form::Form;
 use crate::members::{Members, put_bytes, put_number, put_text, put_token};
+use crate::reply::compact;
 use sb_amqp::write_scheduled;
 use sb_machine::{CopyShown, CopyState, Showing};
 use sb_model::{Property, PropertyValue, SystemText};
@@ -19,8 +20,7 @@ pub fn message_text(alloc: Global, copy: &CopyShown) -> Result<String, AllocErro
     ensures { IfOk result (λ s. string_bytes s ≡ shown.message_text copy.now) }
 {
     let value = plain_value(alloc, copy)?;
-    let text = value.to_string(alloc)?;
-    Ok(text)
+    compact(alloc, &value)
 }
 
 /// A property's value as JSON.

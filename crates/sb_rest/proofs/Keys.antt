@@ -1,6 +1,7 @@
 -- A key that is compared byte by byte.
-use Rattle.std.proofs.Common.{◌≡◌, ℕ, Bool, true, false, ◌&&◌, ◌==◌, List, [], ◌∷◌, length, drop, refl, arith}
+use Rattle.std.proofs.Common.{◌≡◌, ℕ, Bool, true, false, ◌&&◌, ◌==◌, List, [], ◌∷◌, length, drop, refl, ap, sym, arith}
 use Rattle.std.specs.Prelude.{bytes_eq}
+use Rattle.std.proofs.lemmas.Bool.{ne_eqb}
 use Rattle.sb_rest.specs.Callers.{is_first}
 
 none_same : (same p : Bool) → (false && p) ≡ (same && false)
@@ -21,4 +22,4 @@ one_byte same byte later (b ∷ shown) = turned same (byte == b) (bytes_eq later
 -- and none is left
 pub no_byte : (same : Bool) (left : List ℕ) → (same && bytes_eq [] left) ≡ (same && (length left == 0))
 no_byte same [] = refl
-no_byte same (b ∷ left) = refl
+no_byte same (b ∷ left) = ap (λ (t : Bool). same && t) (sym (ne_eqb (length (b ∷ left)) 0 (λ e. omega (arith, e))))
