@@ -144,11 +144,11 @@ refused_by salt was disks output FailedDisk broken untouched rests reported = ab
 refused_by salt was disks output NoMemory broken untouched rests reported = absurd reported
 
 complete_unopened : (clock : ℕ → Type 0) (days salt : ℕ) (was : Outside) (disks : Disks) (output : Output) (why : OpenWhy) (status : ℕ) → IsFailed salt was.disks disks was.output output why status → AreHonest was.disks → IsFree clock days salt was (record was { output = output; disks = disks }) → IsFailedStatus status → IsComplete status
-complete_unopened salt was disks output why status fails honest free (inl five) = absurd (free.disk_quiet (fails.cause (fails.failed five)))
-complete_unopened salt was disks output why status fails honest free (inr (inl six)) =
+complete_unopened clock days salt was disks output why status fails honest free (inl five) = absurd (free.disk_quiet (fails.cause (fails.failed five)))
+complete_unopened clock days salt was disks output why status fails honest free (inr (inl six)) =
     let refused = refused_by salt was disks output why fails.broken fails.untouched fails.rests (fails.damage six) in
     absurd (free.sound (refused.side, refused.place, refused.broken honest))
-complete_unopened salt was disks output why status fails honest free (inr (inr seven)) = inr seven
+complete_unopened clock days salt was disks output why status fails honest free (inr (inr seven)) = inr seven
 
 known_unopened : (n : ℕ) → IsFailedStatus n → IsStatus n
 known_unopened n (inl five) = inl (inr (DiskFault, five))

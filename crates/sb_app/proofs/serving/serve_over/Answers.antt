@@ -38,8 +38,8 @@ returns-in-Err-new g c input =
     let back = c.node_back.ensures ∙ c.in-Err-new.ensures.value in
     let over = unserved_call any_reading c.args.max_jump works g.R.Door.count (IsKept node) c.args.salt was (node_disks node) doors (node_state node) c.in-Ok-open_node.ensures.opened (kept_recovers node c.args.salt) in
     let unsaid = subst (λ o. IsServeCall any_reading c.args.max_jump works g.R.Door.count c.args.salt was (record was { output = output_of g.K.Sink o; disks = node_disks node }) doors doors 7) (sym c.in-Ok-open_node.ensures.unsaid) over in
-    subst (λ a. IsServeCall any_reading c.args.max_jump works g.R.Door.count c.args.salt was (record was { output = output_of g.K.Sink c.open_node.new.output; disks = disks_of g.D.Disk a c.close-disk_a.result.1 }) doors doors 7) (sym (c.close-disk_a.ensures.disk_a ∙ ap node_disk_a back))
-    (subst (λ b. IsServeCall any_reading c.args.max_jump works g.R.Door.count c.args.salt was (record was { output = output_of g.K.Sink c.open_node.new.output; disks = disks_of g.D.Disk (node_disk_a node) b }) doors doors 7) (sym (c.close-disk_a.ensures.disk_b ∙ ap node_disk_b back)) unsaid)
+    subst (λ a. IsServeCall any_reading c.args.max_jump works g.R.Door.count c.args.salt was (record was { output = output_of g.K.Sink c.open_node.new.output; disks = disks_of g.D.Disk a c.close-disk_a-in-Err-new.result.1 }) doors doors 7) (sym (c.close-disk_a-in-Err-new.ensures.disk_a ∙ ap node_disk_a back))
+    (subst (λ b. IsServeCall any_reading c.args.max_jump works g.R.Door.count c.args.salt was (record was { output = output_of g.K.Sink c.open_node.new.output; disks = disks_of g.D.Disk (node_disk_a node) b }) doors doors 7) (sym (c.close-disk_a-in-Err-new.ensures.disk_b ∙ ap node_disk_b back)) unsaid)
 
 pub serve-ending-requires-send-V : goal.serve-ending-requires-send-V
 serve-ending-requires-send-V g c κs within = param_send 0 _ (arg_send _ exit.no _ (node_send _ g.D.Disk c.type_bounds.send-D))
@@ -103,5 +103,5 @@ returns-in-Err-hold_server g c input =
     let far = subst (λ (m : ℕ). IsOvertaken any_reading c.args.max_jump m jump) moment c.in-Err-hold_server.ensures.err in
     let told = subst (λ o. IsJumpStatus jump (output_of g.K.Sink o) output status) c.in-Ok-open_node.ensures.unsaid c.jump_status-status.ensures in
     let over = jumped_call any_reading c.args.max_jump works g.R.Door.count (IsKept node) c.args.salt was (node_disks node) output doors (node_state node) jump status c.in-Ok-open_node.ensures.opened (kept_recovers node c.args.salt) far told in
-    subst (λ a. IsServeCall any_reading c.args.max_jump works g.R.Door.count c.args.salt was (record was { output = output; disks = disks_of g.D.Disk a c.close-disk_a.result.1 }) doors doors status) (sym c.close-disk_a.ensures.disk_a)
-    (subst (λ b. IsServeCall any_reading c.args.max_jump works g.R.Door.count c.args.salt was (record was { output = output; disks = disks_of g.D.Disk (node_disk_a node) b }) doors doors status) (sym c.close-disk_a.ensures.disk_b) over)
+    subst (λ a. IsServeCall any_reading c.args.max_jump works g.R.Door.count c.args.salt was (record was { output = output; disks = disks_of g.D.Disk a c.close-disk_a-in-Err-hold_server.result.1 }) doors doors status) (sym c.close-disk_a-in-Err-hold_server.ensures.disk_a)
+    (subst (λ b. IsServeCall any_reading c.args.max_jump works g.R.Door.count c.args.salt was (record was { output = output; disks = disks_of g.D.Disk (node_disk_a node) b }) doors doors status) (sym c.close-disk_a-in-Err-hold_server.ensures.disk_b) over)
