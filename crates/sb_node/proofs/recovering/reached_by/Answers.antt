@@ -10,7 +10,7 @@ use Rattle.sb_node.proofs.recovering.reached_by.Goals as goal
 pub first_gate-start-requires : goal.first_gate-start-requires
 first_gate-start-requires c =
     let file = found_file c.args.found in
-    omega (arith, c.requires, gate_after_on (first_gate file) file.payloads)
+    omega (arith, c.requires.gates, gate_after_on (first_gate file) file.payloads)
 
 pub returns-in-Ok-clause-leads : goal.returns-in-Ok-clause-leads
 returns-in-Ok-clause-leads c =
@@ -24,4 +24,4 @@ returns-in-Ok-clause-consistent c =
 
 pub returns-in-Ok-clause-last : goal.returns-in-Ok-clause-last
 returns-in-Ok-clause-last c within =
-    last_counted (found_file c.args.found) c.saturating_add.result c.saturating_sub-last.result within c.requires (omega (arith, c.saturating_add.ensures, c.len.ensures)) (omega (arith, c.saturating_sub-last.ensures))
+    last_counted (found_file c.args.found) c.saturating_add.result c.saturating_sub-last.result within c.requires.gates (omega (arith, c.saturating_add.ensures, c.len.ensures)) (omega (arith, c.saturating_sub-last.ensures))
