@@ -12,8 +12,7 @@
 //! ```rust
 //! let response = match call_of(alloc, &routes, &access, &request) {
 //!     Ok(wanted) => {
-//!         let asker = Asker { host: host_of(&request), json: wants_json(&request) };
-//!         response_of(alloc, &wanted.call, answer, asker)?
+//!         response_of(alloc, &wanted.call, answer, host_of(&request), wants_json(&request))?
 //!     }
 //!     Err(fault) => fault_response(alloc, fault)?,
 //! };
@@ -49,5 +48,5 @@ pub use access::Access;
 pub use call::{RestFault, Wanted, call_of};
 pub use form::wants_json;
 pub use laws::{escaped_is_ascii, foreign_is_no_call, keyless_is_no_call, methods_are_told};
-pub use response::{Asker, fault_response, host_of, line_response, response_of};
+pub use response::{fault_response, host_of, line_response, response_of};
 pub use worked::{worked_callers, worked_calls, worked_forms, worked_parts, worked_responses};

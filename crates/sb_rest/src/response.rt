@@ -20,16 +20,6 @@ use sb_machine::{Act, Answer, Answered, Call, CopyShown, Mode, Path, Refusal, Re
 use sb_routes::Route;
 use std::alloc::{AllocError, Global};
 
-/// What a response has of who asks.
-#[derive(Clone, Copy)]
-pub struct Asker<'a> {
-    /// The host that the request names (`host_of`): it stands in the Location of a message under a
-    /// lock.
-    pub host: &'a [u8],
-    /// Whether the request asks for messages as JSON (`wants_json`).
-    pub json: bool,
-}
-
 fn bare(alloc: Global, status: Status) -> Response
     ensures { said_in result ≡ responses.bare status }
 {
@@ -224,15 +214,16 @@ fn json_message(
     alloc: Global,
     from: &Path,
     mode: Mode,
-    asker: Asker,
+    host: &[u8],
+    json: bool,
     enqueued: &str,
     until: &str,
     copy: &CopyShown,
 ) -> Result<Response, AllocError>
-    ensures { IfOk result (λ r. said_in r ≡ responses.json_message asker.json from.now mode asker.host.now enqueued.now until.now copy.now) }
+    ensures { IfOk result (λ r. said_in r ≡ responses.json_message json from.now mode host.now enqueued.now until.now copy.now) }
 {
-    let mut headers = json_fields(alloc, asker.host, enqueued, until, from, copy)?;
-    push_unasked(alloc, &mut headers, asker.json)?;
+    let mut headers = json_fields(alloc, host, enqueued, until, from, copy)?;
+    push_unasked(alloc, &mut headers, json)?;
     let body = message_text(alloc, copy)?;
     Ok(Response {
         status: taken_status(mode),
@@ -247,50 +238,53 @@ fn timed_message(
     alloc: Global,
     from: &Path,
     mode: Mode,
-    asker: Asker,
+    host: &[u8],
+    json: bool,
     enqueued: &str,
     until: &str,
     copy: &CopyShown,
 ) -> Result<Response, AllocError>
-    ensures { IfOk result (λ r. said_in r ≡ responses.message_response asker.json from.now mode asker.host.now enqueued.now until.now copy.now) }
+    ensures { IfOk result (λ r. said_in r ≡ responses.message_response json from.now mode host.now enqueued.now until.now copy.now) }
 {
-    if asker.json {
-        return json_message(alloc, from, mode, asker, enqueued, until, copy);
+    if json {
+        return json_message(alloc, from, mode, host, json, enqueued, until, copy);
     }
-    let headers = message_fields(alloc, asker.host, enqueued, until, from, copy)?;
+    let headers = message_fields(alloc, host, enqueued, until, from, copy)?;
     if fits_head(&headers) {
         return plain_message(alloc, mode, headers, copy);
     }
     drop(headers);
-    json_message(alloc, from, mode, asker, enqueued, until, copy)
+    json_message(alloc, from, mode, host, json, enqueued, until, copy)
 }
 
 fn message_response(
     alloc: Global,
     from: &Path,
     mode: Mode,
-    asker: Asker,
+    host: &[u8],
+    json: bool,
     copy: &CopyShown,
 ) -> Result<Response, AllocError>
-    ensures { IfOk result (λ r. responses.GivesMessage from.now mode asker.host.now asker.json copy.now (said_in r)) }
+    ensures { IfOk result (λ r. responses.GivesMessage from.now mode host.now json copy.now (said_in r)) }
 {
     let enqueued = time_text(alloc, copy.enqueued)?;
     let until = until_text(alloc, copy.showing)?;
     let (enqueued, until) = (enqueued.as_str(), until.as_str());
-    timed_message(alloc, from, mode, asker, enqueued, until, copy)
+    timed_message(alloc, from, mode, host, json, enqueued, until, copy)
 }
 
 fn taken_response(
     alloc: Global,
     from: &Path,
     mode: Mode,
-    asker: Asker,
+    host: &[u8],
+    json: bool,
     reply: &Reply,
 ) -> Result<Response, AllocError>
-    ensures { IfOk result (λ r. responses.GivesTaken from.now mode asker.host.now asker.json reply.now (said_in r)) }
+    ensures { IfOk result (λ r. responses.GivesTaken from.now mode host.now json reply.now (said_in r)) }
 {
     match reply {
-        Reply::Message(copy) => message_response(alloc, from, mode, asker, copy),
+        Reply::Message(copy) => message_response(alloc, from, mode, host, json, copy),
         Reply::Empty => Ok(bare(alloc, Status::NoContent)),
         _ => Ok(bare(alloc, Status::InternalServerError)),
     }
@@ -299,14 +293,15 @@ fn taken_response(
 fn reply_response(
     alloc: Global,
     act: &Act,
-    asker: Asker,
+    host: &[u8],
+    json: bool,
     reply: &Reply,
 ) -> Result<Response, AllocError>
-    ensures { IfOk result (λ r. responses.GivesReply act.now asker.host.now asker.json reply.now (said_in r)) }
+    ensures { IfOk result (λ r. responses.GivesReply act.now host.now json reply.now (said_in r)) }
 {
     match act {
         Act::Send { .. } => Ok(bare(alloc, sent_status(reply))),
-        Act::Receive { from, mode, .. } => taken_response(alloc, from, *mode, asker, reply),
+        Act::Receive { from, mode, .. } => taken_response(alloc, from, *mode, host, json, reply),
         Act::Settle { .. } => Ok(bare(alloc, settled_status(reply))),
         Act::Renew { .. } => Ok(bare(alloc, renewed_status(reply))),
         _ => Ok(bare(alloc, Status::InternalServerError)),
@@ -319,17 +314,19 @@ fn reply_response(
 fn kept_response(
     alloc: Global,
     act: &Act,
-    asker: Asker,
+    host: &[u8],
+    json: bool,
     reply: &Reply,
 ) -> Result<Response, AllocError>
-    ensures { IfOk result (λ r. responses.GivesKept act.now asker.host.now asker.json reply.now (said_in r)) }
+    ensures { IfOk result (λ r. responses.GivesKept act.now host.now json reply.now (said_in r)) }
 {
-    let mut response = reply_response(alloc, act, asker, reply)?;
+    let mut response = reply_response(alloc, act, host, json, reply)?;
     push_field(alloc, &mut response.headers, b"Repeat-Kept", b"true")?;
     Ok(response)
 }
 
-/// The response to a call that is answered so, to who asks. A message that is received has its texts
+/// The response to a call that is answered so, with the host that its request names (`host_of`), and
+/// whether that asks for messages as JSON (`wants_json`). A message that is received has its texts
 /// and properties as fields, or is all in the body as JSON where that is asked for, or where an
 /// ordinary client could not take the head (64 lines of fields, 16,384 bytes). A reply that no call of a route is answered is an error
 /// of the server's own. It fails for want of memory alone.
@@ -337,13 +334,14 @@ pub fn response_of(
     alloc: Global,
     call: &Call,
     answer: &Answer,
-    asker: Asker,
+    host: &[u8],
+    json: bool,
 ) -> Result<Response, AllocError>
-    ensures { IfOk result (λ r. responses.Gives call.now.act answer.now asker.host.now asker.json (said_in r)) }
+    ensures { IfOk result (λ r. responses.Gives call.now.act answer.now host.now json (said_in r)) }
 {
     match answer {
-        Ok(Answered::New(reply)) => reply_response(alloc, &call.act, asker, reply),
-        Ok(Answered::Kept(reply)) => kept_response(alloc, &call.act, asker, reply),
+        Ok(Answered::New(reply)) => reply_response(alloc, &call.act, host, json, reply),
+        Ok(Answered::Kept(reply)) => kept_response(alloc, &call.act, host, json, reply),
         Err(refusal) => refusal_response(alloc, refusal),
     }
 }

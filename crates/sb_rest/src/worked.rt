@@ -4,7 +4,6 @@ ghost use Rattle.serde_json.specs.Data.{string};
 ghost use Rattle.serde_json.specs.Read.{read};
 ghost use Rattle.sb_machine.specs.declared.reply.Refusal.TheVariants.{BadCall, Stopped};
 ghost use Rattle.sb_model.specs.declared.message.PropertyValue.TheVariants.{Int, Text};
-ghost use Rattle.sb_lines.specs.Shown.{message_text};
 ghost use Rattle.sb_machine.specs.declared.call.Part.TheVariants.{Main};
 ghost use Rattle.sb_routes.specs.declared.routes.Address.TheVariants.{Entity};
 ghost use Rattle.sb_routes.specs.declared.routes.Route.TheVariants.{Messages, Locked};
@@ -124,8 +123,6 @@ pub fn worked_forms()
     ensures any { lists_json (codes "*/*") ≡ false }
     ensures accept { is_json_asked (codes "ACCEPT", codes "application/json") ≡ true }
     ensures another { is_json_asked (codes "Content-Type", codes "application/json") ≡ false }
-    ensures body { message_text first_copy
-        ≡ codes "{\"body\":\"hi\",\"delivery\":1,\"enqueued\":1000,\"enqueued_seq\":1,\"props\":{},\"seq\":1,\"sys\":{},\"token\":\"a1b2c3d4-e5f6-0718-0000-000000000001\",\"until\":61000}" }
     ensures small { fits_head ((codes "a", codes "bc") ∷ []) ≡ true }
     ensures many { fits_head (replicate 61 (codes "a", [])) ≡ true }
     ensures too_many { fits_head (replicate 62 (codes "a", [])) ≡ false }

@@ -14,8 +14,7 @@ use sb_model::Text;
 use sb_node::Node;
 use sb_outside::MemDisk;
 use sb_rest::{
-    Access, Asker, RestFault, call_of, fault_response, host_of, line_response, response_of,
-    wants_json,
+    Access, RestFault, call_of, fault_response, host_of, line_response, response_of, wants_json,
 };
 use sb_routes::Routes;
 use std::alloc::{AllocError, Global};
@@ -151,13 +150,14 @@ fn response_to_call(
     alloc: Global,
     node: &mut Node<MemDisk>,
     call: &Call,
-    asker: Asker<'_>,
+    host: &[u8],
+    json: bool,
     moment: u64,
 ) -> Result<Response, AllocError>
     requires order { IsActInOrder call.now.act }
 {
     let answer = node.step(moment, call);
-    let response = response_of(alloc, call, &answer, asker);
+    let response = response_of(alloc, call, &answer, host, json);
     drop(answer);
     response
 }
@@ -171,11 +171,9 @@ fn response_to(
 ) -> Result<Response, AllocError> {
     match call_of(alloc, routes, &Access::unlocked(alloc), request) {
         Ok(wanted) => {
-            let asker = Asker {
-                host: host_of(request),
-                json: wants_json(request),
-            };
-            let response = response_to_call(alloc, node, &wanted.call, asker, moment);
+            let host = host_of(request);
+            let json = wants_json(request);
+            let response = response_to_call(alloc, node, &wanted.call, host, json, moment);
             drop(wanted);
             response
         }

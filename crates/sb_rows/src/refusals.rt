@@ -6,7 +6,7 @@ use anyhow::{Result, bail};
 use sb_http::write_response;
 use sb_machine::{Act, Call, Mode, Part, Path, Refusal};
 use sb_model::Text;
-use sb_rest::{Asker, response_of};
+use sb_rest::response_of;
 use std::alloc::{AllocError, Global};
 
 /// Rows of a refusal's name, and of the response to a receive that is refused so.
@@ -70,11 +70,7 @@ impl Rows for Refusals {
 
     fn other(&self, alloc: Global, asked: &str, wanted: &str) -> Result<Option<String>> {
         let answer = Err(refusal_named(alloc, asked)?);
-        let asker = Asker {
-            host: b"h",
-            json: false,
-        };
-        let response = response_of(alloc, &self.call, &answer, asker)?;
+        let response = response_of(alloc, &self.call, &answer, b"h", false)?;
         drop(answer);
         let came = write_response(alloc, &response)?;
         if came.as_slice() == response_bytes(alloc, wanted)?.as_slice() {

@@ -17,7 +17,7 @@ use Rattle.sb_server.specs.declared.answer.Turn.{Turn}
 use Rattle.sb_server.specs.declared.answer.Turn.TheVariants.{Goes, Closes, Stops}
 use Rattle.sb_server.specs.declared.answer.Written.{Written}
 use Rattle.sb_server.specs.declared.ask.Ask.{Ask}
-use Rattle.sb_server.specs.declared.ask.OwnedAsker.{OwnedAsker}
+use Rattle.sb_server.specs.declared.ask.Asker.{Asker}
 use Rattle.sb_server.specs.declared.ask.Ask.TheVariants.{Once, Patient, Line, BadLine, Fault}
 use Rattle.sb_server.specs.Asks.{AsksFor}
 use Rattle.sb_server.specs.Responds.{IsInOrder, IsOne, AnswersCall, Acts, Answers, RespondsTo, Responds, Responded, IsLast, turn_of, line_bytes, fault_bytes}
@@ -93,7 +93,7 @@ fault_answers IsReading pass ask closes fault w is bytes turn =
 
 -- ---- calls
 
-pub once_answers : (IsReading : ℕ → Type 0) (pass new : Sitting) (w : Wanted) (asker : OwnedAsker) (closes : Bool) (answer : Result Answered Refusal) (reading : ℕ) (written : Written)
+pub once_answers : (IsReading : ℕ → Type 0) (pass new : Sitting) (w : Wanted) (asker : Asker) (closes : Bool) (answer : Result Answered Refusal) (reading : ℕ) (written : Written)
     → GoesByCall pass reading w.call answer new → IsReading reading → IfOk written.bytes (λ v. AnswersCall w.call answer asker closes v.items) → written.turn ≡ turn_of closes (stops answer)
     → Answers IsReading pass (Once w asker) closes new written
 once_answers IsReading pass new w asker closes answer reading written goes here bytes turn =
@@ -113,7 +113,7 @@ line_answers IsReading pass new line closes answer reading written goes here byt
     (λ v out. (answer, one, out, turn)) (answer, one) in
     (made, goes.1, both.0, both.1)
 
-pub patient_answers : (IsReading : ℕ → Type 0) (pass new : Sitting) (w : Wanted) (asker : OwnedAsker) (limit : ℕ) (closes : Bool) (answer : Result Answered Refusal) (written : Written)
+pub patient_answers : (IsReading : ℕ → Type 0) (pass new : Sitting) (w : Wanted) (asker : Asker) (limit : ℕ) (closes : Bool) (answer : Result Answered Refusal) (written : Written)
     → ((made : List Entry) × GoesBy pass made new × Waits IsReading pass.seat w.call limit made answer) → IfOk written.bytes (λ v. AnswersCall w.call answer asker closes v.items) → written.turn ≡ turn_of closes (stops answer)
     → Answers IsReading pass (Patient w asker limit) closes new written
 patient_answers IsReading pass new w asker limit closes answer written waits bytes turn =

@@ -23,7 +23,7 @@ use Rattle.sb_rest.specs.declared.call.RestFault.{RestFault}
 use Rattle.sb_rest.specs.declared.call.RestFault.TheVariants.{Foreign, NoKey, NoRoute, BadMethod, Bad, Script, OutOfMemory}
 use Rattle.sb_rest.specs.declared.call.Wanted.{Wanted}
 use Rattle.sb_server.specs.declared.ask.Ask.{Ask}
-use Rattle.sb_server.specs.declared.ask.OwnedAsker.{OwnedAsker}
+use Rattle.sb_server.specs.declared.ask.Asker.{Asker}
 use Rattle.sb_server.specs.declared.ask.Ask.TheVariants.{Once, Patient, Line, BadLine, Fault}
 
 -- ---- the head
@@ -95,7 +95,7 @@ IsFault access Script m = ⊥
 IsFault access OutOfMemory m = Unit {0}
 
 -- a call, what its response has of who asks, and whether it waits
-pub record IsCall (access : Access) (m : RequestMessage) (w : Wanted) (asker : OwnedAsker) (is_patient : Bool) : Type 0 where
+pub record IsCall (access : Access) (m : RequestMessage) (w : Wanted) (asker : Asker) (is_patient : Bool) : Type 0 where
   pub call : call_of access m ≡ Ok w
   pub in_order : IsActInOrder w.call.act
   pub host_is : asker.host ≡ host_in m.head.fields

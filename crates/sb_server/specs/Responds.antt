@@ -18,7 +18,7 @@ use Rattle.sb_rest.specs.Callers.{is_foreign, has_key}
 use Rattle.sb_rest.specs.Responses.{Gives, fault_response, line_response}
 use Rattle.sb_rest.specs.declared.call.RestFault.{RestFault}
 use Rattle.sb_server.specs.declared.ask.Ask.{Ask}
-use Rattle.sb_server.specs.declared.ask.OwnedAsker.{OwnedAsker}
+use Rattle.sb_server.specs.declared.ask.Asker.{Asker}
 use Rattle.sb_server.specs.declared.ask.Ask.TheVariants.{Once, Patient, Line, BadLine, Fault}
 use Rattle.sb_server.specs.declared.answer.Turn.{Turn}
 use Rattle.sb_server.specs.declared.answer.Turn.TheVariants.{Goes, Closes, Stops}
@@ -41,7 +41,7 @@ abbrev pub closed : Bool → ResponseMessage → ResponseMessage
 closed closes said = record said { ends = said.ends || closes }
 
 -- the bytes of the response to a call
-abbrev pub AnswersCall : Call → Result Answered Refusal → OwnedAsker → Bool → List ℕ → Type 0
+abbrev pub AnswersCall : Call → Result Answered Refusal → Asker → Bool → List ℕ → Type 0
 AnswersCall call answer asker closes out = (said : ResponseMessage) × Gives call.act answer asker.host asker.json said × (out ≡ response_bytes (closed closes said))
 
 -- the bytes of the response to a script line: the line of its reply in the form that it asks for, which ends the

@@ -7,14 +7,14 @@ ghost use Rattle.sb_http.specs.Responses.{said_in, response_bytes};
 ghost use Rattle.sb_server.specs.declared.ask.Ask.TheVariants.{Once, Patient, Line};
 ghost use Rattle.sb_server.specs.Responds as responds;
 
-use crate::ask::{Ask, OwnedAsker};
+use crate::ask::{Ask, Asker};
 use crate::waiting::{call_once, receive_waiting};
 use sb_desk::{Desk, Pass, Served};
 use sb_http::{Response, write_response};
 use sb_lines::{Form, reply_line};
 use sb_machine::{Answer, Call, Refusal};
 use sb_outside::Clock;
-use sb_rest::{Asker, RestFault, Wanted, fault_response, line_response, response_of};
+use sb_rest::{RestFault, Wanted, fault_response, line_response, response_of};
 use std::alloc::{AllocError, Global};
 use std::sync::Wait;
 
@@ -76,7 +76,7 @@ fn answer_once<V: Served, R: Wait, C: Clock>(
     pass: Pass,
     clock: &C,
     wanted: Wanted,
-    asker: OwnedAsker,
+    asker: Asker,
     closes: bool,
 ) -> (Pass, Written)
     requires desk { IsOf desk.now pass }
@@ -100,7 +100,7 @@ fn answer_patient<V: Served, R: Wait, C: Clock>(
     pass: Pass,
     clock: &C,
     wanted: Wanted,
-    asker: OwnedAsker,
+    asker: Asker,
     limit_ms: u64,
     closes: bool,
 ) -> (Pass, Written)
@@ -156,16 +156,13 @@ fn call_bytes(
     alloc: Global,
     call: &Call,
     answer: &Answer,
-    asker: &OwnedAsker,
+    asker: &Asker,
     closes: bool,
 ) -> Result<Vec<u8>, AllocError>
     ensures { IfOk result (λ v. responds.AnswersCall call.now answer.now asker.now closes v.items) }
 {
-    let asker = Asker {
-        host: asker.host.as_slice(),
-        json: asker.json,
-    };
-    let response = response_of(alloc, call, answer, asker)?;
+    let host = asker.host.as_slice();
+    let response = response_of(alloc, call, answer, host, asker.json)?;
     bytes_of(alloc, response, closes)
 }
 

@@ -16,9 +16,9 @@ use sb_rest::{Access, RestFault, Wanted, call_of, host_of, wants_json};
 use sb_routes::Routes;
 use std::alloc::Global;
 
-/// What the response to a call has of who asks, as `sb_rest::Asker`, of its own.
+/// What the response to a call has of who asks.
 #[derive(Drop)]
-pub struct OwnedAsker {
+pub struct Asker {
     /// The host that the request names, or `localhost`.
     pub host: Bytes,
     /// Whether the request asks for messages as JSON.
@@ -31,12 +31,12 @@ pub enum Ask {
     /// A call that is answered at once.
     Once {
         wanted: Wanted,
-        asker: OwnedAsker,
+        asker: Asker,
     },
     /// A receive that waits so many ms at most.
     Patient {
         wanted: Wanted,
-        asker: OwnedAsker,
+        asker: Asker,
         limit_ms: u64,
     },
     /// A script line.
@@ -114,7 +114,7 @@ fn called(alloc: Global, access: &Access, request: &Request, wanted: Wanted) -> 
         };
     };
     let json = wants_json(request);
-    let asker = OwnedAsker { host, json };
+    let asker = Asker { host, json };
     if waits(&wanted.call) {
         let limit_ms = wanted.timeout.saturating_mul(1000);
         return Ask::Patient {

@@ -1,4 +1,4 @@
-use Rattle.std.proofs.Common.{◌≡◌, ◌+◌, ◌×◌, ◌≤◌, map, drop}
+use Rattle.std.proofs.Common.{◌≡◌, ◌+◌, map, drop}
 use Rattle.sb_http.specs.Responses.{field_in}
 use Rattle.sb_rest.specs.Forms.{lines_length}
 use Rattle.sb_rest.proofs.form.are_within.Given as goal
