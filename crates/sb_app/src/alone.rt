@@ -30,8 +30,8 @@ use std::alloc::Global;
 
 const USAGE: &str = "usage: bus COMMAND (run, serve, client, check, drill)\n";
 
-/// Does the task that was named, or writes the usage line where none was. The statuses are those of
-/// `top`; the disks come back.
+/// Does the task that was named, or writes the usage line where none was. A client shows the key, if it
+/// isn't empty. The statuses are those of `top`; the disks come back.
 pub fn carry_out<D: Disk, S: Source, K: Sink, N: Link>(
     alloc: Global,
     named: Result<Task, WordsFault>,
@@ -40,9 +40,10 @@ pub fn carry_out<D: Disk, S: Source, K: Sink, N: Link>(
     salt: u64,
     input: &mut S,
     output: &mut K,
+    key: &[u8],
     link: &mut N,
 ) -> (u8, D, D)
-    ensures done { (task : Option Task) → IsNamed task named → IsCall task salt (outside_of D.Disk S.Source K.Sink disk_a disk_b input.old output.old) (outside_of D.Disk S.Source K.Sink result.1 result.2 input.new output.new) (exchanges_of N.Link link.old) (exchanges_of N.Link link.new) result.0 }
+    ensures done { (task : Option Task) → IsNamed task named → IsCall task salt (outside_of D.Disk S.Source K.Sink disk_a disk_b input.old output.old) (outside_of D.Disk S.Source K.Sink result.1 result.2 input.new output.new) (exchanges_of key.now N.Link link.old) (exchanges_of key.now N.Link link.new) result.0 }
     ensures usage { result.0 ≡ 2 → named ≡ Err BadWords }
     ensures usage_alone { result.0 ≡ 2 → (result.1 ≡ disk_a) × (input.new ≡ input.old) }
     ensures unread { IfErr named (λ _. input.new ≡ input.old) }
@@ -62,7 +63,7 @@ pub fn carry_out<D: Disk, S: Source, K: Sink, N: Link>(
         Task::Run => run_over(alloc, disk_a, disk_b, salt, input, output),
         Task::Check => check_over(alloc, disk_a, disk_b, salt, input, output),
         Task::Client => {
-            let status = client_status(alloc, link, input, output);
+            let status = client_status(alloc, key, link, input, output);
             (status, disk_a, disk_b)
         }
     }

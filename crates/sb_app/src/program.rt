@@ -36,14 +36,14 @@ pub fn top_alone<D: Disk, C: Clock, S: Source, K: Sink, N: Link>(
     output: &mut K,
     link: &mut N,
 ) -> (u8, D, D)
-    ensures done { IsCall (task_in (map (λ w. w.now) words.now)) salt (outside_of D.Disk S.Source K.Sink disk_a disk_b input.old output.old) (outside_of D.Disk S.Source K.Sink result.1 result.2 input.new output.new) (exchanges_of N.Link link.old) (exchanges_of N.Link link.new) result.0 }
+    ensures done { IsCall (task_in (map (λ w. w.now) words.now)) salt (outside_of D.Disk S.Source K.Sink disk_a disk_b input.old output.old) (outside_of D.Disk S.Source K.Sink result.1 result.2 input.new output.new) (exchanges_of [] N.Link link.old) (exchanges_of [] N.Link link.new) result.0 }
     ensures usage_alone { result.0 ≡ 2 → (result.1 ≡ disk_a) × (input.new ≡ input.old) }
     ensures client_alone { command_in (map (λ w. w.now) words.now) ≡ Some Client → result.1 ≡ disk_a }
     ensures disk_b { result.2 ≡ disk_b }
     ensures link { command_in (map (λ w. w.now) words.now) ≢ Some Client → link.new ≡ link.old }
 {
     let named = named_task(alloc, words);
-    carry_out(alloc, named, disk_a, disk_b, salt, input, output, link)
+    carry_out(alloc, named, disk_a, disk_b, salt, input, output, &[], link)
 }
 
 /// Does what the words name over what it is handed. A server (`serve`) serves the connections of these
@@ -74,7 +74,7 @@ pub fn top<
 where
     R::Conn: Send,
     ensures done { command_in (map (λ w. w.now) words.now) ≢ Some Serve
-        → IfSome result.1 (λ disks. IsCall (task_in (map (λ w. w.now) words.now)) salt (outside_of D.Disk S.Source K.Sink disk_a disk_b input.old output.old) (outside_of D.Disk S.Source K.Sink disks.0 disks.1 input.new output.new) (exchanges_of N.Link link.old) (exchanges_of N.Link link.new) result.0) }
+        → IfSome result.1 (λ disks. IsCall (task_in (map (λ w. w.now) words.now)) salt (outside_of D.Disk S.Source K.Sink disk_a disk_b input.old output.old) (outside_of D.Disk S.Source K.Sink disks.0 disks.1 input.new output.new) (exchanges_of [] N.Link link.old) (exchanges_of [] N.Link link.new) result.0) }
     ensures serves { command_in (map (λ w. w.now) words.now) ≡ Some Serve
         → IfSome result.1 (λ disks. IsServeCall (λ desk. Working (ServesBy R.Conn.left R.Conn.given R.Conn.reads R.Conn.writes) R.left R.taken R.ended R.count R.out desk (connections_in (map (λ w. w.now) words.now))) R.count salt
         (outside_of D.Disk S.Source K.Sink disk_a disk_b input.old output.old) (outside_of D.Disk S.Source K.Sink disks.0 disks.1 input.new output.new) doors.old.items doors.new.items result.0) }
@@ -98,6 +98,7 @@ where
                 salt,
                 input,
                 output,
+                &[],
                 link,
             );
             return (status, Some((disk_a, disk_b)));
@@ -125,6 +126,7 @@ where
         salt,
         input,
         output,
+        &[],
         link,
     );
     (status, Some((disk_a, disk_b)))
