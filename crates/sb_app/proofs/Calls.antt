@@ -1,7 +1,7 @@
 -- A whole call, by the task that its words name, and what words name.
 use Rattle.std.proofs.Common.{◌≡◌, ◌≢◌, ℕ, List, Bool, true, false, Option, Some, None, Result, Err, refl, sym, ◌∙◌, ap}
 use Rattle.std.specs.Prelude.{option_and_then, option_map}
-use Rattle.sb_words.specs.Words.{command_in, connections_in, connections_of, form_in, form_value, look_in, look_of}
+use Rattle.sb_words.specs.Words.{command_in, connections_in, connections_of, form_in, form_value, look_in, look_of, max_jump_in, max_jump_of}
 use Rattle.sb_words.specs.declared.command.Command.{Command}
 use Rattle.sb_words.specs.declared.command.Command.TheVariants.{Run as RunCommand, Check as CheckCommand, Client as ClientCommand, Serve}
 use Rattle.sb_words.specs.declared.command.Form.{Form as ReadForm}
@@ -50,6 +50,9 @@ a_form words f is = ap (option_map (λ g. g.command)) is
 
 pub most_in : (words : List (List ℕ)) (f : ReadForm) → form_in words ≡ Some (form_value f) → f.connections ≡ connections_in words
 most_in words f is = sym (ap connections_of is)
+
+pub days_in : (words : List (List ℕ)) (f : ReadForm) → form_in words ≡ Some (form_value f) → f.max_jump ≡ max_jump_in words
+days_in words f is = sym (ap max_jump_of is)
 
 -- words that couldn't be read name no task, or memory was wanting
 pub unnamed : (words : List (List ℕ)) (days : ℕ) (fault : WordsFault) → (fault ≡ BadWords → form_in words ≡ None) → IsNamed (task_in words) days (Err fault)

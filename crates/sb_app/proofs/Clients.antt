@@ -38,15 +38,15 @@ link_end _ is = absurd cc
 
 -- ---- a reply without a line
 
-given_last : (told told_after : Option (List Exchange)) (before made : List Exchange) (line reply : List ℕ) → made ≡ one_exchange line reply → Gains told told_after (before ++ made) → MayHaveGiven told told_after reply
-given_last told told_after before made line reply is gains = (before, [], request_of line, subst (λ (m : List Exchange). Gains told told_after (before ++ m)) is gains)
+given_last : (key : List ℕ) (told told_after : Option (List Exchange)) (before made : List Exchange) (line reply : List ℕ) → made ≡ one_exchange key line reply → Gains told told_after (before ++ made) → MayHaveGiven told told_after reply
+given_last key told told_after before made line reply is gains = (before, [], request_of key line, subst (λ (m : List Exchange). Gains told told_after (before ++ m)) is gains)
 
 bad_reply : (was now : ClientSide) → ((reply : List ℕ) → MayHaveGiven was.told now.told reply → HasNoLine reply → ⊥) → IsCutRun was now BadReply → ⊥
 bad_reply was now answered run = by_last run.last run.ends
   where
-    by_last : (last : Option (List ℕ)) → EndsAt BadReply last run.made run.part → ⊥
+    by_last : (last : Option (List ℕ)) → EndsAt was.key BadReply last run.made run.part → ⊥
     by_last None ends = ends.0
-    by_last (Some line) ends = answered ends.0 (given_last was.told now.told (exchanges_in run.answers) run.made line ends.0 ends.2 run.told) ends.3
+    by_last (Some line) ends = answered ends.0 (given_last was.key was.told now.told (exchanges_in run.answers) run.made line ends.0 ends.2 run.told) ends.3
 
 -- ---- the call
 

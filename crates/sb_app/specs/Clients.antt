@@ -13,13 +13,14 @@ use Rattle.sb_app.specs.Outside.{Outside}
 use Rattle.sb_app.specs.Runs.{status_by}
 use Rattle.sb_app.specs.Tops.{IsQuiet, IsShort, IsComplete}
 
--- a link: what it has exchanged, where it tells
+-- a link: the key that is shown over it, and what it has exchanged, where it tells
 pub record Exchanges : Type 0 where
+  pub key : List ℕ
   pub told : Option (List Exchange)
   pub faults : ℕ
 
-abbrev pub exchanges_of : {N : Type 0} → Link N → N → Exchanges
-exchanges_of link n = record { told = link.told n; faults = link.count n }
+abbrev pub exchanges_of : {N : Type 0} → (key : List ℕ) → Link N → N → Exchanges
+exchanges_of key link n = record { key = key; told = link.told n; faults = link.count n }
 
 -- the status of a run that ended so
 abbrev pub status_of_client : ClientEnding → ℕ
@@ -33,7 +34,7 @@ status_of_client LongInput = 10
 
 -- what a client sees of the outside
 abbrev pub client_side : Outside → Exchanges → ClientSide
-client_side outside link = record { left = outside.input.left; told = link.told; given = outside.output.given }
+client_side outside link = record { key = link.key; left = outside.input.left; told = link.told; given = outside.output.given }
 
 -- the link may have given this reply, by what it tells
 abbrev pub MayHaveGiven : (told told_after : Option (List Exchange)) → (reply : List ℕ) → Type 0

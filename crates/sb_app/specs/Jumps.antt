@@ -20,14 +20,6 @@ jumps days moment reading = nat_lt settled moment && is_far_ahead days moment re
 abbrev pub jump_line : (moment reading : ℕ) → List ℕ
 jump_line moment reading = codes "{\"moment\":" ++ (decimal moment ++ (codes ",\"reading\":" ++ (decimal reading ++ codes ",\"refused\":\"TimeJump\"}\n")))
 
--- nothing is known of what the clock may read
-abbrev pub any_reading : ℕ → Type 0
-any_reading reading = Unit {0}
-
--- how many days the words allow: none of them names a number yet
-abbrev pub max_jump_in : List (List ℕ) → ℕ
-max_jump_in words = 0
-
 -- the clock read so that the moment of a line isn't too far ahead; what is no call has none
 abbrev pub IsWithin : (reads : ℕ → Type 0) → (days : ℕ) → ScriptLine → Type 0
 IsWithin reads days Blank = Unit {0}

@@ -6,7 +6,6 @@ ghost use Rattle.sb_journal.specs.Disks.{HaveFailed, AreQuiet, SameHonesty};
 ghost use Rattle.sb_node.specs.Nodes.{node_state, node_stopped, node_disk_b, node_disks, IsKept};
 ghost use Rattle.sb_words.specs.declared.command.WordsFault.TheVariants.{BadWords};
 ghost use Rattle.sb_app.specs.Outside.{outside_of};
-ghost use Rattle.sb_app.specs.Jumps.{any_reading};
 ghost use Rattle.sb_app.specs.Nodes.{outside_with};
 ghost use Rattle.sb_app.specs.Runs.{IsScriptRun, status_by};
 ghost use Rattle.sb_app.specs.Endings.{IsCutRun, status_of_end};
@@ -32,8 +31,8 @@ use std::alloc::Global;
 
 const USAGE: &str = "usage: bus COMMAND (run, serve, client, check, drill)\n";
 
-/// Does the task that was named, or writes the usage line where none was. The statuses are those of
-/// `top`; the disks come back.
+/// Does the task that was named, or writes the usage line where none was. A client shows the key, if it
+/// isn't empty. The statuses are those of `top`; the disks come back.
 pub fn carry_out<D: Disk, C: Clock, S: Source, K: Sink, N: Link>(
     alloc: Global,
     named: Result<Named, WordsFault>,
@@ -43,9 +42,10 @@ pub fn carry_out<D: Disk, C: Clock, S: Source, K: Sink, N: Link>(
     clock: &C,
     input: &mut S,
     output: &mut K,
+    key: &[u8],
     link: &mut N,
 ) -> (u8, D, D)
-    ensures done { (task : Option Task) (days : ℕ) → IsNamed task days named → IsCall any_reading days task salt (outside_of D.Disk S.Source K.Sink disk_a disk_b input.old output.old) (outside_of D.Disk S.Source K.Sink result.1 result.2 input.new output.new) (exchanges_of N.Link link.old) (exchanges_of N.Link link.new) result.0 }
+    ensures done { (task : Option Task) (days : ℕ) → IsNamed task days named → IsCall (C.reads clock.now) days task salt (outside_of D.Disk S.Source K.Sink disk_a disk_b input.old output.old) (outside_of D.Disk S.Source K.Sink result.1 result.2 input.new output.new) (exchanges_of key.now N.Link link.old) (exchanges_of key.now N.Link link.new) result.0 }
     ensures usage { result.0 ≡ 2 → named ≡ Err BadWords }
     ensures usage_alone { result.0 ≡ 2 → (result.1 ≡ disk_a) × (input.new ≡ input.old) }
     ensures unread { IfErr named (λ _. input.new ≡ input.old) }
@@ -65,10 +65,10 @@ pub fn carry_out<D: Disk, C: Clock, S: Source, K: Sink, N: Link>(
         Task::Run => run_over(
             alloc, disk_a, disk_b, salt, clock, max_jump, input, output,
         ),
-        Task::Check => check_over(alloc, disk_a, disk_b, salt, input, output),
+        Task::Check => check_over(alloc, disk_a, disk_b, salt, clock, input, output),
         Task::Look => look_over(alloc, disk_a, disk_b, salt, input, output),
         Task::Client => {
-            let status = client_status(alloc, link, input, output);
+            let status = client_status(alloc, key, link, input, output);
             (status, disk_a, disk_b)
         }
     }
@@ -85,7 +85,7 @@ fn run_over<D: Disk, C: Clock, S: Source, K: Sink>(
     input: &mut S,
     output: &mut K,
 ) -> (u8, D, D)
-    ensures done { IsCarriedOut any_reading max_jump (Some Run) salt (outside_of D.Disk S.Source K.Sink disk_a disk_b input.old output.old) (outside_of D.Disk S.Source K.Sink result.1 result.2 input.new output.new) result.0 }
+    ensures done { IsCarriedOut (C.reads clock.now) max_jump (Some Run) salt (outside_of D.Disk S.Source K.Sink disk_a disk_b input.old output.old) (outside_of D.Disk S.Source K.Sink result.1 result.2 input.new output.new) result.0 }
     ensures disk_b { result.2 ≡ disk_b }
 {
     let mut node = match open_node(alloc, disk_a, disk_b, salt, output) {
@@ -98,15 +98,16 @@ fn run_over<D: Disk, C: Clock, S: Source, K: Sink>(
 }
 
 // A check of the namespace of these disks; nothing is read of the input.
-fn check_over<D: Disk, S: Source, K: Sink>(
+fn check_over<D: Disk, C: Clock, S: Source, K: Sink>(
     alloc: Global,
     disk_a: D,
     disk_b: D,
     salt: u64,
+    clock: &C,
     input: &S,
     output: &mut K,
 ) -> (u8, D, D)
-    ensures done { (days : ℕ) → IsCarriedOut any_reading days (Some Check) salt (outside_of D.Disk S.Source K.Sink disk_a disk_b input.now output.old) (outside_of D.Disk S.Source K.Sink result.1 result.2 input.now output.new) result.0 }
+    ensures done { (days : ℕ) → IsCarriedOut (C.reads clock.now) days (Some Check) salt (outside_of D.Disk S.Source K.Sink disk_a disk_b input.now output.old) (outside_of D.Disk S.Source K.Sink result.1 result.2 input.now output.new) result.0 }
     ensures disk_b { result.2 ≡ disk_b }
 {
     let node = match open_node(alloc, disk_a, disk_b, salt, output) {
@@ -129,9 +130,9 @@ fn run_status<D: Disk, C: Clock, S: Source, K: Sink>(
     requires running { node_stopped node.old ≡ None }
     requires consistent { IsConsistent (node_state node.old) }
     ensures done { (refused : Bool) → result ≡ status_by refused
-        → IsScriptRun any_reading max_jump (IsKept node.old) (node_state node.old) (outside_with S.Source K.Sink node.old input.old output.old) (outside_with S.Source K.Sink node.new input.new output.new) (node_state node.new) refused }
+        → IsScriptRun (C.reads clock.now) max_jump (IsKept node.old) (node_state node.old) (outside_with S.Source K.Sink node.old input.old output.old) (outside_with S.Source K.Sink node.new input.new output.new) (node_state node.new) refused }
     ensures cut { (end : RunEnd) → result ≡ status_of_end end
-        → IsCutRun any_reading max_jump (IsKept node.old) (node_state node.old) (outside_with S.Source K.Sink node.old input.old output.old) (outside_with S.Source K.Sink node.new input.new output.new) (node_state node.new) end }
+        → IsCutRun (C.reads clock.now) max_jump (IsKept node.old) (node_state node.old) (outside_with S.Source K.Sink node.old input.old output.old) (outside_with S.Source K.Sink node.new input.new output.new) (node_state node.new) end }
     ensures kept { IsKept node.old → result ≢ 5 → IsKept node.new }
     ensures passed { (refused : Bool) → result ≡ status_by refused
         → (S.count input.new ≡ S.count input.old) × (K.count output.new ≡ K.count output.old) × AreQuiet (node_disks node.old) (node_disks node.new) }

@@ -3,7 +3,7 @@ ghost use Rattle.std.specs.Prelude.{◌≡◌, ℕ, true, false, IfErr, IfOk, On
 ghost use Rattle.sb_app.specs.Outside.{output_of};
 ghost use Rattle.sb_app.specs.Endings.{IsLineWritten};
 ghost use Rattle.sb_app.specs.Held.{IsJumpStatus, IsOvertaken, IsTooFar};
-ghost use Rattle.sb_app.specs.Jumps.{any_reading, IsSettled, IsWithin};
+ghost use Rattle.sb_app.specs.Jumps.{IsSettled, IsWithin};
 ghost use Rattle.sb_app.specs.Jumps as limits;
 
 use crate::final_line::write_final_line;
@@ -28,8 +28,8 @@ pub struct Jump {
 /// Holds a line of a run back whose call's moment is more than so many days ahead of the clock, with
 /// what the clock read; by 0 days none is.
 pub fn hold_line<C: Clock>(clock: &C, days: u32, line: &ScriptLine) -> Result<(), Jump>
-    ensures ok { OnOk result (IsWithin any_reading days line.now) }
-    ensures err { IfErr result (IsTooFar any_reading days line.now) }
+    ensures ok { OnOk result (IsWithin (C.reads clock.now) days line.now) }
+    ensures err { IfErr result (IsTooFar (C.reads clock.now) days line.now) }
 {
     match line {
         ScriptLine::Blank | ScriptLine::Malformed(_) => Ok(()),
@@ -46,8 +46,8 @@ pub fn hold_server<C: Clock, W: Watcher>(
     opened: Summary,
     watcher: &W,
 ) -> Result<(), Jump>
-    ensures ok { OnOk result (IsSettled any_reading days opened.now) }
-    ensures err { IfErr result (IsOvertaken any_reading days opened.now) }
+    ensures ok { OnOk result (IsSettled (C.reads clock.now) days opened.now) }
+    ensures err { IfErr result (IsOvertaken (C.reads clock.now) days opened.now) }
 {
     let moment = opened.now;
     let reading = clock.now();
@@ -82,8 +82,8 @@ pub fn jump_status<K: Sink>(alloc: Global, jump: Jump, output: &mut K) -> u8
 
 // Holds a moment back that is more than so many days ahead of the clock.
 fn hold_moment<C: Clock>(clock: &C, days: u32, moment: u64) -> Result<(), Jump>
-    ensures ok { OnOk result ((reading : ℕ) × any_reading reading × (limits.is_far_ahead days reading moment ≡ false)) }
-    ensures err { IfErr result (λ jump. (jump.moment ≡ moment) × any_reading jump.reading × (limits.is_far_ahead days jump.reading jump.moment ≡ true)) }
+    ensures ok { OnOk result ((reading : ℕ) × (C.reads clock.now) reading × (limits.is_far_ahead days reading moment ≡ false)) }
+    ensures err { IfErr result (λ jump. (jump.moment ≡ moment) × (C.reads clock.now) jump.reading × (limits.is_far_ahead days jump.reading jump.moment ≡ true)) }
 {
     let reading = clock.now();
     if is_far_ahead(days, reading, moment) {

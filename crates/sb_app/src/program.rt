@@ -1,6 +1,6 @@
 // The program over whatever disks, streams, clock, doors and link it is handed.
 ghost use Rattle.std.specs.Prelude.{◌≡◌, ◌≢◌, map, None, Some, IfSome, IsSome};
-ghost use Rattle.sb_words.specs.Words.{command_in, connections_in};
+ghost use Rattle.sb_words.specs.Words.{command_in, connections_in, max_jump_in};
 ghost use Rattle.sb_words.specs.declared.command.Command.TheVariants.{Client, Serve};
 ghost use Rattle.sb_server.specs.Serves.{Working};
 ghost use Rattle.sb_server.specs.Works.{ServesBy};
@@ -8,7 +8,6 @@ ghost use Rattle.sb_app.specs.Outside.{outside_of};
 ghost use Rattle.sb_app.specs.Clients.{exchanges_of};
 ghost use Rattle.sb_app.specs.Calls.{IsCall, IsNamed, task_in};
 ghost use Rattle.sb_app.specs.Calls as calls;
-ghost use Rattle.sb_app.specs.Jumps.{any_reading, max_jump_in};
 ghost use Rattle.sb_app.specs.Servings.{IsServeCall};
 
 use crate::alone::carry_out;
@@ -21,9 +20,6 @@ use sb_words::{Command, WordsFault, read_form};
 use std::alloc::Global;
 use std::sync::Wait;
 use std::thread::Threads;
-
-// How many days time may jump: any number, as the words name none yet.
-const MAX_JUMP: u32 = 0;
 
 /// Does what the words name over these disks, streams and link, without waiting for anybody, and
 /// gives the disks back; to it the words of a server are none. The status of a run is 0 where all
@@ -43,7 +39,7 @@ pub fn top_alone<D: Disk, C: Clock, S: Source, K: Sink, N: Link>(
     output: &mut K,
     link: &mut N,
 ) -> (u8, D, D)
-    ensures done { IsCall any_reading (max_jump_in (map (λ w. w.now) words.now)) (task_in (map (λ w. w.now) words.now)) salt (outside_of D.Disk S.Source K.Sink disk_a disk_b input.old output.old) (outside_of D.Disk S.Source K.Sink result.1 result.2 input.new output.new) (exchanges_of N.Link link.old) (exchanges_of N.Link link.new) result.0 }
+    ensures done { IsCall (C.reads clock.now) (max_jump_in (map (λ w. w.now) words.now)) (task_in (map (λ w. w.now) words.now)) salt (outside_of D.Disk S.Source K.Sink disk_a disk_b input.old output.old) (outside_of D.Disk S.Source K.Sink result.1 result.2 input.new output.new) (exchanges_of [] N.Link link.old) (exchanges_of [] N.Link link.new) result.0 }
     ensures usage_alone { result.0 ≡ 2 → (result.1 ≡ disk_a) × (input.new ≡ input.old) }
     ensures client_alone { command_in (map (λ w. w.now) words.now) ≡ Some Client → result.1 ≡ disk_a }
     ensures disk_b { result.2 ≡ disk_b }
@@ -51,7 +47,7 @@ pub fn top_alone<D: Disk, C: Clock, S: Source, K: Sink, N: Link>(
 {
     let named = named_task(alloc, words);
     carry_out(
-        alloc, named, disk_a, disk_b, salt, clock, input, output, link,
+        alloc, named, disk_a, disk_b, salt, clock, input, output, &[], link,
     )
 }
 
@@ -81,15 +77,16 @@ pub fn top<
     input: &mut S,
     output: &mut K,
     doors: &mut Vec<R>,
+    key: &[u8],
     link: &mut N,
     watcher: &W,
 ) -> (u8, Option<(D, D)>)
 where
     R::Conn: Send,
     ensures done { command_in (map (λ w. w.now) words.now) ≢ Some Serve
-        → IfSome result.1 (λ disks. IsCall any_reading (max_jump_in (map (λ w. w.now) words.now)) (task_in (map (λ w. w.now) words.now)) salt (outside_of D.Disk S.Source K.Sink disk_a disk_b input.old output.old) (outside_of D.Disk S.Source K.Sink disks.0 disks.1 input.new output.new) (exchanges_of N.Link link.old) (exchanges_of N.Link link.new) result.0) }
+        → IfSome result.1 (λ disks. IsCall (C.reads clock.now) (max_jump_in (map (λ w. w.now) words.now)) (task_in (map (λ w. w.now) words.now)) salt (outside_of D.Disk S.Source K.Sink disk_a disk_b input.old output.old) (outside_of D.Disk S.Source K.Sink disks.0 disks.1 input.new output.new) (exchanges_of key.now N.Link link.old) (exchanges_of key.now N.Link link.new) result.0) }
     ensures serves { command_in (map (λ w. w.now) words.now) ≡ Some Serve
-        → IfSome result.1 (λ disks. IsServeCall any_reading (max_jump_in (map (λ w. w.now) words.now)) (λ desk. Working (ServesBy (C.reads clock.now) access.now R.Conn.left R.Conn.given R.Conn.reads R.Conn.writes) R.left R.taken R.ended R.count R.out desk (connections_in (map (λ w. w.now) words.now))) R.count salt
+        → IfSome result.1 (λ disks. IsServeCall (C.reads clock.now) (max_jump_in (map (λ w. w.now) words.now)) (λ desk. Working (ServesBy (C.reads clock.now) access.now R.Conn.left R.Conn.given R.Conn.reads R.Conn.writes) R.left R.taken R.ended R.count R.out desk (connections_in (map (λ w. w.now) words.now))) R.count salt
         (outside_of D.Disk S.Source K.Sink disk_a disk_b input.old output.old) (outside_of D.Disk S.Source K.Sink disks.0 disks.1 input.new output.new) doors.old.items doors.new.items result.0) }
     ensures usage { result.0 ≡ 2 → command_in (map (λ w. w.now) words.now) ≡ None }
     ensures usage_alone { result.0 ≡ 2 → (result.1 ≡ Some (disk_a, disk_b)) × (input.new ≡ input.old) }
@@ -112,6 +109,7 @@ where
                 clock,
                 input,
                 output,
+                key,
                 link,
             );
             return (status, Some((disk_a, disk_b)));
@@ -129,7 +127,7 @@ where
             output,
             doors,
             form.connections,
-            MAX_JUMP,
+            form.max_jump,
             watcher,
         );
         watcher.tell(Notice::Ended { status });
@@ -139,7 +137,7 @@ where
         alloc,
         Ok(Named {
             task,
-            max_jump: MAX_JUMP,
+            max_jump: form.max_jump,
         }),
         disk_a,
         disk_b,
@@ -147,6 +145,7 @@ where
         clock,
         input,
         output,
+        key,
         link,
     );
     (status, Some((disk_a, disk_b)))
@@ -180,7 +179,7 @@ fn named_task(alloc: Global, words: &[&str]) -> Result<Named, WordsFault>
     match task_of(form.command, form.look) {
         Some(task) => Ok(Named {
             task,
-            max_jump: MAX_JUMP,
+            max_jump: form.max_jump,
         }),
         None => Err(WordsFault::BadWords),
     }

@@ -4,7 +4,6 @@ ghost use Rattle.sb_outside.specs.Causes.{RoseByOne};
 ghost use Rattle.sb_machine.specs.Consistent.{IsConsistent};
 ghost use Rattle.sb_journal.specs.Disks.{HaveFailed, AreQuiet, SameHonesty};
 ghost use Rattle.sb_node.specs.Nodes.{node_state, node_stopped, node_disk_b, node_disks, IsKept};
-ghost use Rattle.sb_app.specs.Jumps.{any_reading};
 ghost use Rattle.sb_app.specs.Nodes.{outside_with};
 ghost use Rattle.sb_app.specs.Runs.{IsScriptRun};
 ghost use Rattle.sb_app.specs.Endings.{IsCutRun};
@@ -38,8 +37,8 @@ pub fn run_script<D: Disk, C: Clock, S: Source, K: Sink>(
 ) -> Result<bool, RunEnd>
     requires running { node_stopped node.old ≡ None }
     requires consistent { IsConsistent (node_state node.old) }
-    ensures done { IfOk result (IsScriptRun any_reading max_jump (IsKept node.old) (node_state node.old) (outside_with S.Source K.Sink node.old input.old output.old) (outside_with S.Source K.Sink node.new input.new output.new) (node_state node.new)) }
-    ensures cut { IfErr result (IsCutRun any_reading max_jump (IsKept node.old) (node_state node.old) (outside_with S.Source K.Sink node.old input.old output.old) (outside_with S.Source K.Sink node.new input.new output.new) (node_state node.new)) }
+    ensures done { IfOk result (IsScriptRun (C.reads clock.now) max_jump (IsKept node.old) (node_state node.old) (outside_with S.Source K.Sink node.old input.old output.old) (outside_with S.Source K.Sink node.new input.new output.new) (node_state node.new)) }
+    ensures cut { IfErr result (IsCutRun (C.reads clock.now) max_jump (IsKept node.old) (node_state node.old) (outside_with S.Source K.Sink node.old input.old output.old) (outside_with S.Source K.Sink node.new input.new output.new) (node_state node.new)) }
     ensures kept { IsKept node.old → result ≢ Err DiskFault → IsKept node.new }
 
     // One fault more was counted of what ended the run, and none of the others.

@@ -5,7 +5,6 @@ ghost use Rattle.sb_desk.specs.Desks.{value_of};
 ghost use Rattle.sb_server.specs.Serves.{Working};
 ghost use Rattle.sb_server.specs.Works.{ServesBy};
 ghost use Rattle.sb_app.specs.Checks.{IsLineTold};
-ghost use Rattle.sb_app.specs.Jumps.{any_reading};
 ghost use Rattle.sb_app.specs.Outside.{Input, output_of};
 ghost use Rattle.sb_app.specs.Servings.{IsServeCall, serve_status};
 ghost use Rattle.sb_app.specs.Servings as servings;
@@ -53,7 +52,7 @@ pub fn serve_over<
 ) -> (u8, D, D)
 where
     R::Conn: Send,
-    ensures { (input : Input) → IsServeCall any_reading max_jump (λ desk. Working (ServesBy (C.reads clock.now) access.now R.Conn.left R.Conn.given R.Conn.reads R.Conn.writes) R.left R.taken R.ended R.count R.out desk most) R.count salt
+    ensures { (input : Input) → IsServeCall (C.reads clock.now) max_jump (λ desk. Working (ServesBy (C.reads clock.now) access.now R.Conn.left R.Conn.given R.Conn.reads R.Conn.writes) R.left R.taken R.ended R.count R.out desk most) R.count salt
         (record { input = input; output = output_of K.Sink output.old; disks = disks_of D.Disk disk_a disk_b }) (record { input = input; output = output_of K.Sink output.new; disks = disks_of D.Disk result.1 result.2 })
         doors.old.items doors.new.items result.0 }
 {

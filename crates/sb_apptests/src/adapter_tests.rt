@@ -122,11 +122,13 @@ fn a_file_fails(rt: HostRuntime) -> Result<(), Fail> {
         (9, true, false, [true, false, false, false, true]),
     ];
     for (failing, cuts, syncs, expected) in rows {
-        let mut disk = FileDisk::new(FlakyFile {
+        let file = FlakyFile {
             inner: Flaky::new(failing),
             cuts,
             syncs,
-        });
+        };
+        let name = String::from_str(rt.alloc(), "flaky.journal")?;
+        let mut disk = FileDisk::new(file, name, rt);
         let mut piece = [0u8; 4];
         let found = [
             disk.length().is_err(),
@@ -142,8 +144,8 @@ fn a_file_fails(rt: HostRuntime) -> Result<(), Fail> {
 
 #[test]
 fn a_reader_and_a_writer_fail(rt: HostRuntime) -> Result<(), Fail> {
-    let mut source = Reading::new(Flaky::new(1));
-    let mut sink = Writing::new(Flaky::new(1));
+    let mut source = Reading::new(Flaky::new(1), rt);
+    let mut sink = Writing::new(Flaky::new(1), rt);
     let mut piece = [0u8; 4];
     for expected in [Some(1), None, Some(1)] {
         assert!(rt; source.read(&mut piece).ok() == expected);

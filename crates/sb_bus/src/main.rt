@@ -10,6 +10,8 @@
 //! ```
 #![tactic(auto)]
 
+mod endings;
+mod key;
 mod outside;
 mod watcher;
 

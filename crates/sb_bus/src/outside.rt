@@ -1,14 +1,15 @@
-// Makes the real disks, streams and clock, and calls the top.
+// Makes the real disks, streams, doors, link and clock, calls the top, and says how that ended.
+use crate::endings::say;
+use crate::key::key_in;
 use crate::watcher::Printing;
 use sb_app::top;
+use sb_model::Text;
 use sb_outside::{
-    Dialing, Disk, Door, FileDisk, Link, Listening, MemDisk, NoDoor, NoLink, Reading, SystemClock,
-    Writing, hold_streams, open_disk, sync_folder,
+    Dialing, Disk, Door, Link, Listening, MemDisk, NoDoor, NoLink, Reading, SystemClock, Writing,
+    disks_in, hold_streams, lock_folder, made,
 };
 use sb_rest::Access;
-use sb_words::{Command, Needs, WordsFault, asked_text, needs};
-use std::fs::{File, TryLockError};
-use std::io::{Error, ErrorKind};
+use sb_words::{Command, Form, WordsFault, asked_text, fault_text, read_form};
 use std::net::{Ipv4Addr, OpenListener, TcpListener};
 use std::sync::Wait;
 use std::thread::Threads;
@@ -26,6 +27,38 @@ const NO_MEMORY: u8 = 7;
 
 const NANOS_A_SECOND: u64 = 1_000_000_000;
 
+// What each call of the top gets.
+#[derive(Drop)]
+struct Call<'c, T> {
+    rt: &'c HostRuntime,
+    threads: &'c T,
+    words: &'c [&'c str],
+    clock: SystemClock<&'c HostRuntime>,
+    // whom a server answers
+    access: Access,
+    // what a client shows
+    key: Vec<u8>,
+}
+
+/// The status that the program ends with. Words that ask for help or for the version are answered here,
+/// and the top isn't called. Of each status from 2 on a line on standard error tells.
+pub fn status<T: Threads + Wait + Sync>(rt: &HostRuntime, threads: &T) -> u8 {
+    let Some(owned) = made(rt, "the words", "call again", words_of(rt)) else {
+        return NOT_MADE;
+    };
+    let mut words = Vec::new(rt.alloc());
+    for word in &owned {
+        let Ok(()) = words.push(word.as_str()) else {
+            return say(rt, NO_MEMORY, "");
+        };
+    }
+    match asked_text(rt.alloc(), &words) {
+        Ok(Some(text)) => tell(rt, text.as_str()),
+        Ok(None) => status_by(rt, threads, &words),
+        Err(_) => say(rt, NO_MEMORY, ""),
+    }
+}
+
 // The words behind the program's name.
 fn words_of(rt: &HostRuntime) -> io::Result<Vec<String>> {
     let mut words = Vec::new(rt.alloc());
@@ -33,143 +66,6 @@ fn words_of(rt: &HostRuntime) -> io::Result<Vec<String>> {
         words.push(word)?;
     }
     Ok(words)
-}
-
-// The nanoseconds since 1970 as a salt.
-fn salt_of(since_1970: Duration) -> u64 {
-    since_1970
-        .as_secs()
-        .wrapping_mul(NANOS_A_SECOND)
-        .wrapping_add(u64::from(since_1970.subsec_nanos()))
-}
-
-// Locks a folder for this run, so that no other run can write its journal. The lock ends where the
-// file is dropped, at the latest with the process, however that ends.
-fn lock_folder(rt: &HostRuntime, folder: &str) -> io::Result<File> {
-    let held = File::open(rt, folder)?;
-    match held.try_lock() {
-        Ok(()) => Ok(held),
-        Err(TryLockError::WouldBlock) => Err(Error::new(
-            ErrorKind::WouldBlock,
-            "another run holds the folder",
-        )),
-        Err(TryLockError::Error(error)) => Err(error),
-    }
-}
-
-// The disk of the journal with this name in a folder.
-fn journal_in(rt: &HostRuntime, folder: &str, name: &str) -> io::Result<FileDisk<File>> {
-    let path = format!(in rt.alloc(); "{folder}/{name}.journal")?;
-    open_disk(rt, path.as_str())
-}
-
-// The disks of a folder.
-fn disks_in(rt: &HostRuntime, folder: &str) -> io::Result<(FileDisk<File>, FileDisk<File>)> {
-    let disk_a = journal_in(rt, folder, "a")?;
-    let disk_b = journal_in(rt, folder, "b")?;
-    sync_folder(rt, folder)?;
-    Ok((disk_a, disk_b))
-}
-
-// Calls the top over these disks, doors and link, and the real clock and streams.
-fn over_disks<T: Threads + Wait + Sync, D: Disk + Send + Drop, R: Door + Send, N: Link>(
-    rt: &HostRuntime,
-    threads: &T,
-    words: &[&str],
-    disk_a: D,
-    disk_b: D,
-    salt: u64,
-    doors: &mut Vec<R>,
-    link: &mut N,
-) -> u8
-where
-    R::Conn: Send,
-{
-    let (status, disks) = top(
-        threads,
-        rt.alloc(),
-        words,
-        &Access::unlocked(rt.alloc()),
-        disk_a,
-        disk_b,
-        salt,
-        &SystemClock::new(rt),
-        &mut Reading::new(rt.stdin()),
-        &mut Writing::new(rt.stdout()),
-        doors,
-        link,
-        &Printing::new(rt),
-    );
-    drop(disks);
-    status
-}
-
-// Calls the top over the files of a folder, which is locked meanwhile, and these doors.
-fn over_folder<T: Threads + Wait + Sync, R: Door + Send>(
-    rt: &HostRuntime,
-    threads: &T,
-    words: &[&str],
-    folder: &str,
-    doors: &mut Vec<R>,
-) -> io::Result<u8>
-where
-    R::Conn: Send,
-{
-    let salt = salt_of(std::rt::Clock::since_1970(rt)?);
-    let streams = hold_streams(rt, folder)?;
-    let lock = lock_folder(rt, folder)?;
-    let (disk_a, disk_b) = disks_in(rt, folder)?;
-    let mut link = NoLink::new();
-    let status = over_disks(rt, threads, words, disk_a, disk_b, salt, doors, &mut link);
-    drop(lock);
-    drop(streams);
-    Ok(status)
-}
-
-// A door for each worker, all over one listener at this port.
-fn doors_at(rt: &HostRuntime, port: u16, workers: u16) -> io::Result<Vec<Listening<TcpListener>>> {
-    let listener = TcpListener::bind(rt, (Ipv4Addr::LOCALHOST, port))?;
-    let mut doors = Vec::new(rt.alloc());
-    for _ in 1..workers {
-        doors.push(Listening::new(listener.try_clone()?))?;
-    }
-    doors.push(Listening::new(listener))?;
-    Ok(doors)
-}
-
-// Calls the top over the files of a folder, and doors over a listener.
-fn over_listener<T: Threads + Wait + Sync>(
-    rt: &HostRuntime,
-    threads: &T,
-    words: &[&str],
-    needs: &Needs,
-) -> io::Result<u8> {
-    let mut doors = doors_at(rt, needs.port, needs.workers)?;
-    over_folder(rt, threads, words, needs.folder.as_str(), &mut doors)
-}
-
-// Calls the top over a link to the server at this port.
-fn with_server<T: Threads + Wait + Sync>(
-    rt: &HostRuntime,
-    threads: &T,
-    words: &[&str],
-    port: u16,
-) -> io::Result<u8> {
-    over_nothing(rt, threads, words, &mut Dialing::new(rt, port))
-}
-
-// Calls the top over empty disks in memory, and this link.
-fn over_nothing<T: Threads + Wait + Sync, N: Link>(
-    rt: &HostRuntime,
-    threads: &T,
-    words: &[&str],
-    link: &mut N,
-) -> io::Result<u8> {
-    let alloc = rt.alloc();
-    let disk_a = MemDisk::new(alloc, Vec::new(alloc), Vec::new(alloc))?;
-    let disk_b = MemDisk::new(alloc, Vec::new(alloc), Vec::new(alloc))?;
-    let mut doors: Vec<NoDoor> = Vec::new(alloc);
-    Ok(over_disks(rt, threads, words, disk_a, disk_b, 0, &mut doors, link))
 }
 
 // Writes what was asked for to the standard output.
@@ -181,47 +77,192 @@ fn tell(rt: &HostRuntime, text: &str) -> u8 {
 }
 
 // The status of the call that these words make.
-fn status_by<T: Threads + Wait + Sync>(
-    rt: &HostRuntime,
-    threads: &T,
-    words: &[&str],
-) -> io::Result<u8> {
-    match needs(rt.alloc(), words) {
-        Ok(needs) => match needs.command {
-            Command::Run | Command::Check => {
-                let mut doors: Vec<NoDoor> = Vec::new(rt.alloc());
-                over_folder(rt, threads, words, needs.folder.as_str(), &mut doors)
-            }
-            Command::Serve => over_listener(rt, threads, words, &needs),
-            Command::Client => with_server(rt, threads, words, needs.port),
-        },
-        Err(WordsFault::BadWords) => over_nothing(rt, threads, words, &mut NoLink::new()),
-        Err(WordsFault::OutOfMemory) => Ok(NO_MEMORY),
+fn status_by<T: Threads + Wait + Sync>(rt: &HostRuntime, threads: &T, words: &[&str]) -> u8 {
+    let Some(clock) = made(rt, "the clock", "set it", SystemClock::new(rt)) else {
+        return NOT_MADE;
+    };
+    let mut call = Call {
+        rt,
+        threads,
+        words,
+        clock,
+        access: Access::unlocked(rt.alloc()),
+        key: Vec::new(rt.alloc()),
+    };
+    match read_form(rt.alloc(), words) {
+        Ok(form) => status_of(&mut call, &form),
+        Err(WordsFault::BadWords) => bad_words(&call),
+        Err(WordsFault::OutOfMemory) => say(rt, NO_MEMORY, ""),
     }
 }
 
-fn run<T: Threads + Wait + Sync>(rt: &HostRuntime, threads: &T) -> io::Result<u8> {
-    let owned = words_of(rt)?;
-    let mut words = Vec::new(rt.alloc());
-    for word in &owned {
-        words.push(word.as_str())?;
+// The status of words that are no form.
+fn bad_words<T: Threads + Wait + Sync>(call: &Call<T>) -> u8 {
+    if let Ok(Some(text)) = fault_text(call.rt.alloc(), call.words) {
+        let _ = eprintln!(call.rt; "bus: {text}; try bus --help");
     }
-    match asked_text(rt.alloc(), &words) {
-        Ok(Some(text)) => Ok(tell(rt, text.as_str())),
-        Ok(None) => status_by(rt, threads, &words),
-        Err(_) => Ok(NO_MEMORY),
-    }
+    over_nothing(call, &mut NoLink::new())
 }
 
-/// The status that the program ends with; 11, with one line on standard error, where another run holds
-/// the folder, or where a file, the port, the clock or the words can't be had. Words that ask for help
-/// or for the version are answered here, and the top isn't called.
-pub fn status<T: Threads + Wait + Sync>(rt: &HostRuntime, threads: &T) -> u8 {
-    match run(rt, threads) {
-        Ok(status) => status,
-        Err(error) => {
-            let _ = eprintln!(rt; "bus: {error}");
-            NOT_MADE
+// The status of the call of a form.
+fn status_of<T: Threads + Wait + Sync>(call: &mut Call<T>, form: &Form) -> u8 {
+    let Some(key) = key_in(call.rt, form.key_file) else {
+        return NOT_MADE;
+    };
+    match form.command {
+        Command::Run | Command::Check => {
+            let mut doors: Vec<NoDoor> = Vec::new(call.rt.alloc());
+            over_folder(call, form.folder, &mut doors)
+        }
+        Command::Serve => {
+            let Ok(access) = access_of(call.rt, form, &key) else {
+                return say(call.rt, NO_MEMORY, "");
+            };
+            call.access = access;
+            over_listener(call, form)
+        }
+        Command::Client => {
+            call.key = key;
+            with_server(call, form)
         }
     }
+}
+
+// Whom a server answers by its form and this key, which asks for none where it is empty.
+fn access_of(rt: &HostRuntime, form: &Form, key: &[u8]) -> io::Result<Access> {
+    let mut access = Access::unlocked(rt.alloc());
+    for host in &form.hosts {
+        access.hosts.push(Text::of(rt.alloc(), host)?)?;
+    }
+    if let (false, Ok(key)) = (key.is_empty(), std::str::from_utf8(key)) {
+        access.key = Some(Text::of(rt.alloc(), key)?);
+    }
+    Ok(access)
+}
+
+// A server over the files of a folder, with doors over a listener.
+fn over_listener<T: Threads + Wait + Sync>(call: &Call<T>, form: &Form) -> u8 {
+    let (rt, port) = (call.rt, form.port);
+    let bound = doors_at(rt, port, form.workers);
+    if let Err(error) = &bound {
+        let _ = eprintln!(rt;
+            "bus: 127.0.0.1:{port}: {error}; name another port, or end what has it"
+        );
+    }
+    let Ok(mut doors) = bound else {
+        return NOT_MADE;
+    };
+    let _ = eprintln!(rt; "bus: listens on 127.0.0.1:{port}");
+    let status = over_folder(call, form.folder, &mut doors);
+    let _ = eprintln!(rt; "bus: the server ended with status {status}");
+    status
+}
+
+// A door for each worker, all over one listener at this port.
+fn doors_at<'c>(
+    rt: &'c HostRuntime,
+    port: u16,
+    workers: u16,
+) -> io::Result<Vec<Listening<TcpListener, &'c HostRuntime>>> {
+    let listener = TcpListener::bind(rt, (Ipv4Addr::LOCALHOST, port))?;
+    let mut doors = Vec::new(rt.alloc());
+    for _ in 1..workers {
+        doors.push(Listening::new(listener.try_clone()?, rt))?;
+    }
+    doors.push(Listening::new(listener, rt))?;
+    Ok(doors)
+}
+
+// Calls the top over a link to the server at a port.
+fn with_server<T: Threads + Wait + Sync>(call: &Call<T>, form: &Form) -> u8 {
+    let mut link = Dialing::new(call.rt, form.port, form.patience);
+    let status = over_nothing(call, &mut link);
+    if status == 9 && link.is_kept_out() {
+        let _ = eprintln!(call.rt;
+            "bus: the server let this client not in (401 or 403); name the file of its key by --key"
+        );
+        return status;
+    }
+    say(call.rt, status, "")
+}
+
+// Calls the top over empty disks in memory, and this link.
+fn over_nothing<T: Threads + Wait + Sync, N: Link>(call: &Call<T>, link: &mut N) -> u8 {
+    let alloc = call.rt.alloc();
+    let Ok(disk_a) = MemDisk::new(alloc, Vec::new(alloc), Vec::new(alloc)) else {
+        return NO_MEMORY;
+    };
+    let Ok(disk_b) = MemDisk::new(alloc, Vec::new(alloc), Vec::new(alloc)) else {
+        return NO_MEMORY;
+    };
+    let mut doors: Vec<NoDoor> = Vec::new(alloc);
+    over_disks(call, disk_a, disk_b, &mut doors, link)
+}
+
+// Calls the top over the files of a folder, which is locked meanwhile, and these doors.
+fn over_folder<T: Threads + Wait + Sync, R: Door + Send>(
+    call: &Call<T>,
+    folder: &str,
+    doors: &mut Vec<R>,
+) -> u8
+where
+    R::Conn: Send,
+{
+    let (rt, advice) = (
+        call.rt,
+        "name a folder that is there and that no other run holds",
+    );
+    let Some(streams) = made(rt, folder, advice, hold_streams(rt, folder)) else {
+        return NOT_MADE;
+    };
+    let Some(lock) = made(rt, folder, advice, lock_folder(rt, folder)) else {
+        return NOT_MADE;
+    };
+    let Some((disk_a, disk_b)) = disks_in(rt, rt.alloc(), folder, rt) else {
+        return NOT_MADE;
+    };
+    let status = over_disks(call, disk_a, disk_b, doors, &mut NoLink::new());
+    drop(lock);
+    drop(streams);
+    say(rt, status, folder)
+}
+
+// Calls the top over these disks, doors and link, and the real clock and streams.
+fn over_disks<T: Threads + Wait + Sync, D: Disk + Send + Drop, R: Door + Send, N: Link>(
+    call: &Call<T>,
+    disk_a: D,
+    disk_b: D,
+    doors: &mut Vec<R>,
+    link: &mut N,
+) -> u8
+where
+    R::Conn: Send,
+{
+    let rt = call.rt;
+    let (status, disks) = top(
+        call.threads,
+        rt.alloc(),
+        call.words,
+        &call.access,
+        disk_a,
+        disk_b,
+        salt_of(call.clock.began()),
+        &call.clock,
+        &mut Reading::new(rt.stdin(), rt),
+        &mut Writing::new(rt.stdout(), rt),
+        doors,
+        &call.key,
+        link,
+        &Printing::new(rt),
+    );
+    drop(disks);
+    status
+}
+
+// The nanoseconds since 1970 as a salt.
+fn salt_of(since_1970: Duration) -> u64 {
+    since_1970
+        .as_secs()
+        .wrapping_mul(NANOS_A_SECOND)
+        .wrapping_add(u64::from(since_1970.subsec_nanos()))
 }

@@ -50,13 +50,13 @@ pub record RunsOn (was : Outside) (left : Option (List ℕ)) (told : Option (Lis
   pub goes : AreWhole done ⊎ ((r.ended ≡ true) × (pending_of r ≡ []))
   pub answers : List Answer
   pub lines : lines_in answers ≡ lines_of done
-  pub each : All IsAnswer answers
+  pub each : All (IsAnswer was.key) answers
   pub tells : Gains was.told told (exchanges_in answers)
   pub gives : Gains was.given given (replies_in answers)
   pub says : refused ≡ any_refused answers
 
 pub runs_on : (was : Outside) (left left_after : Option (List ℕ)) (told told_after : Option (List Exchange)) (given given_after : Option (List ℕ)) (r next : Reader) (refused was_refused both : Bool) (front : PartialLine) (so_far : RunsSoFar was left told given r refused) (reads : ReadsLine was.left so_far.input (pending_of r) left_after next front)
-    → IsServed reads.line told told_after given given_after was_refused → both ≡ (refused || was_refused) → RunsOn was left_after told_after given_after next both
+    → IsServed was.key reads.line told told_after given given_after was_refused → both ≡ (refused || was_refused) → RunsOn was left_after told_after given_after next both
 runs_on was left left_after told told_after given given_after r next refused was_refused both front so_far reads served both_is =
     let on = advances so_far.input so_far.done (pending_of r) reads.more reads.line next so_far.split so_far.whole reads.no_feed reads.next in
     let answer : Answer = record { line = reads.line; made = served.made; written = served.written; refused = was_refused } in
@@ -68,7 +68,7 @@ runs_on was left left_after told told_after given given_after r next refused was
       goes = on.goes;
       answers = so_far.answers ++ answer ∷ [];
       lines = map-append (λ (a : Answer). a.line) so_far.answers (answer ∷ []) ∙ ap (λ (l : List (List ℕ)). l ++ reads.line ∷ []) so_far.lines ∙ sym on.says;
-      each = All-push IsAnswer so_far.answers answer so_far.each served.is;
+      each = All-push (IsAnswer was.key) so_far.answers answer so_far.each served.is;
       tells = subst (Gains was.told told_after) (sym (exchanges-push so_far.answers answer)) (tells-tells was.told told told_after (exchanges_in so_far.answers) served.made so_far.tells served.tells);
       gives = subst (Gains was.given given_after) (sym (replies-push so_far.answers answer)) (tells-tells was.given given given_after (replies_in so_far.answers) served.written so_far.gives served.gives);
       says = both_is ∙ ap (λ b. b || was_refused) so_far.says ∙ sym (refused-push so_far.answers answer);
@@ -86,7 +86,7 @@ nothing_yet was r fresh =
       whole = λ rest. refl;
       answers = [];
       lines = refl;
-      each = All-nil IsAnswer;
+      each = All-nil (IsAnswer was.key);
       tells = tells-none was.told;
       gives = tells-none was.given;
       says = refl;
@@ -152,7 +152,7 @@ ended_run was now left r next refused so_far reads =
 pub cut_at_once : (was : Outside) → IsCutRun was was OutOfMemory
 cut_at_once was = record {
   answers = [];
-  each = All-nil IsAnswer;
+  each = All-nil (IsAnswer was.key);
   last = None;
   first = no_lines was.left;
   taken = [];
@@ -211,14 +211,14 @@ cut_between was now left r refused why end is so_far reads long = subst (λ (e :
     same : lines_in so_far.answers ++ [] ≡ lines_of so_far.done
     same = append-nil (lines_in so_far.answers) ∙ so_far.lines
 
-ahead_at : (end : ClientEnding) (line : List ℕ) (made : List Exchange) (part : List ℕ) (r : Reader) → IsCutAt end line made part → IsAheadAt end (pending_of r)
-ahead_at (Done refused) line made part r is = absurd is
-ahead_at ReadFault line made part r is = absurd is
-ahead_at WriteFault line made part r is = pending_fits r
-ahead_at LinkFault line made part r is = pending_fits r
-ahead_at BadReply line made part r is = pending_fits r
-ahead_at LongInput line made part r is = absurd is
-ahead_at OutOfMemory line made part r is = record {
+ahead_at : (key : List ℕ) (end : ClientEnding) (line : List ℕ) (made : List Exchange) (part : List ℕ) (r : Reader) → IsCutAt key end line made part → IsAheadAt end (pending_of r)
+ahead_at key (Done refused) line made part r is = absurd is
+ahead_at key ReadFault line made part r is = absurd is
+ahead_at key WriteFault line made part r is = pending_fits r
+ahead_at key LinkFault line made part r is = pending_fits r
+ahead_at key BadReply line made part r is = pending_fits r
+ahead_at key LongInput line made part r is = absurd is
+ahead_at key OutOfMemory line made part r is = record {
   line = [];
   rest = pending_of r;
   split = refl;
@@ -226,12 +226,12 @@ ahead_at OutOfMemory line made part r is = record {
   fits = omega (arith, pending_fits r);
 }
 
-never_long : (end : ClientEnding) (line : List ℕ) (made : List Exchange) (part : List ℕ) → IsCutAt end line made part → end ≡ LongInput → ⊥
-never_long end line made part is e = let there : IsCutAt LongInput line made part = subst (λ (x : ClientEnding). IsCutAt x line made part) e is in there
+never_long : (key : List ℕ) (end : ClientEnding) (line : List ℕ) (made : List Exchange) (part : List ℕ) → IsCutAt key end line made part → end ≡ LongInput → ⊥
+never_long key end line made part is e = let there : IsCutAt key LongInput line made part = subst (λ (x : ClientEnding). IsCutAt key x line made part) e is in there
 
 -- at a line
 pub cut_at_line : (was now : Outside) (left : Option (List ℕ)) (told : Option (List Exchange)) (given : Option (List ℕ)) (r next : Reader) (refused : Bool) (end : ClientEnding) (front : PartialLine) (so_far : RunsSoFar was left told given r refused) (reads : ReadsLine was.left so_far.input (pending_of r) now.left next front)
-    → IsCutServing reads.line told now.told given now.given end → IsCutRun was now end
+    → IsCutServing was.key reads.line told now.told given now.given end → IsCutRun was now end
 cut_at_line was now left told given r next refused end front so_far reads cut =
     let on = advances so_far.input so_far.done (pending_of r) reads.more reads.line next so_far.split so_far.whole reads.no_feed reads.next in
     let lines : lines_of on.next ≡ lines_in so_far.answers ++ reads.line ∷ [] = on.says ∙ ap (λ (l : List (List ℕ)). l ++ reads.line ∷ []) (sym so_far.lines) in
@@ -244,8 +244,8 @@ cut_at_line was now left told given r next refused end front so_far reads cut =
       ahead = pending_of next;
       took = subst (Took was.left now.left) on.split reads.at.took;
       lines = lines;
-      is_ahead = ahead_at end reads.line cut.made cut.part next cut.is;
-      long = λ e. absurd (never_long end reads.line cut.made cut.part cut.is e);
+      is_ahead = ahead_at was.key end reads.line cut.made cut.part next cut.is;
+      long = λ e. absurd (never_long was.key end reads.line cut.made cut.part cut.is e);
       made = cut.made;
       part = cut.part;
       ends = cut.is;

@@ -26,25 +26,25 @@ pub record Answer : Type 0 where
   pub written : List ℕ
   pub refused : Bool
 
--- the one exchange that is made for a line
-abbrev pub one_exchange : (line reply : List ℕ) → List Exchange
-one_exchange line reply = record { request = request_of line; reply = reply } ∷ []
+-- the one exchange that is made for a line with this key
+abbrev pub one_exchange : (key line reply : List ℕ) → List Exchange
+one_exchange key line reply = record { request = request_of key line; reply = reply } ∷ []
 
 -- the reply that the link gave has this line
-pub record IsReplied (line : List ℕ) (made : List Exchange) (written : List ℕ) (refused : Bool) : Type 0 where
+pub record IsReplied (key line : List ℕ) (made : List Exchange) (written : List ℕ) (refused : Bool) : Type 0 where
   pub reply : List ℕ
   pub data_is : Data
-  pub exchanged : made ≡ one_exchange line reply
+  pub exchanged : made ≡ one_exchange key line reply
   pub takes : TakesLine reply written data_is
   pub says : refused ≡ refuses data_is
 
-abbrev pub IsAnsweredAs : LineKind → (line : List ℕ) → List Exchange → (written : List ℕ) → Bool → Type 0
-IsAnsweredAs blank line made written refused = (made ≡ []) × (written ≡ []) × (refused ≡ false)
-IsAnsweredAs too_long line made written refused = (made ≡ []) × (written ≡ long_line) × (refused ≡ true)
-IsAnsweredAs sent line made written refused = IsReplied line made written refused
+abbrev pub IsAnsweredAs : (key : List ℕ) → LineKind → (line : List ℕ) → List Exchange → (written : List ℕ) → Bool → Type 0
+IsAnsweredAs key blank line made written refused = (made ≡ []) × (written ≡ []) × (refused ≡ false)
+IsAnsweredAs key too_long line made written refused = (made ≡ []) × (written ≡ long_line) × (refused ≡ true)
+IsAnsweredAs key sent line made written refused = IsReplied key line made written refused
 
-abbrev pub IsAnswer : Answer → Type 0
-IsAnswer a = IsAnsweredAs (kind_of a.line) a.line a.made a.written a.refused
+abbrev pub IsAnswer : (key : List ℕ) → Answer → Type 0
+IsAnswer key a = IsAnsweredAs key (kind_of a.line) a.line a.made a.written a.refused
 
 -- ---- a line at which the run ends
 
@@ -54,14 +54,14 @@ IsFront part line = (rest : List ℕ) × (line ≡ part ++ rest)
 
 -- The run ends at this line so: these exchanges were made for it and so much was written. Only where the output failed is something
 -- written. Where memory was wanting, the exchange may have been made.
-abbrev pub IsCutAt : ClientEnding → (line : List ℕ) → List Exchange → (part : List ℕ) → Type 0
-IsCutAt (Done refused) line made part = ⊥
-IsCutAt ReadFault line made part = ⊥
-IsCutAt WriteFault line made part = (written : List ℕ) × (refused : Bool) × IsAnsweredAs (kind_of line) line made written refused × IsFront part written
-IsCutAt LinkFault line made part = (kind_of line ≡ sent) × (made ≡ []) × (part ≡ [])
-IsCutAt BadReply line made part = (reply : List ℕ) × (kind_of line ≡ sent) × (made ≡ one_exchange line reply) × HasNoLine reply × (part ≡ [])
-IsCutAt LongInput line made part = ⊥
-IsCutAt OutOfMemory line made part = (kind_of line ≡ sent) × ((made ≡ []) ⊎ ((reply : List ℕ) × (made ≡ one_exchange line reply))) × (part ≡ [])
+abbrev pub IsCutAt : (key : List ℕ) → ClientEnding → (line : List ℕ) → List Exchange → (part : List ℕ) → Type 0
+IsCutAt key (Done refused) line made part = ⊥
+IsCutAt key ReadFault line made part = ⊥
+IsCutAt key WriteFault line made part = (written : List ℕ) × (refused : Bool) × IsAnsweredAs key (kind_of line) line made written refused × IsFront part written
+IsCutAt key LinkFault line made part = (kind_of line ≡ sent) × (made ≡ []) × (part ≡ [])
+IsCutAt key BadReply line made part = (reply : List ℕ) × (kind_of line ≡ sent) × (made ≡ one_exchange key line reply) × HasNoLine reply × (part ≡ [])
+IsCutAt key LongInput line made part = ⊥
+IsCutAt key OutOfMemory line made part = (kind_of line ≡ sent) × ((made ≡ []) ⊎ ((reply : List ℕ) × (made ≡ one_exchange key line reply))) × (part ≡ [])
 
 -- the run may end between two lines so
 abbrev pub IsBetween : ClientEnding → Type 0

@@ -1,5 +1,5 @@
--- The outside of the client, before a call and after it: what is left of the input, what the link has exchanged, and
--- what the output was given, each where it tells.
+-- The outside of the client, before a call and after it: the key that its requests show, what is left of the input, what
+-- the link has exchanged, and what the output was given, each of the last three where it tells.
 use Rattle.std.specs.Prelude.{ℕ, List, Option}
 use Rattle.sb_outside.specs.Links.{Exchange}
 use Rattle.sb_outside.specs.declared.link.Link.{Ghosts as Link}
@@ -7,9 +7,10 @@ use Rattle.sb_outside.specs.declared.streams.Source.{Ghosts as Source}
 use Rattle.sb_outside.specs.declared.streams.Sink.{Ghosts as Sink}
 
 pub record Outside : Type 0 where
+  pub key : List ℕ
   pub left : Option (List ℕ)
   pub told : Option (List Exchange)
   pub given : Option (List ℕ)
 
-abbrev pub outside_of : {N S K : Type 0} → Link N → Source S → Sink K → N → S → K → Outside
-outside_of link source sink n s k = record { left = source.left s; told = link.told n; given = sink.given k }
+abbrev pub outside_of : {N S K : Type 0} → (key : List ℕ) → Link N → Source S → Sink K → N → S → K → Outside
+outside_of key link source sink n s k = record { key = key; left = source.left s; told = link.told n; given = sink.given k }

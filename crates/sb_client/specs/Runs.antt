@@ -34,7 +34,7 @@ pub record IsWholeRun (was now : Outside) (refused : Bool) : Type 0 where
   pub ended : HasEnded was.left now.left
   pub answers : List Answer
   pub lines : lines_in answers ≡ lines_of input
-  pub each : All IsAnswer answers
+  pub each : All (IsAnswer was.key) answers
   pub told : Gains was.told now.told (exchanges_in answers)
   pub written : Gains was.given now.given (replies_in answers)
   pub says : refused ≡ any_refused answers
@@ -58,14 +58,14 @@ line_of_last None = []
 line_of_last (Some line) = line ∷ []
 
 -- it ended at this line, or between two lines
-abbrev pub EndsAt : ClientEnding → Option (List ℕ) → List Exchange → (part : List ℕ) → Type 0
-EndsAt end None made part = IsBetween end × (made ≡ []) × (part ≡ [])
-EndsAt end (Some line) made part = IsCutAt end line made part
+abbrev pub EndsAt : (key : List ℕ) → ClientEnding → Option (List ℕ) → List Exchange → (part : List ℕ) → Type 0
+EndsAt key end None made part = IsBetween end × (made ≡ []) × (part ≡ [])
+EndsAt key end (Some line) made part = IsCutAt key end line made part
 
 -- Of the first lines each was answered; then the run ended, at one more line or at none.
 pub record IsCutRun (was now : Outside) (end : ClientEnding) : Type 0 where
   pub answers : List Answer
-  pub each : All IsAnswer answers
+  pub each : All (IsAnswer was.key) answers
   pub last : Option (List ℕ)
   pub first : AreFirst was.left (lines_in answers ++ line_of_last last)
   pub taken : List ℕ
@@ -76,7 +76,7 @@ pub record IsCutRun (was now : Outside) (end : ClientEnding) : Type 0 where
   pub long : end ≡ LongInput → IsLong was.left now.left
   pub made : List Exchange
   pub part : List ℕ
-  pub ends : EndsAt end last made part
+  pub ends : EndsAt was.key end last made part
   pub told : Gains was.told now.told (exchanges_in answers ++ made)
   pub written : Gains was.given now.given (replies_in answers ++ part)
 
@@ -96,7 +96,7 @@ pub record RunsSoFar (was : Outside) (left : Option (List ℕ)) (told : Option (
   pub whole : AreWhole done
   pub answers : List Answer
   pub lines : lines_in answers ≡ lines_of done
-  pub each : All IsAnswer answers
+  pub each : All (IsAnswer was.key) answers
   pub tells : Gains was.told told (exchanges_in answers)
   pub gives : Gains was.given given (replies_in answers)
   pub says : refused ≡ any_refused answers

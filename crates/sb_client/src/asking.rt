@@ -33,12 +33,13 @@ fn exchange<N: Link>(link: &mut N, request: &[u8], reply: &mut Vec<u8>) -> Resul
 // Sends a line and writes its reply line; says whether that is a refusal.
 fn send_line<N: Link, K: Sink>(
     alloc: Global,
+    key: &[u8],
     link: &mut N,
     line: &[u8],
     sink: &mut K,
 ) -> Result<bool, ClientEnding>
-    ensures done { kind_of line.now ≡ sent → IfOk result (IsServed line.now (N.told link.old) (N.told link.new) (K.given sink.old) (K.given sink.new)) }
-    ensures cut { kind_of line.now ≡ sent → IfErr result (IsCutServing line.now (N.told link.old) (N.told link.new) (K.given sink.old) (K.given sink.new)) }
+    ensures done { kind_of line.now ≡ sent → IfOk result (IsServed key.now line.now (N.told link.old) (N.told link.new) (K.given sink.old) (K.given sink.new)) }
+    ensures cut { kind_of line.now ≡ sent → IfErr result (IsCutServing key.now line.now (N.told link.old) (N.told link.new) (K.given sink.old) (K.given sink.new)) }
     ensures link_passed { OnOk result (N.count link.new ≡ N.count link.old) }
     ensures link_fault { IfErr result (λ e. e ≡ LostLink → RoseByOne (N.count link.old) (N.count link.new)) }
     ensures link_quiet { IfErr result (λ e. e ≢ LostLink → N.count link.new ≡ N.count link.old) }
@@ -46,7 +47,7 @@ fn send_line<N: Link, K: Sink>(
     ensures sink_fault { IfErr result (λ e. e ≡ WriteFault → RoseByOne (K.count sink.old) (K.count sink.new)) }
     ensures sink_quiet { IfErr result (λ e. e ≢ WriteFault → K.count sink.new ≡ K.count sink.old) }
 {
-    let Ok(request) = request_of(alloc, line) else {
+    let Ok(request) = request_of(alloc, key, line) else {
         return Err(ClientEnding::OutOfMemory);
     };
     let mut reply = Vec::new(alloc);
@@ -64,8 +65,8 @@ fn send_line<N: Link, K: Sink>(
 
 // Writes the reply to a line that is too long to be sent.
 fn refuse_long<K: Sink>(sink: &mut K) -> Result<bool, ClientEnding>
-    ensures done { (line : List ℕ) (told : Option (List Exchange)) → kind_of line ≡ too_long → IfOk result (IsServed line told told (K.given sink.old) (K.given sink.new)) }
-    ensures cut { (line : List ℕ) (told : Option (List Exchange)) → kind_of line ≡ too_long → IfErr result (IsCutServing line told told (K.given sink.old) (K.given sink.new)) }
+    ensures done { (key line : List ℕ) (told : Option (List Exchange)) → kind_of line ≡ too_long → IfOk result (IsServed key line told told (K.given sink.old) (K.given sink.new)) }
+    ensures cut { (key line : List ℕ) (told : Option (List Exchange)) → kind_of line ≡ too_long → IfErr result (IsCutServing key line told told (K.given sink.old) (K.given sink.new)) }
     ensures sink_passed { OnOk result (K.count sink.new ≡ K.count sink.old) }
     ensures sink_fault { IfErr result (λ e. e ≡ WriteFault → RoseByOne (K.count sink.old) (K.count sink.new)) }
     ensures known { IfErr result (λ e. e ≡ WriteFault) }
@@ -79,12 +80,13 @@ fn refuse_long<K: Sink>(sink: &mut K) -> Result<bool, ClientEnding>
 /// Answers a line that was read; says whether its reply is a refusal. `Err` says how the run ends at it.
 pub(crate) fn answer_line<N: Link, K: Sink>(
     alloc: Global,
+    key: &[u8],
     link: &mut N,
     partial: PartialLine,
     sink: &mut K,
 ) -> Result<bool, ClientEnding>
-    ensures done { (line : List ℕ) → StandsFor partial line → IfOk result (IsServed line (N.told link.old) (N.told link.new) (K.given sink.old) (K.given sink.new)) }
-    ensures cut { (line : List ℕ) → StandsFor partial line → IfErr result (IsCutServing line (N.told link.old) (N.told link.new) (K.given sink.old) (K.given sink.new)) }
+    ensures done { (line : List ℕ) → StandsFor partial line → IfOk result (IsServed key.now line (N.told link.old) (N.told link.new) (K.given sink.old) (K.given sink.new)) }
+    ensures cut { (line : List ℕ) → StandsFor partial line → IfErr result (IsCutServing key.now line (N.told link.old) (N.told link.new) (K.given sink.old) (K.given sink.new)) }
     ensures link_passed { OnOk result (N.count link.new ≡ N.count link.old) }
     ensures link_fault { IfErr result (λ e. e ≡ LostLink → RoseByOne (N.count link.old) (N.count link.new)) }
     ensures link_quiet { IfErr result (λ e. e ≢ LostLink → N.count link.new ≡ N.count link.old) }
@@ -97,7 +99,7 @@ pub(crate) fn answer_line<N: Link, K: Sink>(
             if is_blank_line(&kept) {
                 return Ok(false);
             }
-            send_line(alloc, link, &kept, sink)
+            send_line(alloc, key, link, &kept, sink)
         }
         PartialLine::Long(true) => Ok(false),
         PartialLine::Long(false) => refuse_long(sink),

@@ -20,12 +20,13 @@ fn either(a: bool, b: bool) -> bool
 // Answers each line; at the input's end it says whether a reply was a refusal. `Err` says why it ended before.
 fn run_lines<N: Link, S: Source, K: Sink>(
     alloc: Global,
+    key: &[u8],
     link: &mut N,
     source: &mut S,
     sink: &mut K,
 ) -> Result<bool, ClientEnding>
-    ensures done { IfOk result (IsWholeRun (outside_of N.Link S.Source K.Sink link.old source.old sink.old) (outside_of N.Link S.Source K.Sink link.new source.new sink.new)) }
-    ensures cut { IfErr result (IsCutRun (outside_of N.Link S.Source K.Sink link.old source.old sink.old) (outside_of N.Link S.Source K.Sink link.new source.new sink.new)) }
+    ensures done { IfOk result (IsWholeRun (outside_of key.now N.Link S.Source K.Sink link.old source.old sink.old) (outside_of key.now N.Link S.Source K.Sink link.new source.new sink.new)) }
+    ensures cut { IfErr result (IsCutRun (outside_of key.now N.Link S.Source K.Sink link.old source.old sink.old) (outside_of key.now N.Link S.Source K.Sink link.new source.new sink.new)) }
     ensures read_passed { OnOk result (S.count source.new ≡ S.count source.old) }
     ensures read_fault { IfErr result (λ e. e ≡ ReadFault → RoseByOne (S.count source.old) (S.count source.new)) }
     ensures read_quiet { IfErr result (λ e. e ≢ ReadFault → S.count source.new ≡ S.count source.old) }
@@ -46,7 +47,7 @@ fn run_lines<N: Link, S: Source, K: Sink>(
             Ok(None) => return Ok(refused),
             Err(end) => return Err(end_of(end)),
         };
-        let was_refused = answer_line(alloc, link, partial, sink)?;
+        let was_refused = answer_line(alloc, key, link, partial, sink)?;
         refused = either(refused, was_refused);
         if reader.is_done() {
             return Ok(refused);
@@ -55,14 +56,16 @@ fn run_lines<N: Link, S: Source, K: Sink>(
 }
 
 /// Sends each line of the input that isn't blank to a server, and writes the reply lines. A line above 2,097,152 bytes
-/// isn't sent: its reply is the refusal `BadCall`, which is written without the server.
+/// isn't sent: its reply is the refusal `BadCall`, which is written without the server. The key, of visible ASCII characters,
+/// is shown with each request; where it is empty, none is.
 pub fn run_script<N: Link, S: Source, K: Sink>(
     alloc: Global,
+    key: &[u8],
     link: &mut N,
     source: &mut S,
     sink: &mut K,
 ) -> ClientEnding
-    ensures run { IsRun (outside_of N.Link S.Source K.Sink link.old source.old sink.old) (outside_of N.Link S.Source K.Sink link.new source.new sink.new) result }
+    ensures run { IsRun (outside_of key.now N.Link S.Source K.Sink link.old source.old sink.old) (outside_of key.now N.Link S.Source K.Sink link.new source.new sink.new) result }
 
     // One fault more was counted of what ended the run, and none of the others.
     ensures read_fault { result ≡ ReadFault → RoseByOne (S.count source.old) (S.count source.new) }
@@ -72,7 +75,7 @@ pub fn run_script<N: Link, S: Source, K: Sink>(
     ensures write_fault { result ≡ WriteFault → RoseByOne (K.count sink.old) (K.count sink.new) }
     ensures write_quiet { result ≢ WriteFault → K.count sink.new ≡ K.count sink.old }
 {
-    match run_lines(alloc, link, source, sink) {
+    match run_lines(alloc, key, link, source, sink) {
         Ok(refused) => ClientEnding::Done { refused },
         Err(end) => end,
     }

@@ -30,9 +30,10 @@ impl Link for AlikeLink {
     }
 }
 
-// The ending and what was written for this input, where each request gets this reply.
+// The ending and what was written for this input, with this key, where each request gets this reply.
 fn run_on(
     alloc: Global,
+    key: &[u8],
     input: &[u8],
     reply: &[u8],
 ) -> Result<(ClientEnding, AlikeLink, MemSink), Fail> {
@@ -42,14 +43,14 @@ fn run_on(
     };
     let mut source = SureSource::new(input.to_vec(alloc)?, 5);
     let mut sink = MemSink::new(alloc, 64, Vec::new(alloc))?;
-    let ending = run_script(alloc, &mut link, &mut source, &mut sink);
+    let ending = run_script(alloc, key, &mut link, &mut source, &mut sink);
     Ok((ending, link, sink))
 }
 
 #[test]
 fn writes_the_reply_lines(rt: HostRuntime) -> Result<(), Fail> {
     let reply = b"HTTP/1.1 200 OK\r\nContent-Length: 14\r\n\r\n{\"ok\":\"done\"}\n";
-    let (ending, link, sink) = run_on(rt.alloc(), b"{}\n \t\r\n[]", reply)?;
+    let (ending, link, sink) = run_on(rt.alloc(), b"", b"{}\n \t\r\n[]", reply)?;
     assert!(rt; ending == ClientEnding::Done { refused: false });
     assert_eq!(rt;
         sink.bytes(),
@@ -57,6 +58,17 @@ fn writes_the_reply_lines(rt: HostRuntime) -> Result<(), Fail> {
     );
     let asked =
         b"POST /$script HTTP/1.1\r\nHost: localhost\r\nContent-Length: 2\r\nConnection: close\r\n\r\n{}POST /$script HTTP/1.1\r\nHost: localhost\r\nContent-Length: 2\r\nConnection: close\r\n\r\n[]";
+    assert_eq!(rt; link.asked.as_slice(), asked.as_slice());
+    Ok(())
+}
+
+#[test]
+fn shows_its_key(rt: HostRuntime) -> Result<(), Fail> {
+    let reply = b"HTTP/1.1 200 OK\r\nContent-Length: 14\r\n\r\n{\"ok\":\"done\"}\n";
+    let (ending, link, _) = run_on(rt.alloc(), b"0123456789abcdef", b"{}", reply)?;
+    assert!(rt; ending == ClientEnding::Done { refused: false });
+    let asked =
+        b"POST /$script HTTP/1.1\r\nHost: localhost\r\nContent-Length: 2\r\nConnection: close\r\nAuthorization: Bearer 0123456789abcdef\r\n\r\n{}";
     assert_eq!(rt; link.asked.as_slice(), asked.as_slice());
     Ok(())
 }
@@ -83,10 +95,18 @@ fn says_how_it_ended(rt: HostRuntime) -> Result<(), Fail> {
             b"HTTP/1.1 404 Not Found\r\nContent-Length: 14\r\n\r\n{\"ok\":\"done\"}\n".as_slice(),
             ClientEnding::BadReply,
         ),
+        (
+            b"HTTP/1.1 401 Unauthorized\r\nContent-Length: 0\r\n\r\n".as_slice(),
+            ClientEnding::BadReply,
+        ),
+        (
+            b"HTTP/1.1 403 Forbidden\r\nContent-Length: 0\r\n\r\n".as_slice(),
+            ClientEnding::BadReply,
+        ),
         (b"x".as_slice(), ClientEnding::BadReply),
     ];
     for (reply, wanted) in rows {
-        let (ending, _, _) = run_on(rt.alloc(), b"{}", reply)?;
+        let (ending, _, _) = run_on(rt.alloc(), b"", b"{}", reply)?;
         assert!(rt; ending == wanted);
     }
     Ok(())

@@ -1,4 +1,4 @@
-//! The outside, the journal, requests and responses of HTTP and the client, run: what no contract says is
+//! The outside, the journal, requests and responses of HTTP, the client and the words, run: what no contract says is
 //! that memory is there, what a real file does, and that the definitions mean what the standards say.
 #![tactic(auto)]
 
@@ -10,3 +10,5 @@ mod http;
 mod journal;
 #[cfg(test)]
 mod outside;
+#[cfg(test)]
+mod words;

@@ -1,6 +1,6 @@
 use Rattle.std.proofs.Common.{List, ℕ, map}
+use Rattle.sb_words.specs.Words.{max_jump_in}
 use Rattle.sb_app.specs.Calls.{task_in}
-use Rattle.sb_app.specs.Jumps.{max_jump_in}
 use Rattle.sb_app.proofs.Calls.{other_task}
 use Rattle.sb_app.proofs.program.top_alone.Goals as goal
 

@@ -1,0 +1,83 @@
+// What no contract says: the texts of help, and of what is wrong with words.
+use sb_words::{Command, asked_text, fault_text, read_form};
+use std::alloc::{AllocError, Global};
+use std::test::Fail;
+
+// The words of a line, between its spaces.
+fn words_of(alloc: Global, line: &str) -> Result<Vec<&str>, AllocError> {
+    let mut words = Vec::new(alloc);
+    for word in line.split(' ') {
+        words.push(word)?;
+    }
+    Ok(words)
+}
+
+#[test]
+fn says_what_is_wrong(rt: HostRuntime) -> Result<(), Fail> {
+    let hosts = "--host takes names of 1 to 255 visible characters, up to 8 times";
+    let rows = [
+        (
+            "serve --data=a --port=80800",
+            "--port takes a number from 1 to 65535",
+        ),
+        (
+            "serve --data=a --port=80 --workers=17",
+            "--workers takes a number from 1 to 16",
+        ),
+        ("serve --data=a --port=80 --host=", hosts),
+        (
+            "run --data=a --max-jump=07",
+            "--max-jump takes a number from 0 to 100000",
+        ),
+        (
+            "client --port=80 --patience=0",
+            "--patience takes a number from 1 to 7200",
+        ),
+        ("client --port=80 --key=", "--key takes the name of a file"),
+        ("run --dat a", "unexpected argument '--dat' found"),
+        ("drill", "unrecognized subcommand 'drill'"),
+        (
+            "client",
+            "the following required arguments were not provided: --port <P>",
+        ),
+    ];
+    for (line, wanted) in rows {
+        let words = words_of(rt.alloc(), line)?;
+        let text = fault_text(rt.alloc(), &words)?.ok_or("a form")?;
+        assert_eq!(rt; text.as_str(), wanted);
+    }
+    Ok(())
+}
+
+#[test]
+fn helps_with_each_command(rt: HostRuntime) -> Result<(), Fail> {
+    let rows = [
+        ("help", "Usage: bus <COMMAND>"),
+        ("help serve", "Usage: bus serve"),
+        ("serve --help", "[default: 400]"),
+        ("help client", "1 to 7200 [default: 120]"),
+        ("run -h", "Example: bus run"),
+        ("help check", "--look"),
+        ("--version", "bus 0.1.0"),
+    ];
+    for (line, wanted) in rows {
+        let words = words_of(rt.alloc(), line)?;
+        let text = asked_text(rt.alloc(), &words)?.ok_or("no help")?;
+        assert!(rt; text.as_str().contains(wanted), "{text}");
+    }
+    Ok(())
+}
+
+#[test]
+fn reads_who_may_call(rt: HostRuntime) -> Result<(), Fail> {
+    let line = "serve --data=a --port=80 --host=x --host y --key=k";
+    let words = words_of(rt.alloc(), line)?;
+    let form = read_form(rt.alloc(), &words).map_err(|_| "no form")?;
+    assert!(rt; form.command == Command::Serve);
+    assert!(rt; form.hosts.len() == 2);
+    assert_eq!(rt;
+        (form.key_file, form.max_jump, form.patience),
+        ("k", 400, 0)
+    );
+    Ok(())
+}
