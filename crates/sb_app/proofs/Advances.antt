@@ -9,6 +9,7 @@ use Rattle.sb_input.specs.declared.reader.Reader.{Reader}
 use Rattle.sb_app.specs.declared.script_line.ScriptLine.{ScriptLine}
 use Rattle.sb_input.specs.Lines.{lines_of, AreWhole}
 use Rattle.sb_app.specs.Lines.{script_line, script_lines}
+use Rattle.sb_app.specs.Jumps.{AllWithin, IsWithin}
 use Rattle.sb_app.specs.Outside.{Output, Outside}
 use Rattle.sb_app.specs.Runs.{reply_to, state_by, refuses_it, replies_to, state_after_all, any_refused, IsAnswered, IsScriptRun, RunsSoFar, FollowLines}
 use Rattle.sb_input.specs.Readers.{pending_of, IsAt, ReadsLine, ReadsNone}
@@ -39,6 +40,11 @@ any_refused-push s (y ∷ xs) x =
 
 pub said_push : (done next line : List ℕ) → lines_of next ≡ lines_of done ++ line ∷ [] → script_lines next ≡ script_lines done ++ script_line line ∷ []
 said_push done next line is = ap (map script_line) is ∙ map-append script_line (lines_of done) (line ∷ [])
+
+-- one line more that isn't too far ahead of the clock
+pub within_push : (clock : ℕ → Type 0) (days : ℕ) (xs : List ScriptLine) (x : ScriptLine) → AllWithin clock days xs → IsWithin clock days x → AllWithin clock days (xs ++ x ∷ [])
+within_push clock days [] x all is = (is, tt)
+within_push clock days (y ∷ xs) x all is = (all.0, within_push clock days xs x all.1 is)
 
 -- what is known of a run after one more line
 pub record RunsOn (lines : List ScriptLine) (s : State) (start left told told_after : Option (List ℕ)) (r : Reader) (now : State) (refused : Bool) : Type 0 where
@@ -114,14 +120,15 @@ still_runs lines s now start left told told_after r refused over run not_over wo
     whole_by (inr last) = let other : true ≡ false = sym (would last.0 last.1) ∙ not_over in absurd cc
 
 -- it is over
-pub is_over : (Safe : Type 0) (lines : List ScriptLine) (s state : State) (was now : Outside) (r : Reader) (refused : Bool) → RunsOn lines s was.input.left now.input.left was.output.given now.output.given r state refused → r.ended ≡ true → pending_of r ≡ [] → (Safe → FollowLines s lines was.disks now.disks)
-    → IsScriptRun Safe s was now state refused
-is_over Safe lines s state was now r refused run ended none moments =
+pub is_over : (clock : ℕ → Type 0) (days : ℕ) (Safe : Type 0) (lines : List ScriptLine) (s state : State) (was now : Outside) (r : Reader) (refused : Bool) → RunsOn lines s was.input.left now.input.left was.output.given now.output.given r state refused → r.ended ≡ true → pending_of r ≡ [] → (Safe → FollowLines s lines was.disks now.disks) → AllWithin clock days lines
+    → IsScriptRun clock days Safe s was now state refused
+is_over clock days Safe lines s state was now r refused run ended none moments within =
     let all : run.input ≡ run.done = run.split ∙ ap (λ (l : List ℕ). run.done ++ l) none ∙ append-nil run.done in
     record {
       input = run.input;
       took = run.at.took;
       ended = run.at.ended ended;
+      within = subst (AllWithin clock days) (sym run.lines_are ∙ ap script_lines (sym all)) within;
       written = subst (λ (l : List ℕ). Gains was.output.given now.output.given (replies_to s (script_lines l))) (sym all) run.written;
       leads = run.leads ∙ ap (λ (l : List ℕ). state_after_all s (script_lines l)) (sym all);
       says = run.says ∙ ap (λ (l : List ℕ). any_refused s (script_lines l)) (sym all);
@@ -129,14 +136,15 @@ is_over Safe lines s state was now r refused run ended none moments =
     }
 
 -- the source ended between two lines
-pub ended_run : (Safe : Type 0) (s state : State) (was now : Outside) (left : Option (List ℕ)) (r next : Reader) (refused : Bool) (so_far : RunsSoFar s was.input.left left was.output.given now.output.given r state refused) → ReadsNone was.input.left so_far.input (pending_of r) now.input.left next
-    → (Safe → FollowLines s (script_lines so_far.done) was.disks now.disks) → IsScriptRun Safe s was now state refused
-ended_run Safe s state was now left r next refused so_far reads moments =
+pub ended_run : (clock : ℕ → Type 0) (days : ℕ) (Safe : Type 0) (s state : State) (was now : Outside) (left : Option (List ℕ)) (r next : Reader) (refused : Bool) (so_far : RunsSoFar s was.input.left left was.output.given now.output.given r state refused) → ReadsNone was.input.left so_far.input (pending_of r) now.input.left next
+    → (Safe → FollowLines s (script_lines so_far.done) was.disks now.disks) → AllWithin clock days (script_lines so_far.done) → IsScriptRun clock days Safe s was now state refused
+ended_run clock days Safe s state was now left r next refused so_far reads moments within =
     let all : so_far.input ≡ so_far.done = so_far.split ∙ ap (λ (l : List ℕ). so_far.done ++ l) reads.none ∙ append-nil so_far.done in
     record {
       input = so_far.input;
       took = reads.at.took;
       ended = reads.ended;
+      within = subst (AllWithin clock days) (ap script_lines (sym all)) within;
       written = subst (λ (l : List ℕ). Gains was.output.given now.output.given (replies_to s (script_lines l))) (sym all) so_far.written;
       leads = so_far.leads ∙ ap (λ (l : List ℕ). state_after_all s (script_lines l)) (sym all);
       says = so_far.says ∙ ap (λ (l : List ℕ). any_refused s (script_lines l)) (sym all);

@@ -8,6 +8,7 @@ use Rattle.sb_words.specs.declared.command.Form.{Form as ReadForm}
 use Rattle.sb_words.specs.declared.command.WordsFault.{WordsFault}
 use Rattle.sb_words.specs.declared.command.WordsFault.TheVariants.{BadWords, OutOfMemory}
 use Rattle.sb_app.specs.Outside.{Output, Outside}
+use Rattle.sb_app.specs.declared.task.Named.{Named}
 use Rattle.sb_app.specs.declared.task.Task.{Task}
 use Rattle.sb_app.specs.declared.task.Task.TheVariants.{Run, Check, Client}
 use Rattle.sb_app.specs.Endings.{IsLineWritten}
@@ -19,20 +20,20 @@ use Rattle.sb_app.proofs.Clients.{at_once}
 
 -- ---- calls
 
-pub usage_call : (salt : ℕ) (was : Outside) (output : Output) (link : Exchanges) → IsLineWritten usage_line was.output output → IsCall None salt was (record was { output = output }) link link 2
-usage_call salt was output link written = record { carried_out = λ other. usage_alone salt was output written; client = λ is. absurd cc }
+pub usage_call : (clock : ℕ → Type 0) (days salt : ℕ) (was : Outside) (output : Output) (link : Exchanges) → IsLineWritten usage_line was.output output → IsCall clock days None salt was (record was { output = output }) link link 2
+usage_call clock days salt was output link written = record { carried_out = λ other. usage_alone clock days salt was output written; client = λ is. absurd cc }
 
-pub unread_call : (task : Option Task) (salt : ℕ) (was : Outside) (link : Exchanges) → IsCall task salt was was link link 7
-unread_call task salt was link = record { carried_out = λ other. unread_alone task salt was; client = λ is. at_once was link }
+pub unread_call : (clock : ℕ → Type 0) (days : ℕ) (task : Option Task) (salt : ℕ) (was : Outside) (link : Exchanges) → IsCall clock days task salt was was link link 7
+unread_call clock days task salt was link = record { carried_out = λ other. unread_alone clock days task salt was; client = λ is. at_once was link }
 
-pub run_call : (salt : ℕ) (was now : Outside) (link : Exchanges) (status : ℕ) → IsCarriedOut (Some Run) salt was now status → IsCall (Some Run) salt was now link link status
-run_call salt was now link status carried = record { carried_out = λ other. carried; client = λ is. absurd cc }
+pub run_call : (clock : ℕ → Type 0) (days salt : ℕ) (was now : Outside) (link : Exchanges) (status : ℕ) → IsCarriedOut clock days (Some Run) salt was now status → IsCall clock days (Some Run) salt was now link link status
+run_call clock days salt was now link status carried = record { carried_out = λ other. carried; client = λ is. absurd cc }
 
-pub check_call : (salt : ℕ) (was now : Outside) (link : Exchanges) (status : ℕ) → IsCarriedOut (Some Check) salt was now status → IsCall (Some Check) salt was now link link status
-check_call salt was now link status carried = record { carried_out = λ other. carried; client = λ is. absurd cc }
+pub check_call : (clock : ℕ → Type 0) (days salt : ℕ) (was now : Outside) (link : Exchanges) (status : ℕ) → IsCarriedOut clock days (Some Check) salt was now status → IsCall clock days (Some Check) salt was now link link status
+check_call clock days salt was now link status carried = record { carried_out = λ other. carried; client = λ is. absurd cc }
 
-pub link_call : (salt : ℕ) (was now : Outside) (link link_now : Exchanges) (status : ℕ) → IsClientCall was now link link_now status → IsCall (Some Client) salt was now link link_now status
-link_call salt was now link link_now status called = record { carried_out = λ other. absurd (other refl); client = λ is. called }
+pub link_call : (clock : ℕ → Type 0) (days salt : ℕ) (was now : Outside) (link link_now : Exchanges) (status : ℕ) → IsClientCall was now link link_now status → IsCall clock days (Some Client) salt was now link link_now status
+link_call clock days salt was now link link_now status called = record { carried_out = λ other. absurd (other refl); client = λ is. called }
 
 -- ---- what words name
 
@@ -46,9 +47,9 @@ pub most_in : (words : List (List ℕ)) (f : ReadForm) → form_in words ≡ Som
 most_in words f is = sym (ap connections_of is)
 
 -- words that couldn't be read name no task, or memory was wanting
-pub unnamed : (words : List (List ℕ)) (fault : WordsFault) → (fault ≡ BadWords → form_in words ≡ None) → IsNamed (task_in words) (Err fault)
-unnamed words BadWords bad = ap (option_and_then task_of) (no_form words (bad refl))
-unnamed words OutOfMemory bad = tt
+pub unnamed : (words : List (List ℕ)) (days : ℕ) (fault : WordsFault) → (fault ≡ BadWords → form_in words ≡ None) → IsNamed (task_in words) days (Err fault)
+unnamed words days BadWords bad = ap (option_and_then task_of) (no_form words (bad refl))
+unnamed words days OutOfMemory bad = tt
 
 pub named : (words : List (List ℕ)) (f : ReadForm) (task : Option Task) → form_in words ≡ Some (form_value f) → task ≡ task_of f.command → task_in words ≡ task
 named words f task is of = ap (option_and_then task_of) (a_form words f is) ∙ sym of
@@ -73,7 +74,7 @@ other_task words other = by_command (command_in words) other
     by_command (Some Serve) other is = absurd cc
 
 -- what was read of words is that they name nothing
-abbrev pub IsBadWords : Result Task WordsFault → Type 0
+abbrev pub IsBadWords : Result Named WordsFault → Type 0
 IsBadWords named = named ≡ Err BadWords
 
 -- words that name no task, where the usage was written

@@ -12,14 +12,14 @@ use Rattle.sb_node.specs.Recovery.{damaged, recovers, Recovers, recovered_on}
 use Rattle.sb_node.specs.Nodes.{IsDurable}
 use Rattle.sb_app.specs.Outside.{Output, Outside}
 use Rattle.sb_app.specs.declared.ending.RunEnd.{RunEnd}
-use Rattle.sb_app.specs.declared.ending.RunEnd.TheVariants.{ReadFault, WriteFault, DiskFault, OutOfMemory, LongInput}
+use Rattle.sb_app.specs.declared.ending.RunEnd.TheVariants.{ReadFault, WriteFault, DiskFault, OutOfMemory, LongInput, TimeJump}
 use Rattle.sb_app.specs.declared.task.Task.{Task}
 use Rattle.sb_app.specs.declared.task.Task.TheVariants.{Run, Check}
 use Rattle.sb_app.specs.Checks.{check_line, IsTold, IsLineTold}
 use Rattle.sb_input.specs.Taking.{IsLong}
 use Rattle.sb_app.specs.Runs.{IsScriptRun, state_after_all, status_by}
 use Rattle.sb_app.specs.Endings.{LastLine, IsLineWritten, EndsAt, IsCutRun, status_of_end}
-use Rattle.sb_app.specs.Tops.{IsCheck, IsUnopened, IsRefused, IsDamageReported, usage_line, IsRunStatus, IsStatus, IsShort, IsFree, IsComplete, IsCarriedOut}
+use Rattle.sb_app.specs.Tops.{IsCheck, IsUnopened, IsRefused, IsDamageReported, usage_line, IsRunStatus, IsStatus, IsShort, IsFree, IsComplete, IsEarlyRun, IsCarriedOut}
 use Rattle.sb_app.proofs.Faults.{quiet_on, failed_on, honest_on}
 use Rattle.sb_app.proofs.Statuses.{no_five, no_disk_end, no_two_whole, no_two_end}
 use Rattle.sb_app.specs.Openings.{IsOpened, IsFailed, IsFailedStatus}
@@ -35,11 +35,12 @@ no_none task P none = absurd cc
 
 -- ---- words that name no task
 
-pub usage_alone : (salt : ℕ) (was : Outside) (output : Output) → IsLineWritten usage_line was.output output → IsCarriedOut None salt was (record was { output = output }) 2
-usage_alone salt was output written = record {
+pub usage_alone : (clock : ℕ → Type 0) (days salt : ℕ) (was : Outside) (output : Output) → IsLineWritten usage_line was.output output → IsCarriedOut clock days None salt was (record was { output = output }) 2
+usage_alone clock days salt was output written = record {
   whole = λ named refused is. no_two_whole refused _ is;
   early = λ named end is. no_two_end end _ is;
   long = λ ten. absurd cc;
+  jump = λ jumped. absurd cc;
   checked = λ named. no_none Check _ (sym named);
   broken = λ six. absurd cc;
   usage = λ two. refl;
@@ -73,16 +74,18 @@ unread_by salt was WriteFault is = absurd cc
 unread_by salt was DiskFault is = absurd cc
 unread_by salt was OutOfMemory is = nothing_done salt was
 unread_by salt was LongInput is = absurd cc
+unread_by salt was TimeJump is = absurd cc
 
 not_whole : (refused : Bool) (P : Type 0) → 7 ≡ status_by refused → P
 not_whole false P is = absurd cc
 not_whole true P is = absurd cc
 
-pub unread_alone : (task : Option Task) (salt : ℕ) (was : Outside) → IsCarriedOut task salt was was 7
-unread_alone task salt was = record {
+pub unread_alone : (clock : ℕ → Type 0) (days : ℕ) (task : Option Task) (salt : ℕ) (was : Outside) → IsCarriedOut clock days task salt was was 7
+unread_alone clock days task salt was = record {
   whole = λ named refused is. not_whole refused _ is;
   early = λ named end is. inl (unread_by salt was end is);
   long = λ ten. absurd cc;
+  jump = λ jumped. absurd cc;
   checked = λ named. inr (inl (OutOfMemory, refl, nothing_done salt was));
   broken = λ six. absurd cc;
   usage = λ two. absurd cc;
@@ -124,6 +127,7 @@ unopened_by salt was disks output why status fails OutOfMemory is = record {
   kept = fails.keeps;
 }
 unopened_by salt was disks output why status fails LongInput is = absurd (omega (arith, is, (between status fails.known).1))
+unopened_by salt was disks output why status fails TimeJump is = absurd (omega (arith, is, (between status fails.known).1))
 
 pub refused_by : (salt : ℕ) (was : Outside) (disks : Disks) (output : Output) (why : OpenWhy) → (AreHonest was.disks → (side : Side) (place : ℕ) → why ≡ Damaged side place → recovered_on was.disks salt ≡ damaged side place)
     → (AreHonest was.disks → why ≢ FailedDisk → AreUnwritten was.disks disks) → (AreHonest was.disks → (side : Side) (place : ℕ) → why ≡ Damaged side place → IsAtRest side was.disks disks) → IsDamageReported why was.output output → IsRefused salt was (record was { output = output; disks = disks })
@@ -139,12 +143,12 @@ refused_by salt was disks output (Damaged side place) broken untouched rests rep
 refused_by salt was disks output FailedDisk broken untouched rests reported = absurd reported
 refused_by salt was disks output NoMemory broken untouched rests reported = absurd reported
 
-complete_unopened : (salt : ℕ) (was : Outside) (disks : Disks) (output : Output) (why : OpenWhy) (status : ℕ) → IsFailed salt was.disks disks was.output output why status → AreHonest was.disks → IsFree salt was (record was { output = output; disks = disks }) → IsFailedStatus status → IsComplete status
-complete_unopened salt was disks output why status fails honest free (inl five) = absurd (free.disk_quiet (fails.cause (fails.failed five)))
-complete_unopened salt was disks output why status fails honest free (inr (inl six)) =
+complete_unopened : (clock : ℕ → Type 0) (days salt : ℕ) (was : Outside) (disks : Disks) (output : Output) (why : OpenWhy) (status : ℕ) → IsFailed salt was.disks disks was.output output why status → AreHonest was.disks → IsFree clock days salt was (record was { output = output; disks = disks }) → IsFailedStatus status → IsComplete status
+complete_unopened clock days salt was disks output why status fails honest free (inl five) = absurd (free.disk_quiet (fails.cause (fails.failed five)))
+complete_unopened clock days salt was disks output why status fails honest free (inr (inl six)) =
     let refused = refused_by salt was disks output why fails.broken fails.untouched fails.rests (fails.damage six) in
     absurd (free.sound (refused.side, refused.place, refused.broken honest))
-complete_unopened salt was disks output why status fails honest free (inr (inr seven)) = inr seven
+complete_unopened clock days salt was disks output why status fails honest free (inr (inr seven)) = inr seven
 
 known_unopened : (n : ℕ) → IsFailedStatus n → IsStatus n
 known_unopened n (inl five) = inl (inr (DiskFault, five))
@@ -160,13 +164,14 @@ check_unopened salt was disks output why status fails (inl five) = inr (inl (Dis
 check_unopened salt was disks output why status fails (inr (inl six)) = inr (inr six)
 check_unopened salt was disks output why status fails (inr (inr seven)) = inr (inl (OutOfMemory, seven, unopened_by salt was disks output why status fails OutOfMemory seven))
 
-pub not_opened : (task : Task) (salt : ℕ) (was : Outside) (disks : Disks) (output : Output) (why : OpenWhy) (status : ℕ) → IsFailed salt was.disks disks was.output output why status → IsCarriedOut (Some task) salt was (record was { output = output; disks = disks }) status
-not_opened task salt was disks output why status fails =
+pub not_opened : (clock : ℕ → Type 0) (days : ℕ) (task : Task) (salt : ℕ) (was : Outside) (disks : Disks) (output : Output) (why : OpenWhy) (status : ℕ) → IsFailed salt was.disks disks was.output output why status → IsCarriedOut clock days (Some task) salt was (record was { output = output; disks = disks }) status
+not_opened clock days task salt was disks output why status fails =
     let range = between status fails.known in
     record {
       whole = λ named refused is. no_whole_above status refused _ range.0 is;
       early = λ named end is. inl (unopened_by salt was disks output why status fails end is);
       long = λ ten. absurd (omega (arith, ten, range.1));
+      jump = λ jumped. absurd (omega (arith, jumped, range.1));
       checked = λ named. check_unopened salt was disks output why status fails fails.known;
       broken = λ six. refused_by salt was disks output why fails.broken fails.untouched fails.rests (fails.damage six);
       usage = λ two. absurd (omega (arith, two, range.0));
@@ -179,16 +184,16 @@ not_opened task salt was disks output why status fails =
       write_quiet = λ refused is. no_whole_above status refused _ range.0 is;
       disk_fault = λ five. fails.cause (fails.failed five);
       disk_quiet = λ other. fails.quiet (fails.other other);
-      complete = λ named honest free. complete_unopened salt was disks output why status fails honest free fails.known;
+      complete = λ named honest free. complete_unopened clock days salt was disks output why status fails honest free fails.known;
       honesty = fails.honesty;
     }
 
 -- ---- a run
 
 -- what is known of it
-pub record IsEnded (Safe : Type 0) (salt : ℕ) (start : State) (was now : Outside) (state : State) (status : ℕ) : Type 0 where
-  pub done : (refused : Bool) → status ≡ status_by refused → IsScriptRun Safe start was now state refused
-  pub cut : (end : RunEnd) → status ≡ status_of_end end → IsCutRun Safe start was now state end
+pub record IsEnded (clock : ℕ → Type 0) (days : ℕ) (Safe : Type 0) (salt : ℕ) (start : State) (was now : Outside) (state : State) (status : ℕ) : Type 0 where
+  pub done : (refused : Bool) → status ≡ status_by refused → IsScriptRun clock days Safe start was now state refused
+  pub cut : (end : RunEnd) → status ≡ status_of_end end → IsCutRun clock days Safe start was now state end
   pub recovers : Safe → status ≢ 5 → Recovers (recovered_on now.disks salt) state
   pub durable : Safe → status ≢ 5 → IsDurable now.disks state
   pub passed : (refused : Bool) → status ≡ status_by refused → now.output.faults ≡ was.output.faults
@@ -214,13 +219,14 @@ no_six status (inr (end, is)) six = by_end end is
     by_end DiskFault is = omega (arith, is, six)
     by_end OutOfMemory is = omega (arith, is, six)
     by_end LongInput is = omega (arith, is, six)
+    by_end TimeJump is = omega (arith, is, six)
 
 -- its output failed
-write_cut : (Safe : Type 0) (start : State) (was now : Outside) (state : State) → IsCutRun Safe start was now state WriteFault → RoseByOne was.output.faults now.output.faults
-write_cut Safe start was now state run = by_last run.last run.ends
+write_cut : (clock : ℕ → Type 0) (days : ℕ) (Safe : Type 0) (start : State) (was now : Outside) (state : State) → IsCutRun clock days Safe start was now state WriteFault → RoseByOne was.output.faults now.output.faults
+write_cut clock days Safe start was now state run = by_last run.last run.ends
   where
     by_last : (last : Option LastLine) → EndsAt (state_after_all start run.lines) last run.part was.output.faults now.output.faults WriteFault → RoseByOne was.output.faults now.output.faults
-    by_last None ends = absurd ends.0
+    by_last None ends = absurd ends
     by_last (Some last) ends = ends.1.2
 
 pub short_long : (left left_after : Option (List ℕ)) → IsShort left → IsLong left left_after → ⊥
@@ -234,25 +240,33 @@ pub rose_of : (before now : ℕ) → RoseByOne before now → Rose before now
 rose_of before now one = omega (arith, one)
 
 -- where nothing keeps a run from taking its input, all its lines are answered or memory is wanting
-complete_by : (Safe : Type 0) (salt : ℕ) (was now : Outside) (ready : Disks) (start state : State) (status : ℕ) → AreQuiet was.disks ready → IsEnded Safe salt start (opened was ready) now state status → IsFree salt was now → IsComplete status
-complete_by Safe salt was now ready start state status same runs free = by_status runs.known
+complete_by : (clock : ℕ → Type 0) (days : ℕ) (Safe : Type 0) (salt : ℕ) (was now : Outside) (ready : Disks) (start state : State) (status : ℕ) → AreQuiet was.disks ready → IsEnded clock days Safe salt start (opened was ready) now state status → IsFree clock days salt was now → IsComplete status
+complete_by clock days Safe salt was now ready start state status same runs free = by_status runs.known
   where
+    not_far : IsCutRun clock days Safe start (opened was ready) now state TimeJump → ⊥
+    not_far run =
+        let jump = run.jump refl in
+        let other : true ≡ false = sym jump.far ∙ free.calm run.lines jump.asked jump.reading jump.next jump.read in
+        absurd cc
+
     by_end : (end : RunEnd) → status ≡ status_of_end end → IsComplete status
     by_end ReadFault is = absurd (free.input_quiet (rose_of _ _ (runs.read_fault is)))
-    by_end WriteFault is = absurd (free.output_quiet (rose_of _ _ (write_cut Safe start (opened was ready) now state (runs.cut WriteFault is))))
+    by_end WriteFault is = absurd (free.output_quiet (rose_of _ _ (write_cut clock days Safe start (opened was ready) now state (runs.cut WriteFault is))))
     by_end DiskFault is = absurd (free.disk_quiet (failed_on was.disks ready now.disks same (runs.disk_fault is)))
     by_end OutOfMemory is = inr is
     by_end LongInput is = absurd (short_long was.input.left now.input.left free.short ((runs.cut LongInput is).long refl))
+    by_end TimeJump is = absurd (not_far (runs.cut TimeJump is))
 
     by_status : IsRunStatus status → IsComplete status
     by_status (inl whole) = inl whole
     by_status (inr end) = by_end end.0 end.1
 
-pub run_over : (Safe : Type 0) (salt : ℕ) (was now : Outside) (ready : Disks) (start state : State) (status : ℕ) → IsOpened Safe salt was.disks ready start → IsEnded Safe salt start (opened was ready) now state status → IsCarriedOut (Some Run) salt was now status
-run_over Safe salt was now ready start state status opening runs = record {
-  whole = λ named refused is. whole_run Safe salt was now ready start state refused status opening (runs.done refused is) (λ honest. runs.recovers (opening.safe honest) (no_five refused status is)) (λ honest. runs.durable (opening.safe honest) (no_five refused status is)) is;
-  early = λ named end is. inr (early_run Safe salt was now ready start state end opening (runs.cut end is) (λ honest sound. runs.recovers (opening.safe honest) (no_disk_end end status is sound)) (λ honest sound. runs.durable (opening.safe honest) (no_disk_end end status is sound)));
+pub run_over : (clock : ℕ → Type 0) (days : ℕ) (Safe : Type 0) (salt : ℕ) (was now : Outside) (ready : Disks) (start state : State) (status : ℕ) → IsOpened Safe salt was.disks ready start → IsEnded clock days Safe salt start (opened was ready) now state status → IsCarriedOut clock days (Some Run) salt was now status
+run_over clock days Safe salt was now ready start state status opening runs = record {
+  whole = λ named refused is. whole_run clock days Safe salt was now ready start state refused status opening (runs.done refused is) (λ honest. runs.recovers (opening.safe honest) (no_five refused status is)) (λ honest. runs.durable (opening.safe honest) (no_five refused status is)) is;
+  early = λ named end is. inr (early end is);
   long = λ ten. (runs.cut LongInput ten).long refl;
+  jump = λ jumped. (refl, early TimeJump jumped);
   checked = λ named. absurd cc;
   broken = λ six. absurd (no_six status runs.known six);
   usage = λ two. absurd (no_two status runs.known two);
@@ -261,13 +275,16 @@ run_over Safe salt was now ready start state status opening runs = record {
   known = inl runs.known;
   read_fault = runs.read_fault;
   read_quiet = runs.read_quiet;
-  write_fault = λ four. write_cut Safe start (opened was ready) now state (runs.cut WriteFault four);
+  write_fault = λ four. write_cut clock days Safe start (opened was ready) now state (runs.cut WriteFault four);
   write_quiet = runs.passed;
   disk_fault = λ five. failed_on was.disks ready now.disks opening.quiet (runs.disk_fault five);
   disk_quiet = λ other. quiet_on was.disks ready now.disks opening.quiet (runs.disk_quiet other);
-  complete = λ named honest free. complete_by Safe salt was now ready start state status opening.quiet runs free;
+  complete = λ named honest free. complete_by clock days Safe salt was now ready start state status opening.quiet runs free;
   honesty = honest_on was.disks ready now.disks opening.honesty runs.honesty;
 }
+  where
+    early : (end : RunEnd) → status ≡ status_of_end end → IsEarlyRun clock days salt was now end
+    early end is = early_run clock days Safe salt was now ready start state end opening (runs.cut end is) (λ honest sound. runs.recovers (opening.safe honest) (no_disk_end end status is sound)) (λ honest sound. runs.durable (opening.safe honest) (no_disk_end end status is sound))
 
 -- ---- a check
 
@@ -277,10 +294,10 @@ told_status line part before now status (inr (inl is)) = inr (inl is.0)
 told_status line part before now status (inr (inr is)) = inr (inr is.0)
 
 -- no other status
-not_told : (status : ℕ) → (status ≡ 0) ⊎ ((status ≡ 4) ⊎ (status ≡ 7)) → (status ≢ 2) × (status ≢ 3) × (status ≢ 5) × (status ≢ 6) × (status ≢ 10)
-not_told status (inl is) = (λ e. omega (arith, is, e), λ e. omega (arith, is, e), λ e. omega (arith, is, e), λ e. omega (arith, is, e), λ e. omega (arith, is, e))
-not_told status (inr (inl is)) = (λ e. omega (arith, is, e), λ e. omega (arith, is, e), λ e. omega (arith, is, e), λ e. omega (arith, is, e), λ e. omega (arith, is, e))
-not_told status (inr (inr is)) = (λ e. omega (arith, is, e), λ e. omega (arith, is, e), λ e. omega (arith, is, e), λ e. omega (arith, is, e), λ e. omega (arith, is, e))
+not_told : (status : ℕ) → (status ≡ 0) ⊎ ((status ≡ 4) ⊎ (status ≡ 7)) → (status ≢ 2) × (status ≢ 3) × (status ≢ 5) × (status ≢ 6) × (status ≢ 10) × (status ≢ 14)
+not_told status (inl is) = (λ e. omega (arith, is, e), λ e. omega (arith, is, e), λ e. omega (arith, is, e), λ e. omega (arith, is, e), λ e. omega (arith, is, e), λ e. omega (arith, is, e))
+not_told status (inr (inl is)) = (λ e. omega (arith, is, e), λ e. omega (arith, is, e), λ e. omega (arith, is, e), λ e. omega (arith, is, e), λ e. omega (arith, is, e), λ e. omega (arith, is, e))
+not_told status (inr (inr is)) = (λ e. omega (arith, is, e), λ e. omega (arith, is, e), λ e. omega (arith, is, e), λ e. omega (arith, is, e), λ e. omega (arith, is, e), λ e. omega (arith, is, e))
 
 told_known : (status : ℕ) → (status ≡ 0) ⊎ ((status ≡ 4) ⊎ (status ≡ 7)) → IsStatus status
 told_known status (inl is) = inl (inl (false, is))
@@ -303,9 +320,9 @@ told_complete line part before now status (inl is) quiet = inl (false, is.0)
 told_complete line part before now status (inr (inl is)) quiet = absurd (quiet (rose_of _ _ is.2))
 told_complete line part before now status (inr (inr is)) quiet = inr is.0
 
-pub check_over : (Safe : Type 0) (salt last : ℕ) (was : Outside) (ready : Disks) (output : Output) (start : State) (status : ℕ) → IsOpened Safe salt was.disks ready start → (Safe → recovered_on ready salt ≡ recovers start last)
-    → IsLineTold (check_line (summary_of start last)) was.output output status → IsCarriedOut (Some Check) salt was (record was { output = output; disks = ready }) status
-check_over Safe salt last was ready output start status opening kept told =
+pub check_over : (clock : ℕ → Type 0) (days : ℕ) (Safe : Type 0) (salt last : ℕ) (was : Outside) (ready : Disks) (output : Output) (start : State) (status : ℕ) → IsOpened Safe salt was.disks ready start → (Safe → recovered_on ready salt ≡ recovers start last)
+    → IsLineTold (check_line (summary_of start last)) was.output output status → IsCarriedOut clock days (Some Check) salt was (record was { output = output; disks = ready }) status
+check_over clock days Safe salt last was ready output start status opening kept told =
     let line = check_line (summary_of start last) in
     let is = told_status line told.part was.output.faults output.faults status told.is in
     let none = not_told status is in
@@ -313,6 +330,7 @@ check_over Safe salt last was ready output start status opening kept told =
       whole = λ named. absurd cc;
       early = λ named. absurd cc;
       long = λ ten. absurd (none.4 ten);
+      jump = λ jumped. absurd (none.5 jumped);
       checked = λ named. inl (record {
         start = start;
         last = last;

@@ -1,5 +1,5 @@
 -- A run that ends before its input does.
-use Rattle.std.proofs.Common.{◌≡◌, ◌⊎◌, inl, inr, ℕ, List, [], ◌∷◌, ◌++◌, take, drop, map, Bool, true, false, Option, Some, None, Result, Ok, Err, refl, sym, ◌∙◌, ap, subst, append_assoc, arith}
+use Rattle.std.proofs.Common.{◌≡◌, ◌≢◌, ◌⊎◌, inl, inr, ℕ, List, [], ◌∷◌, ◌++◌, take, drop, map, Bool, true, false, Option, Some, None, Result, Ok, Err, refl, sym, ◌∙◌, ap, subst, append_assoc, arith}
 use Rattle.std.specs.Prelude.{IfSome, OnOk, OnErr}
 use Rattle.std.proofs.lemmas.List.{append-nil, map-append, take-append-drop}
 use Rattle.sb_outside.specs.Causes.{RoseByOne}
@@ -25,19 +25,22 @@ use Rattle.sb_app.specs.declared.script_line.ScriptLine.TheVariants.{Malformed, 
 use Rattle.sb_app.specs.declared.dispatch.AnswerKind.{AnswerKind}
 use Rattle.sb_app.specs.declared.dispatch.AnswerKind.TheVariants.{Failed, Wanting}
 use Rattle.sb_app.specs.declared.ending.RunEnd.{RunEnd}
-use Rattle.sb_app.specs.declared.ending.RunEnd.TheVariants.{ReadFault, WriteFault, DiskFault, OutOfMemory, LongInput}
+use Rattle.sb_app.specs.declared.ending.RunEnd.TheVariants.{ReadFault, WriteFault, DiskFault, OutOfMemory, LongInput, TimeJump}
 use Rattle.sb_input.specs.Lines.{lines_of, AreWhole}
 use Rattle.sb_app.specs.Lines.{script_line, script_lines}
+use Rattle.sb_app.specs.Jumps.{is_far_ahead, jump_line, AllWithin, IsWithin}
+use Rattle.sb_app.specs.Held.{IsTooFar}
+use Rattle.sb_app.specs.declared.jump.Jump.{Jump}
 use Rattle.sb_input.specs.Taking.{Took, IsLong, AreFirst as AreFirstTaken, IsAhead as IsReadAhead}
 use Rattle.sb_app.specs.Taking.{IsAhead, IsTaken, end_of_reading}
 use Rattle.sb_input.specs.Readers.{pending_of, IsAt, ReadsLine}
 use Rattle.sb_app.specs.Runs.{kind_of, states_of, replies_to, RunsSoFar, FollowLines}
 use Rattle.sb_app.specs.Endings.{IsWritten, IsLineWritten, IsReplyCut, IsUndecided, IsAnswer, IsCause, IsBetween, IsCutAt, AreFirst, IsCutRun, entries_by}
 use Rattle.sb_input.proofs.Splits.{took-none}
-use Rattle.sb_input.proofs.Readings.{pending_fits}
+use Rattle.sb_input.proofs.Readings.{pending_fits, line_ahead}
 use Rattle.sb_app.proofs.Follows.{followed_more, followed_says}
 use Rattle.sb_input.proofs.Advances.{advances, first_lines as are_first}
-use Rattle.sb_app.proofs.Advances.{said_push}
+use Rattle.sb_app.proofs.Advances.{said_push, within_push}
 
 -- ---- what is written of a line
 
@@ -86,6 +89,7 @@ reply_cut_at s after x tick answer was now OutOfMemory is sound leads cut = reco
 reply_cut_at s after x tick answer was now ReadFault is sound leads cut = absurd cut
 reply_cut_at s after x tick answer was now DiskFault is sound leads cut = absurd cut
 reply_cut_at s after x tick answer was now LongInput is sound leads cut = absurd cut
+reply_cut_at s after x tick answer was now TimeJump is sound leads cut = absurd cut
 
 -- the same of a line that is no call
 pub malformed_cut : (s : State) (x : ScriptLine) (key : List ℕ) (was now : Output) (end : RunEnd) → x ≡ Malformed key → IsReplyCut (answer_line (Err (BadCall key))) was now end → IsCutAt s x was now s end
@@ -191,20 +195,23 @@ ahead_at OutOfMemory answer part before now r cause = record {
   fits = omega (arith, pending_fits r);
 }
 ahead_at LongInput answer part before now r cause = absurd cause
+ahead_at TimeJump answer part before now r cause = absurd cause
 
 -- ---- the run
 
 -- between two lines
-pub cut_between : (Safe : Type 0) (s state : State) (was now : Outside) (left : Option (List ℕ)) (r : Reader) (refused : Bool) (end : RunEnd) (so_far : RunsSoFar s was.input.left left was.output.given now.output.given r state refused) → (Safe → FollowLines s (script_lines so_far.done) was.disks now.disks) → IsBetween end
-    → now.output.faults ≡ was.output.faults → IsTaken was.input now.input (script_lines so_far.done) end → (end ≡ LongInput → IsLong was.input.left now.input.left) → IsCutRun Safe s was now state end
-cut_between Safe s state was now left r refused end so_far moments between same taken long = record {
+pub cut_between : (clock : ℕ → Type 0) (days : ℕ) (Safe : Type 0) (s state : State) (was now : Outside) (left : Option (List ℕ)) (r : Reader) (refused : Bool) (end : RunEnd) (so_far : RunsSoFar s was.input.left left was.output.given now.output.given r state refused) → (Safe → FollowLines s (script_lines so_far.done) was.disks now.disks) → AllWithin clock days (script_lines so_far.done)
+    → IsBetween end [] was.output.faults now.output.faults → end ≢ TimeJump → IsTaken was.input now.input (script_lines so_far.done) end → (end ≡ LongInput → IsLong was.input.left now.input.left) → IsCutRun clock days Safe s was now state end
+cut_between clock days Safe s state was now left r refused end so_far moments within between other taken long = record {
   lines = script_lines so_far.done;
   last = None;
   first = subst (AreFirst was.input.left) (sym (append-nil (script_lines so_far.done))) (first_lines was.input.left left so_far.input so_far.done r so_far.at so_far.split (inl so_far.whole));
   taken = subst (λ (l : List ScriptLine). IsTaken was.input now.input l end) (sym (append-nil (script_lines so_far.done))) taken;
+  within = subst (AllWithin clock days) (sym (append-nil (script_lines so_far.done))) within;
   long = long;
   part = [];
-  ends = (between, refl, same);
+  ends = between;
+  jump = λ is. absurd (other is);
   written = subst (Gains was.output.given now.output.given) (sym (append-nil (replies_to s (script_lines so_far.done)))) so_far.written;
   leads = so_far.leads;
   undecided = λ safe failed. tt;
@@ -212,15 +219,17 @@ cut_between Safe s state was now left r refused end so_far moments between same 
 }
 
 -- before any line
-pub cut_at_once : (Safe : Type 0) (s : State) (was : Outside) → IsCutRun Safe s was was s OutOfMemory
-cut_at_once Safe s was = record {
+pub cut_at_once : (clock : ℕ → Type 0) (days : ℕ) (Safe : Type 0) (s : State) (was : Outside) → IsCutRun clock days Safe s was was s OutOfMemory
+cut_at_once clock days Safe s was = record {
   lines = [];
   last = None;
   first = no_lines was.input.left;
   taken = nothing_taken was.input;
+  within = tt;
   long = λ e. absurd cc;
   part = [];
-  ends = (tt, refl, refl);
+  ends = (refl, refl);
+  jump = λ e. absurd cc;
   written = gains-none was.output.given;
   leads = refl;
   undecided = λ safe failed. tt;
@@ -237,12 +246,21 @@ not_long ReadFault answer part before now P cause e = absurd cause
 not_long WriteFault answer part before now P cause e = absurd cc
 not_long DiskFault answer part before now P cause e = absurd cc
 not_long OutOfMemory answer part before now P cause e = absurd cc
+not_long TimeJump answer part before now P cause e = absurd cc
+
+no_jump : (end : RunEnd) (answer : Result Answered Refusal) (part : List ℕ) (before now : ℕ) (P : Type 0) → IsCause end answer part before now → end ≡ TimeJump → P
+no_jump LongInput answer part before now P cause e = absurd cc
+no_jump ReadFault answer part before now P cause e = absurd cc
+no_jump WriteFault answer part before now P cause e = absurd cc
+no_jump DiskFault answer part before now P cause e = absurd cc
+no_jump OutOfMemory answer part before now P cause e = absurd cc
+no_jump TimeJump answer part before now P cause e = absurd cause
 
 -- at one line more
-pub cut_at_line : (Safe : Type 0) (s state after : State) (was on now : Outside) (r next : Reader) (refused : Bool) (end : RunEnd) (partial : PartialLine) (x : ScriptLine) (so_far : RunsSoFar s was.input.left on.input.left was.output.given on.output.given r state refused)
+pub cut_at_line : (clock : ℕ → Type 0) (days : ℕ) (Safe : Type 0) (s state after : State) (was on now : Outside) (r next : Reader) (refused : Bool) (end : RunEnd) (partial : PartialLine) (x : ScriptLine) (so_far : RunsSoFar s was.input.left on.input.left was.output.given on.output.given r state refused)
     → (reads : ReadsLine was.input.left so_far.input (pending_of r) now.input.left next partial) → x ≡ script_line reads.line → IsCutAt state x on.output now.output after end → on.output.faults ≡ was.output.faults → (Safe → end ≡ DiskFault → IsOneOf now.disks (states_of state x))
-    → (Safe → FollowLines s (script_lines so_far.done) was.disks on.disks) → (Safe → StayOneOf on.disks now.disks (states_of state x)) → IsCutRun Safe s was now after end
-cut_at_line Safe s state after was on now r next refused end partial x so_far reads says cut same undecided moments more =
+    → (Safe → FollowLines s (script_lines so_far.done) was.disks on.disks) → (Safe → StayOneOf on.disks now.disks (states_of state x)) → AllWithin clock days (script_lines so_far.done) → IsWithin clock days x → IsCutRun clock days Safe s was now after end
+cut_at_line clock days Safe s state after was on now r next refused end partial x so_far reads says cut same undecided moments more within is =
     let adv = advances so_far.input so_far.done (pending_of r) reads.more reads.line next so_far.split so_far.whole reads.no_feed reads.next in
     let all : script_lines adv.next ≡ script_lines so_far.done ++ x ∷ [] = said_push so_far.done adv.next reads.line adv.says ∙ ap (λ y. script_lines so_far.done ++ y ∷ []) (sym says) in
     record {
@@ -256,19 +274,58 @@ cut_at_line Safe s state after was on now r next refused end partial x so_far re
         says = all;
         is_ahead = ahead_at end cut.answer cut.part on.output.faults now.output.faults next cut.cause;
       };
+      within = within_push clock days (script_lines so_far.done) x within is;
       long = not_long end cut.answer cut.part on.output.faults now.output.faults (IsLong was.input.left now.input.left) cut.cause;
       part = cut.part;
       ends = (subst (λ (y : State). IsAnswer y x cut.tick cut.answer) so_far.leads cut.is, subst (λ n. IsCause end cut.answer cut.part n now.output.faults) same cut.cause);
+      jump = no_jump end cut.answer cut.part on.output.faults now.output.faults _ cut.cause;
       written = gains-gains was.output.given on.output.given now.output.given (replies_to s (script_lines so_far.done)) cut.part so_far.written cut.written;
       leads = cut.leads ∙ ap (λ (y : State). state_after y (entries_by x cut.tick cut.answer)) so_far.leads;
       undecided = λ safe failed. subst (λ (y : State). IsUndecided now.disks y (Some (record { line = x; tick = cut.tick; answer = cut.answer }))) so_far.leads (undecided safe failed);
       moments = λ safe. followed_more s state (script_lines so_far.done) x was.disks on.disks now.disks so_far.leads (moments safe) (more safe);
     }
 
-pub reading_between : (e : ReadEnd) → IsBetween (end_of_reading e)
-reading_between Fault = tt
-reading_between NoMemory = tt
-reading_between TooMuch = tt
+-- before a line that is too far ahead of the clock
+pub cut_before : (clock : ℕ → Type 0) (days : ℕ) (Safe : Type 0) (s state : State) (was on now : Outside) (r next : Reader) (refused : Bool) (partial : PartialLine) (x : ScriptLine) (jump : Jump) (so_far : RunsSoFar s was.input.left on.input.left was.output.given on.output.given r state refused)
+    → (reads : ReadsLine was.input.left so_far.input (pending_of r) now.input.left next partial) → x ≡ script_line reads.line → IsTooFar clock days x jump → IsLineWritten (jump_line jump.moment jump.reading) on.output now.output → on.output.faults ≡ was.output.faults
+    → (Safe → FollowLines s (script_lines so_far.done) was.disks now.disks) → AllWithin clock days (script_lines so_far.done) → IsCutRun clock days Safe s was now state TimeJump
+cut_before clock days Safe s state was on now r next refused partial x jump so_far reads says far told same moments within =
+    let adv = advances so_far.input so_far.done (pending_of r) reads.more reads.line next so_far.split so_far.whole reads.no_feed reads.next in
+    let all : script_lines adv.next ≡ script_lines so_far.done ++ Request far.asked ∷ [] = said_push so_far.done adv.next reads.line adv.says ∙ ap (λ y. script_lines so_far.done ++ y ∷ []) (sym says ∙ far.is) in
+    let none = sym (append-nil (script_lines so_far.done)) in
+    record {
+      lines = script_lines so_far.done;
+      last = None;
+      first = subst (AreFirst was.input.left) none (first_lines was.input.left on.input.left so_far.input so_far.done r so_far.at so_far.split (inl so_far.whole));
+      taken = subst (λ (l : List ScriptLine). IsTaken was.input now.input l TimeJump) none
+          (taken_behind was.input now.input so_far.done (pending_of r) so_far.input reads.more TimeJump so_far.split reads.at.took (line_ahead _ reads.line next reads.no_feed reads.next));
+      within = subst (AllWithin clock days) none within;
+      long = λ e. absurd cc;
+      part = told.part;
+      ends = tt;
+      jump = λ e. record {
+        asked = far.asked;
+        next = subst (AreFirst was.input.left) all (first_lines was.input.left now.input.left (so_far.input ++ reads.more) adv.next next reads.at adv.split adv.goes);
+        reading = jump.reading;
+        read = far.read;
+        far = subst (λ (m : ℕ). is_far_ahead days jump.reading m ≡ true) far.at far.far;
+        told = subst (λ (n : ℕ). IsWritten (jump_line far.asked.reading jump.reading) told.part n now.output.faults) same (subst (λ (m : ℕ). IsWritten (jump_line m jump.reading) told.part on.output.faults now.output.faults) far.at told.is);
+      };
+      written = gains-gains was.output.given on.output.given now.output.given (replies_to s (script_lines so_far.done)) told.part so_far.written told.written;
+      leads = so_far.leads;
+      undecided = λ safe failed. tt;
+      moments = λ safe. followed_says s _ _ was.disks now.disks none (moments safe);
+    }
+
+pub reading_between : (e : ReadEnd) (before now : ℕ) → now ≡ before → IsBetween (end_of_reading e) [] before now
+reading_between Fault before now same = (refl, same)
+reading_between NoMemory before now same = (refl, same)
+reading_between TooMuch before now same = (refl, same)
+
+pub reading_no_jump : (e : ReadEnd) → end_of_reading e ≢ TimeJump
+reading_no_jump Fault is = absurd cc
+reading_no_jump NoMemory is = absurd cc
+reading_no_jump TooMuch is = absurd cc
 
 pub reading_long : (e : ReadEnd) → end_of_reading e ≡ LongInput → e ≡ TooMuch
 reading_long Fault is = absurd cc

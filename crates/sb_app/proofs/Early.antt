@@ -41,9 +41,9 @@ legal_to s ls (Some last) part before now end consistent ends = at_line last.lin
 
 -- ---- the run
 
-pub early_run : (Safe : Type 0) (salt : ℕ) (was now : Outside) (ready : Disks) (start state : State) (end : RunEnd) → IsOpened Safe salt was.disks ready start → IsCutRun Safe start (opened was ready) now state end
-    → (AreHonest was.disks → end ≢ DiskFault → Recovers (recovered_on now.disks salt) state) → (AreHonest was.disks → end ≢ DiskFault → IsDurable now.disks state) → IsEarlyRun salt was now end
-early_run Safe salt was now ready start state end opening run kept durable =
+pub early_run : (clock : ℕ → Type 0) (days : ℕ) (Safe : Type 0) (salt : ℕ) (was now : Outside) (ready : Disks) (start state : State) (end : RunEnd) → IsOpened Safe salt was.disks ready start → IsCutRun clock days Safe start (opened was ready) now state end
+    → (AreHonest was.disks → end ≢ DiskFault → Recovers (recovered_on now.disks salt) state) → (AreHonest was.disks → end ≢ DiskFault → IsDurable now.disks state) → IsEarlyRun clock days salt was now end
+early_run clock days Safe salt was now ready start state end opening run kept durable =
     let leads : state ≡ state_after start (history_to start run.lines run.last) =
     run.leads ∙ sym (state_to start run.lines (entries_of_last run.last))
     in
@@ -56,9 +56,11 @@ early_run Safe salt was now ready start state end opening run kept durable =
       last = run.last;
       first = run.first;
       taken = run.taken;
+      within = run.within;
       long = run.long;
       part = run.part;
       ends = run.ends;
+      jump = run.jump;
       written = run.written;
       legal = legal;
       laws = lawful start (history_to start run.lines run.last) opening.consistent legal;

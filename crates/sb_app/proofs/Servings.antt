@@ -35,9 +35,13 @@ use Rattle.sb_app.specs.Checks.{IsLineTold}
 use Rattle.sb_app.specs.Clients.{Exchanges}
 use Rattle.sb_app.specs.declared.task.Task.{Task}
 use Rattle.sb_app.proofs.Calls.{no_form, IsBadWords}
+use Rattle.sb_app.specs.Endings.{IsLineWritten}
+use Rattle.sb_app.specs.Held.{IsJumpStatus, IsOvertaken}
+use Rattle.sb_app.specs.Jumps.{jumps, jump_line, IsSettled}
+use Rattle.sb_app.specs.declared.jump.Jump.{Jump}
 use Rattle.sb_app.specs.Outside.{Output, Outside}
 use Rattle.sb_app.specs.Openings.{IsOpened, IsFailed, IsFailedStatus}
-use Rattle.sb_app.specs.Servings.{HasDoorRisen, IsFreeServing, IsServeCall, IsServed, IsServeStatus, NoneStops, has_stopped, passes_for, report_line, serve_status}
+use Rattle.sb_app.specs.Servings.{HasDoorRisen, HasJumped, IsFreeServing, IsServeCall, IsServed, IsServeStatus, NoneStops, has_stopped, passes_for, report_line, serve_status}
 use Rattle.sb_app.specs.declared.ending.RunEnd.TheVariants.{DiskFault, OutOfMemory as WantsMemory}
 use Rattle.sb_app.proofs.Carried.{nothing_done, refused_by, rose_of, told_fault, told_quiet, told_status, unopened_by}
 use Rattle.sb_app.proofs.Lawful.{lawful}
@@ -45,8 +49,8 @@ use Rattle.sb_app.proofs.Whole.{kept_durable, kept_recovers}
 
 -- ---- memory was wanting at once
 
-pub unserved_at_once : {R : Type 0} (Works : Open → Worker R → Type 0) (count : R → ℕ) (salt : ℕ) (was : Outside) (doors : List R) → IsServeCall Works count salt was was doors doors 7
-unserved_at_once Works count salt was doors = record {
+pub unserved_at_once : {R : Type 0} (clock : ℕ → Type 0) (days : ℕ) (Works : Open → Worker R → Type 0) (count : R → ℕ) (salt : ℕ) (was : Outside) (doors : List R) → IsServeCall clock days Works count salt was was doors doors 7
+unserved_at_once clock days Works count salt was doors = record {
   serving = inl (refl, WantsMemory, refl, nothing_done salt was);
   known = inr (inr (inr (inr (inl refl))));
   write_fault = λ four. absurd cc;
@@ -54,6 +58,7 @@ unserved_at_once Works count salt was doors = record {
   disk_fault = λ five. absurd cc;
   disk_quiet = λ other. (refl, refl);
   broken = λ six. absurd cc;
+  jump = λ jumped. absurd cc;
   door_fault = λ eight. absurd cc;
   door_quiet = λ other last. refl;
   complete = λ honest free. inr refl;
@@ -73,11 +78,11 @@ risen_since : (was mid now : Disks) → AreQuiet was mid → HasDiskRisen mid no
 risen_since was mid now quiet (inl rose) = inl (subst (λ (n : ℕ). Rose n now.a.faults) quiet.0 rose)
 risen_since was mid now quiet (inr rose) = inr (subst (λ (n : ℕ). Rose n now.b.faults) quiet.1 rose)
 
-pub failed_call : {R : Type 0} (Works : Open → Worker R → Type 0) (count : R → ℕ) (salt : ℕ) (was : Outside) (disks : Disks) (output : Output) (doors : List R) (why : OpenWhy) (status : ℕ) → IsFailed salt was.disks disks was.output output why status
-    → IsServeCall Works count salt was (record was { output = output; disks = disks }) doors doors status
-failed_call {R} Works count salt was disks output doors why status fails = by_status fails.known
+pub failed_call : {R : Type 0} (clock : ℕ → Type 0) (days : ℕ) (Works : Open → Worker R → Type 0) (count : R → ℕ) (salt : ℕ) (was : Outside) (disks : Disks) (output : Output) (doors : List R) (why : OpenWhy) (status : ℕ) → IsFailed salt was.disks disks was.output output why status
+    → IsServeCall clock days Works count salt was (record was { output = output; disks = disks }) doors doors status
+failed_call {R} clock days Works count salt was disks output doors why status fails = by_status fails.known
   where
-    by_status : IsFailedStatus status → IsServeCall Works count salt was (record was { output = output; disks = disks }) doors doors status
+    by_status : IsFailedStatus status → IsServeCall clock days Works count salt was (record was { output = output; disks = disks }) doors doors status
     by_status (inl five) = record {
       serving = inl (refl, DiskFault, five, unopened_by salt was disks output why status fails DiskFault five);
       known = inr (inr (inl five));
@@ -86,6 +91,7 @@ failed_call {R} Works count salt was disks output doors why status fails = by_st
       disk_fault = λ same. risen was.disks disks (fails.cause (fails.failed five));
       disk_quiet = λ other. absurd (other five);
       broken = λ six. absurd (omega (arith, five, six));
+      jump = λ jumped. absurd (omega (arith, five, jumped));
       door_fault = λ eight. absurd (omega (arith, five, eight));
       door_quiet = λ other last. refl;
       complete = λ honest free. absurd (free.disk_quiet (risen was.disks disks (fails.cause (fails.failed five))));
@@ -102,6 +108,7 @@ failed_call {R} Works count salt was disks output doors why status fails = by_st
           disk_fault = λ five. absurd (omega (arith, six, five));
           disk_quiet = λ other. fails.quiet (fails.other other);
           broken = λ same. refused;
+          jump = λ jumped. absurd (omega (arith, six, jumped));
           door_fault = λ eight. absurd (omega (arith, six, eight));
           door_quiet = λ other last. refl;
           complete = λ honest free. absurd (free.sound (refused.side, refused.place, refused.broken honest));
@@ -116,6 +123,7 @@ failed_call {R} Works count salt was disks output doors why status fails = by_st
       disk_fault = λ five. absurd (omega (arith, seven, five));
       disk_quiet = λ other. fails.quiet (fails.other other);
       broken = λ six. absurd (omega (arith, seven, six));
+      jump = λ jumped. absurd (omega (arith, seven, jumped));
       door_fault = λ eight. absurd (omega (arith, seven, eight));
       door_quiet = λ other last. refl;
       complete = λ honest free. inr seven;
@@ -125,9 +133,9 @@ failed_call {R} Works count salt was disks output doors why status fails = by_st
 
 -- ---- no memory for a desk
 
-pub unserved_call : {R : Type 0} (Works : Open → Worker R → Type 0) (count : R → ℕ) (Safe : Type 0) (salt : ℕ) (was : Outside) (ready : Disks) (doors : List R) (start : State) → IsOpened Safe salt was.disks ready start
-    → (Safe → Recovers (recovered_on ready salt) start) → IsServeCall Works count salt was (record was { disks = ready }) doors doors 7
-unserved_call Works count Safe salt was ready doors start opening recovers = record {
+pub unserved_call : {R : Type 0} (clock : ℕ → Type 0) (days : ℕ) (Works : Open → Worker R → Type 0) (count : R → ℕ) (Safe : Type 0) (salt : ℕ) (was : Outside) (ready : Disks) (doors : List R) (start : State) → IsOpened Safe salt was.disks ready start
+    → (Safe → Recovers (recovered_on ready salt) start) → IsServeCall clock days Works count salt was (record was { disks = ready }) doors doors 7
+unserved_call clock days Works count Safe salt was ready doors start opening recovers = record {
   serving = inr (inr (inl (
     refl,
     refl,
@@ -148,12 +156,57 @@ unserved_call Works count Safe salt was ready doors start opening recovers = rec
   disk_fault = λ five. absurd cc;
   disk_quiet = λ other. opening.quiet;
   broken = λ six. absurd cc;
+  jump = λ jumped. absurd cc;
   door_fault = λ eight. absurd cc;
   door_quiet = λ other last. refl;
   complete = λ honest free. inr refl;
   unread = refl;
   honesty = opening.honesty;
 }
+
+-- ---- the clock is too far ahead
+
+pub jumped_call : {R : Type 0} (clock : ℕ → Type 0) (days : ℕ) (Works : Open → Worker R → Type 0) (count : R → ℕ) (Safe : Type 0) (salt : ℕ) (was : Outside) (ready : Disks) (output : Output) (doors : List R) (start : State) (jump : Jump) (status : ℕ) → IsOpened Safe salt was.disks ready start
+    → (Safe → Recovers (recovered_on ready salt) start) → IsOvertaken clock days start.now jump → IsJumpStatus jump was.output output status → IsServeCall clock days Works count salt was (record was { output = output; disks = ready }) doors doors status
+jumped_call {R} clock days Works count Safe salt was ready output doors start jump status opening recovers far (inl (is, told)) =
+    let jumped : HasJumped clock days salt was (record was { output = output; disks = ready }) =
+    record {
+      start = start;
+      found = opening.found;
+      consistent = opening.consistent;
+      reading = jump.reading;
+      read = far.read;
+      far = subst (λ (m : ℕ). jumps days m jump.reading ≡ true) far.at far.far;
+      told = subst (λ (m : ℕ). IsLineWritten (jump_line m jump.reading) was.output output) far.at told;
+      kept = λ honest. recovers (opening.safe honest);
+      durable = opening.holds;
+      opens = opening.opens;
+      quiet = opening.quiet;
+    }
+    in
+    record {
+      serving = inr (inr (inr (inl (refl, is, jumped))));
+      known = inr (inr (inr (inr (inr (inr is)))));
+      write_fault = λ four. absurd (omega (arith, is, four));
+      write_quiet = λ none. absurd (omega (arith, is, none));
+      disk_fault = λ five. absurd (omega (arith, is, five));
+      disk_quiet = λ other. opening.quiet;
+      broken = λ six. absurd (omega (arith, is, six));
+      jump = λ same. (refl, jumped);
+      door_fault = λ eight. absurd (omega (arith, is, eight));
+      door_quiet = λ other last. refl;
+      complete = λ honest free. absurd (not_calm jumped honest free);
+      unread = refl;
+      honesty = opening.honesty;
+    }
+  where
+    not_calm : HasJumped clock days salt was (record was { output = output; disks = ready }) → AreHonest was.disks → IsFreeServing clock days count salt was (record was { output = output; disks = ready }) doors doors → ⊥
+    not_calm jumped honest free =
+        let other : true ≡ false = sym jumped.far ∙ free.calm jumped.start jumped.reading (jumped.found honest) jumped.read in
+        absurd cc
+jumped_call clock days Works count Safe salt was ready output doors start jump status opening recovers far (inr (is, same)) =
+    subst (λ (n : ℕ). IsServeCall clock days Works count salt was (record was { output = output; disks = ready }) doors doors n) (sym is)
+    (subst (λ (o : Output). IsServeCall clock days Works count salt was (record was { output = o; disks = ready }) doors doors 7) (sym same) (unserved_call clock days Works count Safe salt was ready doors start opening recovers))
 
 -- ---- what stops
 
@@ -188,7 +241,7 @@ IsToldStatus told = (told ≡ 0) ⊎ ((told ≡ 4) ⊎ (told ≡ 7))
 
 serve_known : (stopped : Bool) (ending : ServeEnding) (told : ℕ) → IsToldStatus told → IsServeStatus (serve_status stopped ending told)
 serve_known true ending told is = inr (inr (inl refl))
-serve_known false DoorFault told is = inr (inr (inr (inr (inr refl))))
+serve_known false DoorFault told is = inr (inr (inr (inr (inr (inl refl)))))
 serve_known false OutOfMemory told is = inr (inr (inr (inr (inl refl))))
 serve_known false Done told (inl none) = inl none
 serve_known false Done told (inr (inl four)) = inr (inl four)
@@ -221,6 +274,14 @@ never_six true ending told known six = absurd cc
 never_six false DoorFault told known six = absurd cc
 never_six false OutOfMemory told known six = absurd cc
 never_six false Done told known six = no_other told 6 _ known six (inr (inl refl))
+
+never_jumped : (stopped : Bool) (ending : ServeEnding) (told : ℕ) → IsToldStatus told → serve_status stopped ending told ≢ 14
+never_jumped true ending told known jumped = absurd cc
+never_jumped false DoorFault told known jumped = absurd cc
+never_jumped false OutOfMemory told known jumped = absurd cc
+never_jumped false Done told (inl none) jumped = omega (arith, none, jumped)
+never_jumped false Done told (inr (inl four)) jumped = omega (arith, four, jumped)
+never_jumped false Done told (inr (inr seven)) jumped = omega (arith, seven, jumped)
 
 door_at_eight : (stopped : Bool) (ending : ServeEnding) (told : ℕ) → IsToldStatus told → serve_status stopped ending told ≡ 8 → ending ≡ DoorFault
 door_at_eight true ending told known eight = absurd cc
@@ -370,13 +431,14 @@ pub record IsWorked {R : Type 0} (Works : Open → Worker R → Type 0) (h : Lis
   pub seated : HaveSeatsBelow desk.passes h
   pub serves : Serving (Works desk) passes passes_now doors doors_now ending
 
-module _ {R : Type 0} (Works : Open → Worker R → Type 0) (count : R → ℕ) (Safe : Type 0) (salt : ℕ) (was now : Outside) (ready : Disks) (doors doors_now : List R) (h : List Entry) (desk : Open) (passes passes_now : List Sitting) (ending : ServeEnding) (report : Report) (stopped : Bool) (told : ℕ) where
-  served : IsOpened Safe salt was.disks ready desk.start → desk.origin ≡ origin_of ready → IsWorked Works h desk passes passes_now doors doors_now ending → IsReport desk.start h report → IsClosed salt desk.start h ready now.disks stopped
-      → IsLineTold (report_line report) was.output now.output told → IsServed Works salt was now doors doors_now (serve_status stopped ending told)
-  served opening origin worked counts closed line = record {
+module _ {R : Type 0} (clock : ℕ → Type 0) (days : ℕ) (Works : Open → Worker R → Type 0) (count : R → ℕ) (Safe : Type 0) (salt : ℕ) (was now : Outside) (ready : Disks) (doors doors_now : List R) (h : List Entry) (desk : Open) (passes passes_now : List Sitting) (ending : ServeEnding) (report : Report) (stopped : Bool) (told : ℕ) where
+  served : IsOpened Safe salt was.disks ready desk.start → IsSettled clock days desk.start.now → desk.origin ≡ origin_of ready → IsWorked Works h desk passes passes_now doors doors_now ending → IsReport desk.start h report → IsClosed salt desk.start h ready now.disks stopped
+      → IsLineTold (report_line report) was.output now.output told → IsServed clock days Works salt was now doors doors_now (serve_status stopped ending told)
+  served opening settled origin worked counts closed line = record {
     start = desk.start;
     found = opening.found;
     consistent = opening.consistent;
+    settled = settled;
     history = h;
     legal = closed.legal;
     laws = lawful desk.start h opening.consistent closed.legal;
@@ -413,7 +475,7 @@ module _ {R : Type 0} (Works : Open → Worker R → Type 0) (count : R → ℕ)
       stays_honest honest = still_honest ready now.disks closed.honesty (still_honest was.disks ready opening.honesty honest)
 
   free_serving : Tells (Works desk) count → AreQuiet was.disks ready → IsWorked Works h desk passes passes_now doors doors_now ending → IsClosed salt desk.start h ready now.disks stopped
-      → IsLineTold (report_line report) was.output now.output told → IsFreeServing count salt was now doors doors_now → (serve_status stopped ending told ≡ 0) ⊎ (serve_status stopped ending told ≡ 7)
+      → IsLineTold (report_line report) was.output now.output told → IsFreeServing clock days count salt was now doors doors_now → (serve_status stopped ending told ≡ 0) ⊎ (serve_status stopped ending told ≡ 7)
   free_serving tells quiet worked closed line free = by_end stopped ending told refl refl refl
     where
       by_told : IsToldStatus told → (told ≡ 0) ⊎ (told ≡ 7)
@@ -427,18 +489,19 @@ module _ {R : Type 0} (Works : Open → Worker R → Type 0) (count : R → ℕ)
       by_end false OutOfMemory t is same so = inr refl
       by_end false Done t is same so = subst (λ (n : ℕ). (n ≡ 0) ⊎ (n ≡ 7)) so (by_told (told_status _ _ _ _ told line.is))
 
-  pub served_call : Tells (Works desk) count → IsOpened Safe salt was.disks ready desk.start → desk.origin ≡ origin_of ready → IsWorked Works h desk passes passes_now doors doors_now ending
-      → IsReport desk.start h report → IsClosed salt desk.start h ready now.disks stopped → IsLineTold (report_line report) was.output now.output told → now.input ≡ was.input → IsServeCall Works count salt was now doors doors_now (serve_status stopped ending told)
-  served_call tells opening origin worked counts closed line unread =
+  pub served_call : Tells (Works desk) count → IsOpened Safe salt was.disks ready desk.start → IsSettled clock days desk.start.now → desk.origin ≡ origin_of ready → IsWorked Works h desk passes passes_now doors doors_now ending
+      → IsReport desk.start h report → IsClosed salt desk.start h ready now.disks stopped → IsLineTold (report_line report) was.output now.output told → now.input ≡ was.input → IsServeCall clock days Works count salt was now doors doors_now (serve_status stopped ending told)
+  served_call tells opening settled origin worked counts closed line unread =
       let known = told_status _ _ _ _ told line.is in
       record {
-        serving = inr (inr (inr (served opening origin worked counts closed line)));
+        serving = inr (inr (inr (inr (served opening settled origin worked counts closed line))));
         known = serve_known stopped ending told known;
         write_fault = λ four. told_fault _ _ _ _ told line.is (told_at stopped ending told 4 four (omega arith));
         write_quiet = λ none. told_quiet _ _ _ _ told false line.is (told_at stopped ending told 0 none (omega arith));
         disk_fault = λ five. risen_since was.disks ready now.disks opening.quiet (closed.cause (stopped_at_five stopped ending told known five));
         disk_quiet = λ other. quiet_on was.disks ready now.disks opening.quiet (closed.quiet (goes_elsewhere stopped ending told other));
         broken = λ six. absurd (never_six stopped ending told known six);
+        jump = λ jumped. absurd (never_jumped stopped ending told known jumped);
         door_quiet = λ other last. doors_quiet (Works desk) count passes passes_now doors doors_now ending tells worked.serves (no_door_else stopped ending told other last);
         door_fault = λ eight. door_risen (Works desk) count passes passes_now doors doors_now ending tells worked.serves (door_at_eight stopped ending told known eight);
         complete = λ honest free. free_serving tells opening.quiet worked closed line free;
@@ -449,16 +512,16 @@ module _ {R : Type 0} (Works : Open → Worker R → Type 0) (count : R → ℕ)
 -- ---- words that couldn't be read
 
 -- they name a server, so memory was wanting, and nothing was done
-pub unread_serve : {R : Type 0} (Works : Open → Worker R → Type 0) (count : R → ℕ) (words : List (List ℕ)) (fault : WordsFault) (salt : ℕ) (was now : Outside) (link link_now : Exchanges) (doors : List R) (status : ℕ) → (fault ≡ BadWords → form_in words ≡ None)
-    → command_in words ≡ Some Serve → ((task : Option Task) → IsNamed task (Err fault) → IsCall task salt was now link link_now status) → (status ≡ 2 → IsBadWords (Err fault)) → IsServeCall Works count salt was now doors doors status
-unread_serve Works count words BadWords salt was now link link_now doors status bad serves done usage = let other : None ≡ Some Serve = sym (no_form words (bad refl)) ∙ serves in absurd cc
-unread_serve Works count words WordsUnread salt was now link link_now doors status bad serves done usage = by_end (((done None tt).carried_out (λ is. absurd cc)).unnamed refl)
+pub unread_serve : {R : Type 0} (clock : ℕ → Type 0) (days : ℕ) (Works : Open → Worker R → Type 0) (count : R → ℕ) (words : List (List ℕ)) (fault : WordsFault) (salt : ℕ) (was now : Outside) (link link_now : Exchanges) (doors : List R) (status : ℕ) → (fault ≡ BadWords → form_in words ≡ None)
+    → command_in words ≡ Some Serve → ((task : Option Task) (days : ℕ) → IsNamed task days (Err fault) → IsCall clock days task salt was now link link_now status) → (status ≡ 2 → IsBadWords (Err fault)) → IsServeCall clock days Works count salt was now doors doors status
+unread_serve clock days Works count words BadWords salt was now link link_now doors status bad serves done usage = let other : None ≡ Some Serve = sym (no_form words (bad refl)) ∙ serves in absurd cc
+unread_serve clock days Works count words WordsUnread salt was now link link_now doors status bad serves done usage = by_end (((done None days tt).carried_out (λ is. absurd cc)).unnamed refl)
   where
-    by_end : (status ≡ 2) ⊎ ((status ≡ 7) × (now ≡ was)) → IsServeCall Works count salt was now doors doors status
+    by_end : (status ≡ 2) ⊎ ((status ≡ 7) × (now ≡ was)) → IsServeCall clock days Works count salt was now doors doors status
     by_end (inl two) = let other = usage two in absurd cc
     by_end (inr (seven, same)) =
-        subst (λ (n : ℕ). IsServeCall Works count salt was now doors doors n) (sym seven)
-        (subst (λ (o : Outside). IsServeCall Works count salt was o doors doors 7) (sym same) (unserved_at_once Works count salt was doors))
+        subst (λ (n : ℕ). IsServeCall clock days Works count salt was now doors doors n) (sym seven)
+        (subst (λ (o : Outside). IsServeCall clock days Works count salt was o doors doors 7) (sym same) (unserved_at_once clock days Works count salt was doors))
 
 -- a server has no status 2
 pub no_two_serve : (status : ℕ) → IsServeStatus status → status ≡ 2 → ⊥
@@ -467,4 +530,5 @@ no_two_serve status (inr (inl is)) two = omega (arith, is, two)
 no_two_serve status (inr (inr (inl is))) two = omega (arith, is, two)
 no_two_serve status (inr (inr (inr (inl is)))) two = omega (arith, is, two)
 no_two_serve status (inr (inr (inr (inr (inl is))))) two = omega (arith, is, two)
-no_two_serve status (inr (inr (inr (inr (inr is))))) two = omega (arith, is, two)
+no_two_serve status (inr (inr (inr (inr (inr (inl is)))))) two = omega (arith, is, two)
+no_two_serve status (inr (inr (inr (inr (inr (inr is)))))) two = omega (arith, is, two)

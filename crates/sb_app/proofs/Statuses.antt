@@ -1,7 +1,7 @@
 -- What a status says of the end.
 use Rattle.std.proofs.Common.{◌≡◌, ◌≢◌, ℕ, Bool, true, false, refl, sym, ◌∙◌, subst}
 use Rattle.sb_app.specs.declared.ending.RunEnd.{RunEnd}
-use Rattle.sb_app.specs.declared.ending.RunEnd.TheVariants.{ReadFault, WriteFault, DiskFault, OutOfMemory, LongInput}
+use Rattle.sb_app.specs.declared.ending.RunEnd.TheVariants.{ReadFault, WriteFault, DiskFault, OutOfMemory, LongInput, TimeJump}
 use Rattle.sb_app.specs.Runs.{status_by}
 use Rattle.sb_app.specs.Endings.{status_of_end}
 
@@ -11,6 +11,7 @@ same_end WriteFault WriteFault e = refl
 same_end DiskFault DiskFault e = refl
 same_end OutOfMemory OutOfMemory e = refl
 same_end LongInput LongInput e = refl
+same_end TimeJump TimeJump e = refl
 same_end _ _ e = absurd cc
 
 -- what is so of the end that a status names
@@ -27,6 +28,7 @@ no_disk_end WriteFault status is sound five = absurd cc
 no_disk_end DiskFault status is sound five = sound refl
 no_disk_end OutOfMemory status is sound five = absurd cc
 no_disk_end LongInput status is sound five = absurd cc
+no_disk_end TimeJump status is sound five = absurd cc
 
 pub no_two_whole : (refused : Bool) (P : Type 0) → 2 ≡ status_by refused → P
 no_two_whole false P is = absurd cc
@@ -38,3 +40,4 @@ no_two_end WriteFault P is = absurd cc
 no_two_end DiskFault P is = absurd cc
 no_two_end OutOfMemory P is = absurd cc
 no_two_end LongInput P is = absurd cc
+no_two_end TimeJump P is = absurd cc

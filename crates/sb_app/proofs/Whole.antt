@@ -90,9 +90,9 @@ moments_of Safe salt start lines was ready now opening follows honest = record {
   follows = follows (opening.safe honest);
 }
 
-pub whole_run : (Safe : Type 0) (salt : ℕ) (was now : Outside) (ready : Disks) (start state : State) (refused : Bool) (status : ℕ) → IsOpened Safe salt was.disks ready start → IsScriptRun Safe start (opened was ready) now state refused
-    → (AreHonest was.disks → Recovers (recovered_on now.disks salt) state) → (AreHonest was.disks → IsDurable now.disks state) → status ≡ status_by refused → IsWholeRun salt was now status
-whole_run Safe salt was now ready start state refused status opening run kept durable is =
+pub whole_run : (clock : ℕ → Type 0) (days : ℕ) (Safe : Type 0) (salt : ℕ) (was now : Outside) (ready : Disks) (start state : State) (refused : Bool) (status : ℕ) → IsOpened Safe salt was.disks ready start → IsScriptRun clock days Safe start (opened was ready) now state refused
+    → (AreHonest was.disks → Recovers (recovered_on now.disks salt) state) → (AreHonest was.disks → IsDurable now.disks state) → status ≡ status_by refused → IsWholeRun clock days salt was now status
+whole_run clock days Safe salt was now ready start state refused status opening run kept durable is =
     let leads : state ≡ state_after start (history_of start (script_lines run.input)) = run.leads ∙ led_to start (script_lines run.input) in
     let legal = legal_history start (script_lines run.input) opening.consistent in
     record {
@@ -102,6 +102,7 @@ whole_run Safe salt was now ready start state refused status opening run kept du
       input = run.input;
       took = run.took;
       ended = run.ended;
+      within = run.within;
       written = run.written;
       legal = legal.0;
       laws = lawful start (history_of start (script_lines run.input)) opening.consistent legal.0;

@@ -6,6 +6,7 @@ use Rattle.sb_words.specs.declared.command.Command.TheVariants.{Run as RunComman
 use Rattle.sb_words.specs.declared.command.WordsFault.{WordsFault}
 use Rattle.sb_words.specs.declared.command.WordsFault.TheVariants.{BadWords, OutOfMemory}
 use Rattle.sb_app.specs.Outside.{Outside}
+use Rattle.sb_app.specs.declared.task.Named.{Named}
 use Rattle.sb_app.specs.declared.task.Task.{Task}
 use Rattle.sb_app.specs.declared.task.Task.TheVariants.{Run, Check, Client}
 use Rattle.sb_app.specs.Tops.{IsCarriedOut}
@@ -22,13 +23,13 @@ task_of Serve = None
 abbrev pub task_in : List (List ℕ) → Option Task
 task_in words = option_and_then task_of (command_in words)
 
--- this came of reading words that name this task, or none; for want of memory nothing is known of them
-abbrev pub IsNamed : Option Task → Result Task WordsFault → Type 0
-IsNamed task (Ok named) = task ≡ Some named
-IsNamed task (Err BadWords) = task ≡ None
-IsNamed task (Err OutOfMemory) = Unit {0}
+-- this came of reading words that name this task, with so many days, or none; for want of memory nothing is known of them
+abbrev pub IsNamed : Option Task → (days : ℕ) → Result Named WordsFault → Type 0
+IsNamed task days (Ok named) = (task ≡ Some named.task) × (days ≡ named.max_jump)
+IsNamed task days (Err BadWords) = task ≡ None
+IsNamed task days (Err OutOfMemory) = Unit {0}
 
-pub record IsCall (task : Option Task) (salt : ℕ) (was now : Outside) (link link_now : Exchanges) (status : ℕ) : Type 0 where
+pub record IsCall (reads : ℕ → Type 0) (days : ℕ) (task : Option Task) (salt : ℕ) (was now : Outside) (link link_now : Exchanges) (status : ℕ) : Type 0 where
   -- a run, a check, and words that name no task
-  pub carried_out : task ≢ Some Client → IsCarriedOut task salt was now status
+  pub carried_out : task ≢ Some Client → IsCarriedOut reads days task salt was now status
   pub client : task ≡ Some Client → IsClientCall was now link link_now status

@@ -1,9 +1,10 @@
 -- How a run ends before its input does: what was answered, and what was written of the last line.
-use Rattle.std.specs.Prelude.{◌≡◌, ◌⊎◌, ℕ, List, [], ◌∷◌, ◌++◌, false, Option, Some, None, IfSome, Result, Err}
+use Rattle.std.specs.Prelude.{◌≡◌, ◌⊎◌, ℕ, List, [], ◌∷◌, ◌++◌, true, false, Option, Some, None, IfSome, Result, Err}
 use Rattle.sb_outside.specs.Causes.{RoseByOne}
 use Rattle.sb_outside.specs.Streams.{Gains}
 use Rattle.sb_machine.specs.History.{IsLegal, is_fault, state_after}
 use Rattle.sb_machine.specs.Answers.{moment_of}
+use Rattle.sb_machine.specs.declared.call.TimedCall.{TimedCall}
 use Rattle.sb_machine.specs.declared.history.Entry.{Entry}
 use Rattle.sb_machine.specs.declared.reply.Answered.{Answered}
 use Rattle.sb_machine.specs.declared.reply.Refusal.{Refusal}
@@ -13,13 +14,14 @@ use Rattle.sb_lines.specs.Replies.{answer_line}
 use Rattle.sb_app.specs.declared.script_line.ScriptLine.{ScriptLine}
 use Rattle.sb_app.specs.declared.script_line.ScriptLine.TheVariants.{Blank, Malformed, Request}
 use Rattle.sb_app.specs.declared.ending.RunEnd.{RunEnd}
-use Rattle.sb_app.specs.declared.ending.RunEnd.TheVariants.{ReadFault, WriteFault, DiskFault, OutOfMemory, LongInput}
+use Rattle.sb_app.specs.declared.ending.RunEnd.TheVariants.{ReadFault, WriteFault, DiskFault, OutOfMemory, LongInput, TimeJump}
 use Rattle.sb_journal.specs.Disks.{Disks}
 use Rattle.sb_node.specs.Nodes.{IsOneOf}
 use Rattle.sb_node.specs.Steps.{entries_with}
 use Rattle.sb_app.specs.Outside.{Output, Outside}
 use Rattle.sb_app.specs.Runs.{replies_to, state_after_all, states_of, history_of, FollowLines}
 use Rattle.sb_app.specs.Lines.{script_lines}
+use Rattle.sb_app.specs.Jumps.{is_far_ahead, jump_line, AllWithin}
 use Rattle.sb_input.specs.Taking.{IsLong}
 use Rattle.sb_app.specs.Taking.{IsTaken}
 
@@ -46,6 +48,7 @@ IsReplyCut line was now WriteFault = (part : List ℕ) × IsFront part line × G
 IsReplyCut line was now DiskFault = ⊥
 IsReplyCut line was now OutOfMemory = Gains was.given now.given [] × (now.faults ≡ was.faults)
 IsReplyCut line was now LongInput = ⊥
+IsReplyCut line was now TimeJump = ⊥
 
 -- ---- the line at which a run ends
 
@@ -75,14 +78,16 @@ IsCause WriteFault answer part before now = (is_fault answer ≡ false) × IsFro
 IsCause DiskFault answer part before now = (answer ≡ Err FailedDisk) × IsWritten (answer_line answer) part before now
 IsCause OutOfMemory answer part before now = ((answer ≡ Err WantsMemory) × IsWritten (answer_line answer) part before now) ⊎ ((is_fault answer ≡ false) × (part ≡ []) × (now ≡ before))
 IsCause LongInput answer part before now = ⊥
+IsCause TimeJump answer part before now = ⊥
 
--- a run may end between two lines so
-abbrev pub IsBetween : RunEnd → Type 0
-IsBetween ReadFault = Unit {0}
-IsBetween WriteFault = ⊥
-IsBetween DiskFault = ⊥
-IsBetween OutOfMemory = Unit {0}
-IsBetween LongInput = Unit {0}
+-- A run may end between two lines so, and nothing was written; what is where time would jump, `IsTimeJump` says.
+abbrev pub IsBetween : RunEnd → (part : List ℕ) → (before now : ℕ) → Type 0
+IsBetween ReadFault part before now = (part ≡ []) × (now ≡ before)
+IsBetween WriteFault part before now = ⊥
+IsBetween DiskFault part before now = ⊥
+IsBetween OutOfMemory part before now = (part ≡ []) × (now ≡ before)
+IsBetween LongInput part before now = (part ≡ []) × (now ≡ before)
+IsBetween TimeJump part before now = Unit {0}
 
 -- the run ended at this line
 pub record IsCutAt (s : State) (line : ScriptLine) (was now : Output) (after : State) (end : RunEnd) : Type 0 where
@@ -106,13 +111,23 @@ entries_of_last (Some last) = entries_by last.line last.tick last.answer
 
 -- it ended at this line, or between two lines, for this reason
 abbrev pub EndsAt : State → Option LastLine → (part : List ℕ) → (before now : ℕ) → RunEnd → Type 0
-EndsAt s None part before now end = IsBetween end × (part ≡ []) × (now ≡ before)
+EndsAt s None part before now end = IsBetween end part before now
 EndsAt s (Some last) part before now end = IsAnswer s last.line last.tick last.answer × IsCause end last.answer part before now
 
 -- these are the first lines of what a source has left, where it tells
 abbrev pub AreFirst : Option (List ℕ) → List ScriptLine → Type 0
 AreFirst None lines = Unit {0}
 AreFirst (Some left) lines = (more : List ScriptLine) × (script_lines left ≡ lines ++ more)
+
+-- The next line behind these asks for a call at a moment that is too far ahead of what the clock read; so much of the line that says so
+-- was written, and the call wasn't made.
+pub record IsTimeJump (reads : ℕ → Type 0) (days : ℕ) (left : Option (List ℕ)) (lines : List ScriptLine) (part : List ℕ) (before now : ℕ) : Type 0 where
+  pub asked : TimedCall
+  pub next : AreFirst left (lines ++ Request asked ∷ [])
+  pub reading : ℕ
+  pub read : reads reading
+  pub far : is_far_ahead days reading asked.reading ≡ true
+  pub told : IsWritten (jump_line asked.reading reading) part before now
 
 -- whatever a crash leaves leads to this state, to that with the tick of this line, or to the one after what it asks
 abbrev pub IsUndecided : Disks → State → Option LastLine → Type 0
@@ -121,14 +136,16 @@ IsUndecided disks s (Some last) = IsOneOf disks (states_of s last.line)
 
 -- Of the first lines each was answered by the machine and its reply written; then the run ended, at one more line or at none. The
 -- disks are spoken of where they were safe at the start.
-pub record IsCutRun (Safe : Type 0) (s : State) (was now : Outside) (after : State) (end : RunEnd) : Type 0 where
+pub record IsCutRun (reads : ℕ → Type 0) (days : ℕ) (Safe : Type 0) (s : State) (was now : Outside) (after : State) (end : RunEnd) : Type 0 where
   pub lines : List ScriptLine
   pub last : Option LastLine
   pub first : AreFirst was.input.left (lines ++ line_of_last last)
   pub taken : IsTaken was.input now.input (lines ++ line_of_last last) end
+  pub within : AllWithin reads days (lines ++ line_of_last last)
   pub long : end ≡ LongInput → IsLong was.input.left now.input.left
   pub part : List ℕ
   pub ends : EndsAt (state_after_all s lines) last part was.output.faults now.output.faults end
+  pub jump : end ≡ TimeJump → IsTimeJump reads days was.input.left lines part was.output.faults now.output.faults
   pub written : Gains was.output.given now.output.given (replies_to s lines ++ part)
   pub leads : after ≡ state_after (state_after_all s lines) (entries_of_last last)
   pub undecided : Safe → end ≡ DiskFault → IsUndecided now.disks (state_after_all s lines) last
@@ -145,3 +162,4 @@ status_of_end WriteFault = 4
 status_of_end DiskFault = 5
 status_of_end OutOfMemory = 7
 status_of_end LongInput = 10
+status_of_end TimeJump = 14

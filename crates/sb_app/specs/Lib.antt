@@ -1,9 +1,11 @@
 pub mod Outside
 pub mod Lines
+pub mod Jumps
 pub mod Taking
 pub mod Nodes
 pub mod Runs
 pub mod Endings
+pub mod Held
 pub mod Commits
 pub mod Checks
 pub mod Lawful

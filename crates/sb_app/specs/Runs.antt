@@ -19,6 +19,7 @@ use Rattle.sb_app.specs.declared.script_line.ScriptLine.TheVariants.{Blank, Malf
 use Rattle.sb_input.specs.declared.reader.Reader.{Reader}
 use Rattle.sb_input.specs.Lines.{AreWhole}
 use Rattle.sb_app.specs.Lines.{script_lines}
+use Rattle.sb_app.specs.Jumps.{AllWithin}
 use Rattle.sb_journal.specs.Disks.{Disks}
 use Rattle.sb_node.specs.Nodes.{StayOneOf}
 use Rattle.sb_node.specs.Steps.{time_to}
@@ -106,12 +107,13 @@ FollowLines s (l ∷ ls) was now = (answered : Disks) × StayOneOf was answered 
 
 -- ---- a run that took all its input
 
--- All input was taken, and each of its lines was answered by the machine, one after another. The moments are spoken of where the
--- disks were safe at the start.
-pub record IsScriptRun (Safe : Type 0) (s : State) (was now : Outside) (after : State) (refused : Bool) : Type 0 where
+-- All input was taken, and each of its lines was answered by the machine, one after another; none was too far ahead of the clock. The
+-- moments are spoken of where the disks were safe at the start.
+pub record IsScriptRun (reads : ℕ → Type 0) (days : ℕ) (Safe : Type 0) (s : State) (was now : Outside) (after : State) (refused : Bool) : Type 0 where
   pub input : List ℕ
   pub took : Took was.input.left now.input.left input
   pub ended : HasEnded was.input.left now.input.left
+  pub within : AllWithin reads days (script_lines input)
   pub written : Gains was.output.given now.output.given (replies_to s (script_lines input))
   pub leads : after ≡ state_after_all s (script_lines input)
   pub says : refused ≡ any_refused s (script_lines input)

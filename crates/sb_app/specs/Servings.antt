@@ -19,7 +19,8 @@ use Rattle.sb_server.specs.Serves.{Serving, Worker}
 use Rattle.sb_server.specs.declared.ending.ServeEnding.{ServeEnding}
 use Rattle.sb_server.specs.declared.ending.ServeEnding.TheVariants.{Done, DoorFault, OutOfMemory}
 use Rattle.sb_app.specs.Checks.{IsLineTold}
-use Rattle.sb_app.specs.Endings.{status_of_end}
+use Rattle.sb_app.specs.Endings.{IsLineWritten, status_of_end}
+use Rattle.sb_app.specs.Jumps.{jumps, jump_line, IsSettled}
 use Rattle.sb_app.specs.Lawful.{HasLaws}
 use Rattle.sb_app.specs.Outside.{Outside}
 use Rattle.sb_app.specs.Tops.{IsBroken, IsQuiet, IsRefused, IsUnopened}
@@ -69,10 +70,12 @@ HasDoorRisen count (d ∷ ds) (e ∷ es) = Rose (count d) (count e) ⊎ HasDoorR
 -- of its own (`serves` says what was read and written). What a pass has seen is a front of that history with all entries of its seat,
 -- and no other seat has any. The history is legal, so it has the laws; its numbers were told; and what a crash leaves of the disks leads to
 -- the state behind it, or to that after the event which a failed disk left undecided.
-pub record IsServed {R : Type 0} (Works : Open → Worker R → Type 0) (salt : ℕ) (was now : Outside) (doors doors_now : List R) (status : ℕ) : Type 0 where
+pub record IsServed {R : Type 0} (reads : ℕ → Type 0) (days : ℕ) (Works : Open → Worker R → Type 0) (salt : ℕ) (was now : Outside) (doors doors_now : List R) (status : ℕ) : Type 0 where
   pub start : State
   pub found : AreHonest was.disks → Recovers (recovered_on was.disks salt) start
   pub consistent : IsConsistent start
+  -- the clock, read behind the opening, wasn't too far ahead
+  pub settled : IsSettled reads days start.now
   pub history : List Entry
   pub legal : IsLegal start history
   pub laws : HasLaws start history
@@ -121,35 +124,54 @@ pub record IsUnserved (salt : ℕ) (was now : Outside) : Type 0 where
   pub opens : AreHonest was.disks → KeepFound salt was.disks now.disks
   pub quiet : AreQuiet was.disks now.disks
 
--- the journal wasn't opened, or is damaged, or memory was wanting to serve it, and no door was used; or the doors were served
-abbrev pub IsServing : {R : Type 0} → (Open → Worker R → Type 0) → (salt : ℕ) → (was now : Outside) → (doors doors_now : List R) → (status : ℕ) → Type 0
-IsServing Works salt was now doors doors_now status =
+-- The namespace was opened and, as the clock read too far ahead of its moment, not served: so much of the line that says so was written,
+-- and the disks are as the opening left them.
+pub record HasJumped (reads : ℕ → Type 0) (days salt : ℕ) (was now : Outside) : Type 0 where
+  pub start : State
+  pub found : AreHonest was.disks → Recovers (recovered_on was.disks salt) start
+  pub consistent : IsConsistent start
+  pub reading : ℕ
+  pub read : reads reading
+  pub far : jumps days start.now reading ≡ true
+  pub told : IsLineWritten (jump_line start.now reading) was.output now.output
+  pub kept : AreHonest was.disks → Recovers (recovered_on now.disks salt) start
+  pub durable : AreHonest was.disks → IsDurable now.disks start
+  pub opens : AreHonest was.disks → KeepFound salt was.disks now.disks
+  pub quiet : AreQuiet was.disks now.disks
+
+-- the journal wasn't opened, or is damaged, or memory was wanting to serve it, or the clock is too far ahead of it, and no door was used; or
+-- the doors were served
+abbrev pub IsServing : {R : Type 0} → (reads : ℕ → Type 0) → (days : ℕ) → (Open → Worker R → Type 0) → (salt : ℕ) → (was now : Outside) → (doors doors_now : List R) → (status : ℕ) → Type 0
+IsServing reads days Works salt was now doors doors_now status =
     ((doors_now ≡ doors) × (end : RunEnd) × (status ≡ status_of_end end) × IsUnopened salt was now end)
     ⊎ ((doors_now ≡ doors) × (status ≡ 6) × IsRefused salt was now)
     ⊎ ((doors_now ≡ doors) × (status ≡ 7) × IsUnserved salt was now)
-    ⊎ IsServed Works salt was now doors doors_now status
+    ⊎ ((doors_now ≡ doors) × (status ≡ 14) × HasJumped reads days salt was now)
+    ⊎ IsServed reads days Works salt was now doors doors_now status
 
 -- all that makes a server end well once its workers have ended, but for memory
-pub record IsFreeServing {R : Type 0} (count : R → ℕ) (salt : ℕ) (was now : Outside) (doors doors_now : List R) : Type 0 where
+pub record IsFreeServing {R : Type 0} (reads : ℕ → Type 0) (days : ℕ) (count : R → ℕ) (salt : ℕ) (was now : Outside) (doors doors_now : List R) : Type 0 where
   pub sound : IsBroken (recovered_on was.disks salt) → ⊥
+  pub calm : (start : State) (reading : ℕ) → Recovers (recovered_on was.disks salt) start → reads reading → jumps days start.now reading ≡ false
   pub disk_quiet : HasDiskRisen was.disks now.disks → ⊥
   pub door_quiet : HasDoorRisen count doors doors_now → ⊥
   pub output_quiet : IsQuiet was.output.faults now.output.faults
 
 abbrev pub IsServeStatus : ℕ → Type 0
-IsServeStatus status = (status ≡ 0) ⊎ (status ≡ 4) ⊎ (status ≡ 5) ⊎ (status ≡ 6) ⊎ (status ≡ 7) ⊎ (status ≡ 8)
+IsServeStatus status = (status ≡ 0) ⊎ (status ≡ 4) ⊎ (status ≡ 5) ⊎ (status ≡ 6) ⊎ (status ≡ 7) ⊎ (status ≡ 8) ⊎ (status ≡ 14)
 
 -- A server's call, with this status. Each status other than 0 and 7 has its cause; the input isn't read.
-pub record IsServeCall {R : Type 0} (Works : Open → Worker R → Type 0) (count : R → ℕ) (salt : ℕ) (was now : Outside) (doors doors_now : List R) (status : ℕ) : Type 0 where
-  pub serving : IsServing Works salt was now doors doors_now status
+pub record IsServeCall {R : Type 0} (reads : ℕ → Type 0) (days : ℕ) (Works : Open → Worker R → Type 0) (count : R → ℕ) (salt : ℕ) (was now : Outside) (doors doors_now : List R) (status : ℕ) : Type 0 where
+  pub serving : IsServing reads days Works salt was now doors doors_now status
   pub known : IsServeStatus status
   pub write_fault : status ≡ 4 → RoseByOne was.output.faults now.output.faults
   pub write_quiet : status ≡ 0 → now.output.faults ≡ was.output.faults
   pub disk_fault : status ≡ 5 → HasDiskRisen was.disks now.disks
   pub disk_quiet : status ≢ 5 → AreQuiet was.disks now.disks
   pub broken : status ≡ 6 → IsRefused salt was now
+  pub jump : status ≡ 14 → (doors_now ≡ doors) × HasJumped reads days salt was now
   pub door_fault : status ≡ 8 → HasDoorRisen count doors doors_now
   pub door_quiet : status ≢ 5 → status ≢ 8 → map count doors_now ≡ map count doors
-  pub complete : AreHonest was.disks → IsFreeServing count salt was now doors doors_now → (status ≡ 0) ⊎ (status ≡ 7)
+  pub complete : AreHonest was.disks → IsFreeServing reads days count salt was now doors doors_now → (status ≡ 0) ⊎ (status ≡ 7)
   pub unread : now.input ≡ was.input
   pub honesty : SameHonesty was.disks now.disks

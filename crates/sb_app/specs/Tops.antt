@@ -1,5 +1,5 @@
 -- What a whole call of the program does, by its words and the status that it gives.
-use Rattle.std.specs.Prelude.{◌≡◌, ◌≢◌, ◌⊎◌, ◌<◌, ℕ, List, ◌++◌, length, Bool, codes, Option, Some, None, IsSome}
+use Rattle.std.specs.Prelude.{◌≡◌, ◌≢◌, ◌⊎◌, ◌<◌, ℕ, List, [], ◌∷◌, ◌++◌, length, Bool, false, codes, Option, Some, None, IsSome}
 use Rattle.std.specs.Fmt.{decimal}
 use Rattle.sb_outside.specs.Causes.{Rose, RoseByOne}
 use Rattle.sb_outside.specs.Streams.{Gains}
@@ -14,19 +14,22 @@ use Rattle.sb_journal.specs.declared.found.Side.{Side}
 use Rattle.sb_journal.specs.declared.found.Side.TheVariants.{A, B}
 use Rattle.sb_journal.specs.declared.found.OpenWhy.{OpenWhy}
 use Rattle.sb_journal.specs.declared.found.OpenWhy.TheVariants.{Damaged}
+use Rattle.sb_machine.specs.declared.call.TimedCall.{TimedCall}
 use Rattle.sb_app.specs.declared.script_line.ScriptLine.{ScriptLine}
+use Rattle.sb_app.specs.declared.script_line.ScriptLine.TheVariants.{Request}
 use Rattle.sb_app.specs.declared.ending.RunEnd.{RunEnd}
-use Rattle.sb_app.specs.declared.ending.RunEnd.TheVariants.{DiskFault, OutOfMemory, LongInput}
+use Rattle.sb_app.specs.declared.ending.RunEnd.TheVariants.{DiskFault, OutOfMemory, LongInput, TimeJump}
 use Rattle.sb_app.specs.declared.task.Task.{Task}
 use Rattle.sb_app.specs.declared.task.Task.TheVariants.{Run, Check}
 use Rattle.sb_input.specs.Limits.{max_input}
 use Rattle.sb_app.specs.Lines.{script_lines}
+use Rattle.sb_app.specs.Jumps.{is_far_ahead, AllWithin}
 use Rattle.sb_input.specs.Taking.{Took, HasEnded, IsLong}
 use Rattle.sb_app.specs.Taking.{IsTaken}
 use Rattle.sb_app.specs.Runs.{FollowLines, replies_to, history_of, any_refused, status_by, state_after_all}
 use Rattle.sb_app.specs.Lawful.{HasLaws}
 use Rattle.sb_app.specs.Checks.{IsChecked}
-use Rattle.sb_app.specs.Endings.{IsLineWritten, IsUndecided, LastLine, line_of_last, EndsAt, AreFirst, history_to, status_of_end}
+use Rattle.sb_app.specs.Endings.{IsLineWritten, IsUndecided, LastLine, line_of_last, EndsAt, AreFirst, IsTimeJump, history_to, status_of_end}
 
 -- ---- a run that took all its input, or ended before
 
@@ -39,14 +42,15 @@ pub record HasMoments (salt : ℕ) (start : State) (lines : List ScriptLine) (wa
   pub follows : FollowLines start lines ready now
 
 -- A run that took all its input: from the state that the disks stood for, a consistent one, each line was answered by the machine, in
--- order and no other; the history of its calls is legal, and its last state is what the disks stand for, also after a crash.
-pub record IsWholeRun (salt : ℕ) (was now : Outside) (status : ℕ) : Type 0 where
+-- order and no other, as none was too far ahead of the clock; the history of its calls is legal, and its last state is what the disks stand for, also after a crash.
+pub record IsWholeRun (reads : ℕ → Type 0) (days salt : ℕ) (was now : Outside) (status : ℕ) : Type 0 where
   pub start : State
   pub found : AreHonest was.disks → Recovers (recovered_on was.disks salt) start
   pub consistent : IsConsistent start
   pub input : List ℕ
   pub took : Took was.input.left now.input.left input
   pub ended : HasEnded was.input.left now.input.left
+  pub within : AllWithin reads days (script_lines input)
   pub written : Gains was.output.given now.output.given (replies_to start (script_lines input))
   pub legal : IsLegal start (history_of start (script_lines input))
   pub laws : HasLaws start (history_of start (script_lines input))
@@ -57,10 +61,10 @@ pub record IsWholeRun (salt : ℕ) (was now : Outside) (status : ℕ) : Type 0 w
   -- a crash at any moment of the run leads to the state after its first lines, and to no earlier one than at the moment before
   pub moments : AreHonest was.disks → HasMoments salt start (script_lines input) was.disks now.disks
 
--- A run that ended before its input did: from the state that the disks stood for, a consistent one, the first lines of the input were
+-- A run that ended before its input did, by 14 before a line that is too far ahead of the clock: from the state that the disks stood for, a consistent one, the first lines of the input were
 -- answered, in order; the history of its calls is legal, and unless a disk failed its last state is what the disks stand for, also
 -- after a crash.
-pub record IsEarlyRun (salt : ℕ) (was now : Outside) (end : RunEnd) : Type 0 where
+pub record IsEarlyRun (reads : ℕ → Type 0) (days salt : ℕ) (was now : Outside) (end : RunEnd) : Type 0 where
   pub start : State
   pub found : AreHonest was.disks → Recovers (recovered_on was.disks salt) start
   pub consistent : IsConsistent start
@@ -68,9 +72,11 @@ pub record IsEarlyRun (salt : ℕ) (was now : Outside) (end : RunEnd) : Type 0 w
   pub last : Option LastLine
   pub first : AreFirst was.input.left (lines ++ line_of_last last)
   pub taken : IsTaken was.input now.input (lines ++ line_of_last last) end
+  pub within : AllWithin reads days (lines ++ line_of_last last)
   pub long : end ≡ LongInput → IsLong was.input.left now.input.left
   pub part : List ℕ
   pub ends : EndsAt (state_after_all start lines) last part was.output.faults now.output.faults end
+  pub jump : end ≡ TimeJump → IsTimeJump reads days was.input.left lines part was.output.faults now.output.faults
   pub written : Gains was.output.given now.output.given (replies_to start lines ++ part)
   pub legal : IsLegal start (history_to start lines last)
   pub laws : HasLaws start (history_to start lines last)
@@ -91,8 +97,8 @@ pub record IsUnopened (salt : ℕ) (was now : Outside) (end : RunEnd) : Type 0 w
   pub kept : AreHonest was.disks → KeepFound salt was.disks now.disks
 
 -- a run that ended early, or none because the journal wasn't opened
-abbrev pub IsEarly : ℕ → (was now : Outside) → RunEnd → Type 0
-IsEarly salt was now end = IsUnopened salt was now end ⊎ IsEarlyRun salt was now end
+abbrev pub IsEarly : (reads : ℕ → Type 0) → (days salt : ℕ) → (was now : Outside) → RunEnd → Type 0
+IsEarly reads days salt was now end = IsUnopened salt was now end ⊎ IsEarlyRun reads days salt was now end
 
 -- ---- the lines of the statuses 2 and 6
 
@@ -144,10 +150,15 @@ abbrev pub IsShort : Option (List ℕ) → Type 0
 IsShort None = ⊥
 IsShort (Some left) = length left < max_input
 
+-- no line of this input is too far ahead of anything that the clock may read; with 0 days none is
+abbrev pub IsCalm : (reads : ℕ → Type 0) → (days : ℕ) → Option (List ℕ) → Type 0
+IsCalm reads days left = (lines : List ScriptLine) (asked : TimedCall) (reading : ℕ) → AreFirst left (lines ++ Request asked ∷ []) → reads reading → is_far_ahead days reading asked.reading ≡ false
+
 -- all that makes a run take its whole input, but for memory
-pub record IsFree (salt : ℕ) (was now : Outside) : Type 0 where
+pub record IsFree (reads : ℕ → Type 0) (days salt : ℕ) (was now : Outside) : Type 0 where
   pub sound : IsBroken (recovered_on was.disks salt) → ⊥
   pub short : IsShort was.input.left
+  pub calm : IsCalm reads days was.input.left
   pub input_quiet : IsQuiet was.input.faults now.input.faults
   pub output_quiet : IsQuiet was.output.faults now.output.faults
   pub disk_quiet : HaveFailed was.disks now.disks → ⊥
@@ -164,12 +175,14 @@ IsCheck salt was now status = IsChecked salt was now status ⊎ (((end : RunEnd)
 
 -- The task that the words name was carried out, or they name none, and this is the status. A fault that was met is told: a count rises by
 -- one with its status, and with no other.
-pub record IsCarriedOut (task : Option Task) (salt : ℕ) (was now : Outside) (status : ℕ) : Type 0 where
+pub record IsCarriedOut (reads : ℕ → Type 0) (days : ℕ) (task : Option Task) (salt : ℕ) (was now : Outside) (status : ℕ) : Type 0 where
   -- a run at 0 and 1
-  pub whole : task ≡ Some Run → (refused : Bool) → status ≡ status_by refused → IsWholeRun salt was now status
-  -- a run at 3, 4, 5, 7 and 10
-  pub early : task ≡ Some Run → (end : RunEnd) → status ≡ status_of_end end → IsEarly salt was now end
+  pub whole : task ≡ Some Run → (refused : Bool) → status ≡ status_by refused → IsWholeRun reads days salt was now status
+  -- a run at 3, 4, 5, 7, 10 and 14
+  pub early : task ≡ Some Run → (end : RunEnd) → status ≡ status_of_end end → IsEarly reads days salt was now end
   pub long : status ≡ 10 → IsLong was.input.left now.input.left
+  -- 14
+  pub jump : status ≡ 14 → (task ≡ Some Run) × IsEarlyRun reads days salt was now TimeJump
   -- a check at 0, 4, 5, 6 and 7
   pub checked : task ≡ Some Check → IsCheck salt was now status
   -- 6
@@ -186,5 +199,5 @@ pub record IsCarriedOut (task : Option Task) (salt : ℕ) (was now : Outside) (s
   pub write_quiet : (refused : Bool) → status ≡ status_by refused → now.output.faults ≡ was.output.faults
   pub disk_fault : status ≡ 5 → HaveFailed was.disks now.disks
   pub disk_quiet : status ≢ 5 → AreQuiet was.disks now.disks
-  pub complete : IsSome task → AreHonest was.disks → IsFree salt was now → IsComplete status
+  pub complete : IsSome task → AreHonest was.disks → IsFree reads days salt was now → IsComplete status
   pub honesty : SameHonesty was.disks now.disks

@@ -1,11 +1,12 @@
 // What is done without waiting for anybody.
-ghost use Rattle.std.specs.Prelude.{◌≡◌, ◌≢◌, ◌⊎◌, Bool, None, Some, Option, Err, IfErr};
+ghost use Rattle.std.specs.Prelude.{◌≡◌, ◌≢◌, ◌⊎◌, ℕ, Bool, None, Some, Option, Err, IfErr};
 ghost use Rattle.sb_outside.specs.Causes.{RoseByOne};
 ghost use Rattle.sb_machine.specs.Consistent.{IsConsistent};
 ghost use Rattle.sb_journal.specs.Disks.{HaveFailed, AreQuiet, SameHonesty};
 ghost use Rattle.sb_node.specs.Nodes.{node_state, node_stopped, node_disk_b, node_disks, IsKept};
 ghost use Rattle.sb_words.specs.declared.command.WordsFault.TheVariants.{BadWords};
 ghost use Rattle.sb_app.specs.Outside.{outside_of};
+ghost use Rattle.sb_app.specs.Jumps.{any_reading};
 ghost use Rattle.sb_app.specs.Nodes.{outside_with};
 ghost use Rattle.sb_app.specs.Runs.{IsScriptRun, status_by};
 ghost use Rattle.sb_app.specs.Endings.{IsCutRun, status_of_end};
@@ -22,9 +23,9 @@ use crate::ending::status_of;
 use crate::final_line::write_final_line;
 use crate::opening::open_node;
 use crate::running::run_script;
-use crate::task::Task;
+use crate::task::{Named, Task};
 use sb_node::Node;
-use sb_outside::{Disk, Link, Sink, Source};
+use sb_outside::{Clock, Disk, Link, Sink, Source};
 use sb_words::WordsFault;
 use std::alloc::Global;
 
@@ -32,26 +33,27 @@ const USAGE: &str = "usage: bus COMMAND (run, serve, client, check, drill)\n";
 
 /// Does the task that was named, or writes the usage line where none was. The statuses are those of
 /// `top`; the disks come back.
-pub fn carry_out<D: Disk, S: Source, K: Sink, N: Link>(
+pub fn carry_out<D: Disk, C: Clock, S: Source, K: Sink, N: Link>(
     alloc: Global,
-    named: Result<Task, WordsFault>,
+    named: Result<Named, WordsFault>,
     disk_a: D,
     disk_b: D,
     salt: u64,
+    clock: &C,
     input: &mut S,
     output: &mut K,
     link: &mut N,
 ) -> (u8, D, D)
-    ensures done { (task : Option Task) → IsNamed task named → IsCall task salt (outside_of D.Disk S.Source K.Sink disk_a disk_b input.old output.old) (outside_of D.Disk S.Source K.Sink result.1 result.2 input.new output.new) (exchanges_of N.Link link.old) (exchanges_of N.Link link.new) result.0 }
+    ensures done { (task : Option Task) (days : ℕ) → IsNamed task days named → IsCall any_reading days task salt (outside_of D.Disk S.Source K.Sink disk_a disk_b input.old output.old) (outside_of D.Disk S.Source K.Sink result.1 result.2 input.new output.new) (exchanges_of N.Link link.old) (exchanges_of N.Link link.new) result.0 }
     ensures usage { result.0 ≡ 2 → named ≡ Err BadWords }
     ensures usage_alone { result.0 ≡ 2 → (result.1 ≡ disk_a) × (input.new ≡ input.old) }
     ensures unread { IfErr named (λ _. input.new ≡ input.old) }
-    ensures client_alone { (task : Option Task) → IsNamed task named → task ≡ Some Client → result.1 ≡ disk_a }
+    ensures client_alone { (task : Option Task) (days : ℕ) → IsNamed task days named → task ≡ Some Client → result.1 ≡ disk_a }
     ensures disk_b { result.2 ≡ disk_b }
-    ensures link { (task : Option Task) → IsNamed task named → task ≢ Some Client → link.new ≡ link.old }
+    ensures link { (task : Option Task) (days : ℕ) → IsNamed task days named → task ≢ Some Client → link.new ≡ link.old }
 {
-    let task = match named {
-        Ok(task) => task,
+    let Named { task, max_jump } = match named {
+        Ok(named) => named,
         Err(WordsFault::BadWords) => {
             write_final_line(output, USAGE);
             return (2, disk_a, disk_b);
@@ -59,7 +61,9 @@ pub fn carry_out<D: Disk, S: Source, K: Sink, N: Link>(
         Err(WordsFault::OutOfMemory) => return (7, disk_a, disk_b),
     };
     match task {
-        Task::Run => run_over(alloc, disk_a, disk_b, salt, input, output),
+        Task::Run => run_over(
+            alloc, disk_a, disk_b, salt, clock, max_jump, input, output,
+        ),
         Task::Check => check_over(alloc, disk_a, disk_b, salt, input, output),
         Task::Client => {
             let status = client_status(alloc, link, input, output);
@@ -69,22 +73,24 @@ pub fn carry_out<D: Disk, S: Source, K: Sink, N: Link>(
 }
 
 // A run over the namespace of these disks.
-fn run_over<D: Disk, S: Source, K: Sink>(
+fn run_over<D: Disk, C: Clock, S: Source, K: Sink>(
     alloc: Global,
     disk_a: D,
     disk_b: D,
     salt: u64,
+    clock: &C,
+    max_jump: u32,
     input: &mut S,
     output: &mut K,
 ) -> (u8, D, D)
-    ensures done { IsCarriedOut (Some Run) salt (outside_of D.Disk S.Source K.Sink disk_a disk_b input.old output.old) (outside_of D.Disk S.Source K.Sink result.1 result.2 input.new output.new) result.0 }
+    ensures done { IsCarriedOut any_reading max_jump (Some Run) salt (outside_of D.Disk S.Source K.Sink disk_a disk_b input.old output.old) (outside_of D.Disk S.Source K.Sink result.1 result.2 input.new output.new) result.0 }
     ensures disk_b { result.2 ≡ disk_b }
 {
     let mut node = match open_node(alloc, disk_a, disk_b, salt, output) {
         Ok(node) => node,
         Err(failed) => return failed,
     };
-    let status = run_status(alloc, &mut node, input, output);
+    let status = run_status(alloc, &mut node, clock, max_jump, input, output);
     let (disk_a, disk_b) = node.close();
     (status, disk_a, disk_b)
 }
@@ -98,7 +104,7 @@ fn check_over<D: Disk, S: Source, K: Sink>(
     input: &S,
     output: &mut K,
 ) -> (u8, D, D)
-    ensures done { IsCarriedOut (Some Check) salt (outside_of D.Disk S.Source K.Sink disk_a disk_b input.now output.old) (outside_of D.Disk S.Source K.Sink result.1 result.2 input.now output.new) result.0 }
+    ensures done { (days : ℕ) → IsCarriedOut any_reading days (Some Check) salt (outside_of D.Disk S.Source K.Sink disk_a disk_b input.now output.old) (outside_of D.Disk S.Source K.Sink result.1 result.2 input.now output.new) result.0 }
     ensures disk_b { result.2 ≡ disk_b }
 {
     let node = match open_node(alloc, disk_a, disk_b, salt, output) {
@@ -110,18 +116,20 @@ fn check_over<D: Disk, S: Source, K: Sink>(
     (status, disk_a, disk_b)
 }
 
-fn run_status<D: Disk, S: Source, K: Sink>(
+fn run_status<D: Disk, C: Clock, S: Source, K: Sink>(
     alloc: Global,
     node: &mut Node<D>,
+    clock: &C,
+    max_jump: u32,
     input: &mut S,
     output: &mut K,
 ) -> u8
     requires running { node_stopped node.old ≡ None }
     requires consistent { IsConsistent (node_state node.old) }
     ensures done { (refused : Bool) → result ≡ status_by refused
-        → IsScriptRun (IsKept node.old) (node_state node.old) (outside_with S.Source K.Sink node.old input.old output.old) (outside_with S.Source K.Sink node.new input.new output.new) (node_state node.new) refused }
+        → IsScriptRun any_reading max_jump (IsKept node.old) (node_state node.old) (outside_with S.Source K.Sink node.old input.old output.old) (outside_with S.Source K.Sink node.new input.new output.new) (node_state node.new) refused }
     ensures cut { (end : RunEnd) → result ≡ status_of_end end
-        → IsCutRun (IsKept node.old) (node_state node.old) (outside_with S.Source K.Sink node.old input.old output.old) (outside_with S.Source K.Sink node.new input.new output.new) (node_state node.new) end }
+        → IsCutRun any_reading max_jump (IsKept node.old) (node_state node.old) (outside_with S.Source K.Sink node.old input.old output.old) (outside_with S.Source K.Sink node.new input.new output.new) (node_state node.new) end }
     ensures kept { IsKept node.old → result ≢ 5 → IsKept node.new }
     ensures passed { (refused : Bool) → result ≡ status_by refused
         → (S.count input.new ≡ S.count input.old) × (K.count output.new ≡ K.count output.old) × AreQuiet (node_disks node.old) (node_disks node.new) }
@@ -133,7 +141,7 @@ fn run_status<D: Disk, S: Source, K: Sink>(
     ensures honesty { SameHonesty (node_disks node.old) (node_disks node.new) }
     ensures disk_b { node_disk_b node.new ≡ node_disk_b node.old }
 {
-    match run_script(alloc, node, input, output) {
+    match run_script(alloc, node, clock, max_jump, input, output) {
         Ok(false) => 0,
         Ok(true) => 1,
         Err(end) => status_of(end),

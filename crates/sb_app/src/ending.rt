@@ -14,6 +14,8 @@ pub enum RunEnd {
     OutOfMemory,
     /// 2^40 bytes of input were taken.
     LongInput,
+    /// The next line's moment is too far ahead of the clock.
+    TimeJump,
 }
 
 /// The end of a run whose reading ended.
@@ -37,5 +39,6 @@ pub fn status_of(end: RunEnd) -> u8
         RunEnd::DiskFault => 5,
         RunEnd::OutOfMemory => 7,
         RunEnd::LongInput => 10,
+        RunEnd::TimeJump => 14,
     }
 }

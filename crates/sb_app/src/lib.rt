@@ -1,4 +1,5 @@
-//! The whole program over whatever it is handed: threads, disks, streams, a clock, doors and a link.
+//! The whole program over whatever it is handed: threads, disks, streams, a clock, doors, a link
+//! and a watcher.
 //!
 //! A run cuts its input into script lines, has each answered by a namespace over its journal
 //! (`sb_node`), and writes the reply line (`sb_lines`). A server has the requests of connections
@@ -20,6 +21,8 @@ mod client;
 mod dispatch;
 mod ending;
 mod final_line;
+mod jump;
+mod notices;
 mod opening;
 mod program;
 mod running;
@@ -28,5 +31,6 @@ mod serving;
 mod task;
 mod worked;
 
+pub use notices::{NoWatcher, Notice, Watcher};
 pub use program::{top, top_alone};
-pub use worked::worked_commits;
+pub use worked::{worked_commits, worked_jumps};

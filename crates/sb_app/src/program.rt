@@ -8,47 +8,56 @@ ghost use Rattle.sb_app.specs.Outside.{outside_of};
 ghost use Rattle.sb_app.specs.Clients.{exchanges_of};
 ghost use Rattle.sb_app.specs.Calls.{IsCall, IsNamed, task_in};
 ghost use Rattle.sb_app.specs.Calls as calls;
+ghost use Rattle.sb_app.specs.Jumps.{any_reading, max_jump_in};
 ghost use Rattle.sb_app.specs.Servings.{IsServeCall};
 
 use crate::alone::carry_out;
+use crate::notices::{Notice, Watcher};
 use crate::serving::serve_over;
-use crate::task::Task;
+use crate::task::{Named, Task};
 use sb_outside::{Clock, Disk, Door, Link, Sink, Source};
 use sb_words::{Command, WordsFault, read_form};
 use std::alloc::Global;
 use std::sync::Wait;
 use std::thread::Threads;
 
+// How many days time may jump: any number, as the words name none yet.
+const MAX_JUMP: u32 = 0;
+
 /// Does what the words name over these disks, streams and link, without waiting for anybody, and
 /// gives the disks back; to it the words of a server are none. The status of a run is 0 where all
 /// input was answered, 1 where one of the replies is a refusal too, that of a check 0; 2 for words
 /// that name nothing, 3 to 5 for a fault of the input, the output or a disk, 6 for a journal that
-/// can't be trusted, 7 for want of memory and 10 once 2^40 bytes were read; a client has also 8 for a
-/// fault of its link and 9 for a response without a reply line. The salt is that of a new journal.
+/// can't be trusted, 7 for want of memory, 10 once 2^40 bytes were read and 14 before a line that is
+/// more days ahead of the clock than the words allow; a client has also 8 for a fault of its link and
+/// 9 for a response without a reply line. The salt is that of a new journal.
 pub fn top_alone<D: Disk, C: Clock, S: Source, K: Sink, N: Link>(
     alloc: Global,
     words: &[&str],
     disk_a: D,
     disk_b: D,
     salt: u64,
-    _clock: &C,
+    clock: &C,
     input: &mut S,
     output: &mut K,
     link: &mut N,
 ) -> (u8, D, D)
-    ensures done { IsCall (task_in (map (λ w. w.now) words.now)) salt (outside_of D.Disk S.Source K.Sink disk_a disk_b input.old output.old) (outside_of D.Disk S.Source K.Sink result.1 result.2 input.new output.new) (exchanges_of N.Link link.old) (exchanges_of N.Link link.new) result.0 }
+    ensures done { IsCall any_reading (max_jump_in (map (λ w. w.now) words.now)) (task_in (map (λ w. w.now) words.now)) salt (outside_of D.Disk S.Source K.Sink disk_a disk_b input.old output.old) (outside_of D.Disk S.Source K.Sink result.1 result.2 input.new output.new) (exchanges_of N.Link link.old) (exchanges_of N.Link link.new) result.0 }
     ensures usage_alone { result.0 ≡ 2 → (result.1 ≡ disk_a) × (input.new ≡ input.old) }
     ensures client_alone { command_in (map (λ w. w.now) words.now) ≡ Some Client → result.1 ≡ disk_a }
     ensures disk_b { result.2 ≡ disk_b }
     ensures link { command_in (map (λ w. w.now) words.now) ≢ Some Client → link.new ≡ link.old }
 {
     let named = named_task(alloc, words);
-    carry_out(alloc, named, disk_a, disk_b, salt, input, output, link)
+    carry_out(
+        alloc, named, disk_a, disk_b, salt, clock, input, output, link,
+    )
 }
 
 /// Does what the words name over what it is handed. A server (`serve`) serves the connections of these
-/// doors, each door by a worker, and ends once all workers have; its status is 0, or 4 to 8 as
-/// `serve_over` says. All else is `top_alone`, and the threads, the clock and the doors aren't used.
+/// doors, each door by a worker, and ends once all workers have; its status is 0, 4 to 8 or 14 as
+/// `serve_over` says, and the watcher is told of it. All else is `top_alone`, and the threads, the
+/// doors and the watcher aren't used.
 #[tactic(auto, using(crate::proofs::Calls::unnamed))]
 pub fn top<
     T: Threads + Wait + Sync,
@@ -58,6 +67,7 @@ pub fn top<
     K: Sink,
     R: Door + Send,
     N: Link,
+    W: Watcher,
 >(
     rt: &T,
     alloc: Global,
@@ -70,13 +80,14 @@ pub fn top<
     output: &mut K,
     doors: &mut Vec<R>,
     link: &mut N,
+    watcher: &W,
 ) -> (u8, Option<(D, D)>)
 where
     R::Conn: Send,
     ensures done { command_in (map (λ w. w.now) words.now) ≢ Some Serve
-        → IfSome result.1 (λ disks. IsCall (task_in (map (λ w. w.now) words.now)) salt (outside_of D.Disk S.Source K.Sink disk_a disk_b input.old output.old) (outside_of D.Disk S.Source K.Sink disks.0 disks.1 input.new output.new) (exchanges_of N.Link link.old) (exchanges_of N.Link link.new) result.0) }
+        → IfSome result.1 (λ disks. IsCall any_reading (max_jump_in (map (λ w. w.now) words.now)) (task_in (map (λ w. w.now) words.now)) salt (outside_of D.Disk S.Source K.Sink disk_a disk_b input.old output.old) (outside_of D.Disk S.Source K.Sink disks.0 disks.1 input.new output.new) (exchanges_of N.Link link.old) (exchanges_of N.Link link.new) result.0) }
     ensures serves { command_in (map (λ w. w.now) words.now) ≡ Some Serve
-        → IfSome result.1 (λ disks. IsServeCall (λ desk. Working (ServesBy R.Conn.left R.Conn.given R.Conn.reads R.Conn.writes) R.left R.taken R.ended R.count R.out desk (connections_in (map (λ w. w.now) words.now))) R.count salt
+        → IfSome result.1 (λ disks. IsServeCall any_reading (max_jump_in (map (λ w. w.now) words.now)) (λ desk. Working (ServesBy R.Conn.left R.Conn.given R.Conn.reads R.Conn.writes) R.left R.taken R.ended R.count R.out desk (connections_in (map (λ w. w.now) words.now))) R.count salt
         (outside_of D.Disk S.Source K.Sink disk_a disk_b input.old output.old) (outside_of D.Disk S.Source K.Sink disks.0 disks.1 input.new output.new) doors.old.items doors.new.items result.0) }
     ensures usage { result.0 ≡ 2 → command_in (map (λ w. w.now) words.now) ≡ None }
     ensures usage_alone { result.0 ≡ 2 → (result.1 ≡ Some (disk_a, disk_b)) × (input.new ≡ input.old) }
@@ -96,6 +107,7 @@ where
                 disk_a,
                 disk_b,
                 salt,
+                clock,
                 input,
                 output,
                 link,
@@ -114,15 +126,22 @@ where
             output,
             doors,
             form.connections,
+            MAX_JUMP,
+            watcher,
         );
+        watcher.tell(Notice::Ended { status });
         return (status, Some((disk_a, disk_b)));
     };
     let (status, disk_a, disk_b) = carry_out(
         alloc,
-        Ok(task),
+        Ok(Named {
+            task,
+            max_jump: MAX_JUMP,
+        }),
         disk_a,
         disk_b,
         salt,
+        clock,
         input,
         output,
         link,
@@ -142,15 +161,18 @@ fn task_of(command: Command) -> Option<Task>
 }
 
 // The task that these words name, without waiting for anybody.
-fn named_task(alloc: Global, words: &[&str]) -> Result<Task, WordsFault>
-    ensures { IsNamed (task_in (map (λ w. w.now) words.now)) result }
+fn named_task(alloc: Global, words: &[&str]) -> Result<Named, WordsFault>
+    ensures { IsNamed (task_in (map (λ w. w.now) words.now)) (max_jump_in (map (λ w. w.now) words.now)) result }
 {
     let form = match read_form(alloc, words) {
         Ok(form) => form,
         Err(fault) => return Err(fault),
     };
     match task_of(form.command) {
-        Some(task) => Ok(task),
+        Some(task) => Ok(Named {
+            task,
+            max_jump: MAX_JUMP,
+        }),
         None => Err(WordsFault::BadWords),
     }
 }

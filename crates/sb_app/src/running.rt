@@ -4,6 +4,7 @@ ghost use Rattle.sb_outside.specs.Causes.{RoseByOne};
 ghost use Rattle.sb_machine.specs.Consistent.{IsConsistent};
 ghost use Rattle.sb_journal.specs.Disks.{HaveFailed, AreQuiet, SameHonesty};
 ghost use Rattle.sb_node.specs.Nodes.{node_state, node_stopped, node_disk_b, node_disks, IsKept};
+ghost use Rattle.sb_app.specs.Jumps.{any_reading};
 ghost use Rattle.sb_app.specs.Nodes.{outside_with};
 ghost use Rattle.sb_app.specs.Runs.{IsScriptRun};
 ghost use Rattle.sb_app.specs.Endings.{IsCutRun};
@@ -11,10 +12,11 @@ ghost use Rattle.sb_app.specs.declared.ending.RunEnd.TheVariants.{ReadFault, Dis
 
 use crate::dispatch::dispatch_line;
 use crate::ending::{RunEnd, end_of};
+use crate::jump::{hold_line, tell_jump};
 use crate::script_line::parse_line;
 use sb_input::Reader;
 use sb_node::Node;
-use sb_outside::{Disk, Sink, Source};
+use sb_outside::{Clock, Disk, Sink, Source};
 use std::alloc::Global;
 
 fn either(a: bool, b: bool) -> bool
@@ -24,17 +26,20 @@ fn either(a: bool, b: bool) -> bool
 }
 
 /// Answers each line of the input; at its end it says whether a line was refused. `Err` says why it
-/// ended before.
-pub fn run_script<D: Disk, S: Source, K: Sink>(
+/// ended before: with `TimeJump` before a line whose moment is more than `max_jump` days ahead of the
+/// clock, by 0 days before none.
+pub fn run_script<D: Disk, C: Clock, S: Source, K: Sink>(
     alloc: Global,
     node: &mut Node<D>,
+    clock: &C,
+    max_jump: u32,
     input: &mut S,
     output: &mut K,
 ) -> Result<bool, RunEnd>
     requires running { node_stopped node.old ≡ None }
     requires consistent { IsConsistent (node_state node.old) }
-    ensures done { IfOk result (IsScriptRun (IsKept node.old) (node_state node.old) (outside_with S.Source K.Sink node.old input.old output.old) (outside_with S.Source K.Sink node.new input.new output.new) (node_state node.new)) }
-    ensures cut { IfErr result (IsCutRun (IsKept node.old) (node_state node.old) (outside_with S.Source K.Sink node.old input.old output.old) (outside_with S.Source K.Sink node.new input.new output.new) (node_state node.new)) }
+    ensures done { IfOk result (IsScriptRun any_reading max_jump (IsKept node.old) (node_state node.old) (outside_with S.Source K.Sink node.old input.old output.old) (outside_with S.Source K.Sink node.new input.new output.new) (node_state node.new)) }
+    ensures cut { IfErr result (IsCutRun any_reading max_jump (IsKept node.old) (node_state node.old) (outside_with S.Source K.Sink node.old input.old output.old) (outside_with S.Source K.Sink node.new input.new output.new) (node_state node.new)) }
     ensures kept { IsKept node.old → result ≢ Err DiskFault → IsKept node.new }
 
     // One fault more was counted of what ended the run, and none of the others.
@@ -59,6 +64,15 @@ pub fn run_script<D: Disk, S: Source, K: Sink>(
         let Ok(line) = parse_line(alloc, partial) else {
             return Err(RunEnd::OutOfMemory);
         };
+        match hold_line(clock, max_jump, &line) {
+            Ok(()) => {}
+            Err(jump) => {
+                let Ok(()) = tell_jump(alloc, jump, output) else {
+                    return Err(RunEnd::OutOfMemory);
+                };
+                return Err(RunEnd::TimeJump);
+            }
+        }
         let was_refused = dispatch_line(alloc, node, line, output)?;
         refused = either(refused, was_refused);
         if reader.is_done() {

@@ -5,10 +5,13 @@ ghost use Rattle.sb_desk.specs.Desks.{value_of};
 ghost use Rattle.sb_server.specs.Serves.{Working};
 ghost use Rattle.sb_server.specs.Works.{ServesBy};
 ghost use Rattle.sb_app.specs.Checks.{IsLineTold};
+ghost use Rattle.sb_app.specs.Jumps.{any_reading};
 ghost use Rattle.sb_app.specs.Outside.{Input, output_of};
 ghost use Rattle.sb_app.specs.Servings.{IsServeCall, serve_status};
 ghost use Rattle.sb_app.specs.Servings as servings;
 
+use crate::jump::{hold_server, jump_status};
+use crate::notices::Watcher;
 use crate::opening::open_node;
 use sb_desk::{Desk, NewFault, Report};
 use sb_node::Node;
@@ -22,8 +25,9 @@ use std::thread::Threads;
 /// Serves the connections of these doors, at most so many each, over the namespace of these disks, and
 /// tells the numbers of its history once all workers have ended. The status is 0; 5 for a disk that
 /// failed, 6 for a journal that can't be trusted, 8 for a door that failed, 7 for want of memory and 4
-/// for a fault of the output: the first of 5, 8, 7 and 4 where several came. The salt is that of a new
-/// journal.
+/// for a fault of the output: the first of 5, 8, 7 and 4 where several came. It is 14, and no door is
+/// used, where behind the opening the clock reads more than `max_jump` days past the moment of the
+/// namespace, by 0 never. The salt is that of a new journal.
 #[tactic(auto, using(crate::proofs::Servings::unserved_at_once))]
 pub fn serve_over<
     T: Threads + Wait + Sync,
@@ -31,6 +35,7 @@ pub fn serve_over<
     C: Clock + Sync,
     K: Sink,
     R: Door + Send,
+    W: Watcher,
 >(
     rt: &T,
     alloc: Global,
@@ -41,10 +46,12 @@ pub fn serve_over<
     output: &mut K,
     doors: &mut Vec<R>,
     most: u64,
+    max_jump: u32,
+    watcher: &W,
 ) -> (u8, D, D)
 where
     R::Conn: Send,
-    ensures { (input : Input) → IsServeCall (λ desk. Working (ServesBy R.Conn.left R.Conn.given R.Conn.reads R.Conn.writes) R.left R.taken R.ended R.count R.out desk most) R.count salt
+    ensures { (input : Input) → IsServeCall any_reading max_jump (λ desk. Working (ServesBy R.Conn.left R.Conn.given R.Conn.reads R.Conn.writes) R.left R.taken R.ended R.count R.out desk most) R.count salt
         (record { input = input; output = output_of K.Sink output.old; disks = disks_of D.Disk disk_a disk_b }) (record { input = input; output = output_of K.Sink output.new; disks = disks_of D.Disk result.1 result.2 })
         doors.old.items doors.new.items result.0 }
 {
@@ -58,6 +65,15 @@ where
             return failed;
         }
     };
+    match hold_server(clock, max_jump, node.summary(), watcher) {
+        Ok(()) => {}
+        Err(jump) => {
+            drop(routes);
+            let status = jump_status(alloc, jump, output);
+            let (disk_a, disk_b) = node.close();
+            return (status, disk_a, disk_b);
+        }
+    }
     let (desk, mut passes) = match Desk::new(alloc, node, at_least_one(doors.len())) {
         Ok(opened) => opened,
         Err(fault) => {

@@ -9,3 +9,11 @@ pub enum Task {
     /// Have a server answer the script lines of the input.
     Client,
 }
+
+/// What words name that name a task.
+#[derive(Clone, Copy)]
+pub struct Named {
+    pub task: Task,
+    /// How many days, up to 100,000, a line of a run may be ahead of the clock; any number by 0.
+    pub max_jump: u32,
+}

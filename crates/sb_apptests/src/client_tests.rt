@@ -1,6 +1,6 @@
 // Runs that a server answers, over a link in memory: what is read, the responses that the link gives, and
 // the lines that must be written.
-use sb_app::top;
+use sb_app::{NoWatcher, top};
 use sb_outside::{Bytes, MemDisk, MemLink, MemSink, MemSource, NoDoor, StepClock};
 use std::sync::Wait;
 use std::test::Fail;
@@ -125,6 +125,7 @@ fn answers<T: Threads + Wait + Sync>(
         &mut output,
         &mut doors,
         &mut link,
+        &NoWatcher,
     );
     if output.bytes() != case.told.as_bytes() {
         return Err(Fail::from("other lines were written"));

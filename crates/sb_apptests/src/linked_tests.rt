@@ -9,7 +9,7 @@ ghost use Rattle.sb_desk.specs.Lists.{Each, IsEnd};
 
 use crate::server_tests::SERVE;
 use crate::tests::{ONE_EVENT, SALT};
-use sb_app::{top, top_alone};
+use sb_app::{NoWatcher, top, top_alone};
 use sb_desk::{Desk, NewFault, Pass, Served};
 use sb_lines::{read_line, reply_line};
 use sb_machine::{Answer, TimedCall};
@@ -61,6 +61,7 @@ fn served<T: Threads + Wait + Sync>(rt: &HostRuntime, threads: &T) -> Result<Vec
         &mut output,
         &mut doors,
         &mut NoLink::new(),
+        &NoWatcher,
     );
     let mut replies = Vec::new(alloc);
     if let Some(door) = doors.first() {

@@ -2,7 +2,7 @@
 ghost use Rattle.std.specs.Prelude.{◌≤◌};
 
 use crate::tests::{ONE_EVENT, SALT};
-use sb_app::top;
+use sb_app::{NoWatcher, top};
 use sb_outside::{MemConn, MemDisk, MemDoor, MemSink, MemSource, NoLink, StepClock};
 use std::sync::Wait;
 use std::test::Fail;
@@ -183,6 +183,7 @@ fn served<T: Threads + Wait + Sync>(
         output,
         doors,
         &mut NoLink::new(),
+        &NoWatcher,
     );
     if disks.is_none() {
         return Err(Fail::from("the disks come back"));

@@ -1,6 +1,6 @@
 // Runs over memory whose disk, input or output fails. What is read and what answers it are rows of two
 // lines.
-use sb_app::top;
+use sb_app::{NoWatcher, top};
 use sb_outside::{MemDisk, MemSink, MemSource, NoDoor, NoLink, StepClock};
 use std::sync::Wait;
 use std::test::Fail;
@@ -148,6 +148,7 @@ fn ran<T: Threads + Wait + Sync>(
         &mut output,
         &mut doors,
         &mut NoLink::new(),
+        &NoWatcher,
     );
     if output.bytes() != case.told {
         return Err(Fail::from("other lines were written"));

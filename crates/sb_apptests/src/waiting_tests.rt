@@ -3,7 +3,7 @@ ghost use Rattle.std.specs.Prelude.{◌≡◌, ◌≤◌, None};
 
 use crate::server_tests::SERVE;
 use crate::tests::{ONE_EVENT, SALT};
-use sb_app::top;
+use sb_app::{NoWatcher, top};
 use sb_outside::{
     Clock, Conn, Door, DoorFault, MemDisk, MemSink, MemSource, NoLink, ReadFault, WriteFault,
 };
@@ -169,6 +169,7 @@ fn two_connections_at_once(rt: HostRuntime) -> Result<(), Fail> {
         &mut output,
         &mut doors,
         &mut NoLink::new(),
+        &NoWatcher,
     );
     assert_eq!(rt; status, 0);
     let (Some(receiving), Some(sending)) = (doors.first(), doors.get(1)) else {

@@ -11,6 +11,7 @@
 #![tactic(auto)]
 
 mod outside;
+mod watcher;
 
 use std::process::ExitCode;
 

@@ -1,4 +1,5 @@
 // Makes the real disks, streams and clock, and calls the top.
+use crate::watcher::Printing;
 use sb_app::top;
 use sb_outside::{
     Dialing, Disk, Door, FileDisk, Link, Listening, MemDisk, NoDoor, NoLink, Reading, SystemClock,
@@ -95,6 +96,7 @@ where
         &mut Writing::new(rt.stdout()),
         doors,
         link,
+        &Printing::new(rt),
     );
     drop(disks);
     status

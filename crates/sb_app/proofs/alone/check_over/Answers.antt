@@ -3,6 +3,7 @@ use Rattle.sb_journal.specs.Disks.{disks_of}
 use Rattle.sb_engine.specs.Engines.{summary_of}
 use Rattle.sb_node.specs.Nodes.{node_state, node_disk_a, node_disks, node_last, IsKept}
 use Rattle.sb_app.specs.Checks.{check_line, IsLineTold}
+use Rattle.sb_app.specs.Jumps.{any_reading}
 use Rattle.sb_app.specs.Outside.{output_of, outside_of}
 use Rattle.sb_app.specs.Tops.{IsCarriedOut}
 use Rattle.sb_app.specs.declared.task.Task.TheVariants.{Check}
@@ -11,19 +12,19 @@ use Rattle.sb_app.proofs.Carried.{not_opened, check_over}
 use Rattle.sb_app.proofs.alone.check_over.Goals as goal
 
 pub returns-in-Err-clause-done : goal.returns-in-Err-clause-done
-returns-in-Err-clause-done g c =
+returns-in-Err-clause-done g c days =
     let was = outside_of g.D.Disk g.S.Source g.K.Sink c.args.disk_a c.args.disk_b c.args.input.now c.args.output.now in
     let failed = c.in-Err.failed in
     let fails = c.in-Err.ensures.failed in
-    not_opened Check c.args.salt was (disks_of g.D.Disk failed.1 failed.2) (output_of g.K.Sink c.open_node.new.output) fails.0 failed.0 fails.1
+    not_opened any_reading days Check c.args.salt was (disks_of g.D.Disk failed.1 failed.2) (output_of g.K.Sink c.open_node.new.output) fails.0 failed.0 fails.1
 
 pub returns-clause-done : goal.returns-clause-done
-returns-clause-done g c =
+returns-clause-done g c days =
     let was = outside_of g.D.Disk g.S.Source g.K.Sink c.args.disk_a c.args.disk_b c.args.input.now c.args.output.now in
     let node = c.in-Ok.node in
     let output = c.check_status-status.new.output in
     let status = c.check_status-status.result in
     let told = subst (λ o. IsLineTold (check_line (summary_of (node_state node) (node_last node))) (output_of g.K.Sink o) (output_of g.K.Sink output) status) c.in-Ok.ensures.unsaid c.check_status-status.ensures in
-    let over = check_over (IsKept node) c.args.salt (node_last node) was (node_disks node) (output_of g.K.Sink output) (node_state node) status c.in-Ok.ensures.opened (kept_numbers node c.args.salt) told in
-    subst (λ a. IsCarriedOut (Some Check) c.args.salt was (outside_of g.D.Disk g.S.Source g.K.Sink a c.close-disk_a.result.1 c.args.input.now output) status) (sym c.close-disk_a.ensures.disk_a)
-    (subst (λ b. IsCarriedOut (Some Check) c.args.salt was (outside_of g.D.Disk g.S.Source g.K.Sink (node_disk_a node) b c.args.input.now output) status) (sym c.close-disk_a.ensures.disk_b) over)
+    let over = check_over any_reading days (IsKept node) c.args.salt (node_last node) was (node_disks node) (output_of g.K.Sink output) (node_state node) status c.in-Ok.ensures.opened (kept_numbers node c.args.salt) told in
+    subst (λ a. IsCarriedOut any_reading days (Some Check) c.args.salt was (outside_of g.D.Disk g.S.Source g.K.Sink a c.close-disk_a.result.1 c.args.input.now output) status) (sym c.close-disk_a.ensures.disk_a)
+    (subst (λ b. IsCarriedOut any_reading days (Some Check) c.args.salt was (outside_of g.D.Disk g.S.Source g.K.Sink (node_disk_a node) b c.args.input.now output) status) (sym c.close-disk_a.ensures.disk_b) over)

@@ -1,6 +1,7 @@
 use Rattle.std.proofs.Common.{Some, sym, subst}
 use Rattle.sb_journal.specs.Disks.{disks_of}
 use Rattle.sb_node.specs.Nodes.{node_state, node_disk_a, node_disks, IsKept}
+use Rattle.sb_app.specs.Jumps.{any_reading}
 use Rattle.sb_app.specs.Outside.{output_of, outside_of}
 use Rattle.sb_app.specs.Nodes.{outside_with}
 use Rattle.sb_app.specs.Tops.{IsCarriedOut}
@@ -14,7 +15,7 @@ returns-in-Err-clause-done g c =
     let was = outside_of g.D.Disk g.S.Source g.K.Sink c.args.disk_a c.args.disk_b c.args.input.now c.args.output.now in
     let failed = c.in-Err.failed in
     let fails = c.in-Err.ensures.failed in
-    not_opened Run c.args.salt was (disks_of g.D.Disk failed.1 failed.2) (output_of g.K.Sink c.open_node.new.output) fails.0 failed.0 fails.1
+    not_opened any_reading c.args.max_jump Run c.args.salt was (disks_of g.D.Disk failed.1 failed.2) (output_of g.K.Sink c.open_node.new.output) fails.0 failed.0 fails.1
 
 pub returns-clause-done : goal.returns-clause-done
 returns-clause-done g c =
@@ -26,7 +27,7 @@ returns-clause-done g c =
     let now = outside_with g.S.Source g.K.Sink last input output in
     let status = c.run_status-status.result in
     let ran = c.run_status-status.ensures in
-    let ended : IsEnded (IsKept first) c.args.salt (node_state first) (outside_with g.S.Source g.K.Sink first c.args.input.now c.open_node.new.output) now (node_state last) status =
+    let ended : IsEnded any_reading c.args.max_jump (IsKept first) c.args.salt (node_state first) (outside_with g.S.Source g.K.Sink first c.args.input.now c.open_node.new.output) now (node_state last) status =
     record {
       done = ran.done;
       cut = ran.cut;
@@ -41,7 +42,7 @@ returns-clause-done g c =
       honesty = ran.honesty;
     }
     in
-    let from_here = subst (λ o. IsEnded (IsKept first) c.args.salt (node_state first) (outside_with g.S.Source g.K.Sink first c.args.input.now o) now (node_state last) status) c.in-Ok.ensures.unsaid ended in
-    let over = run_over (IsKept first) c.args.salt was now (node_disks first) (node_state first) (node_state last) status c.in-Ok.ensures.opened from_here in
-    subst (λ a. IsCarriedOut (Some Run) c.args.salt was (outside_of g.D.Disk g.S.Source g.K.Sink a c.close-disk_a.result.1 input output) status) (sym c.close-disk_a.ensures.disk_a)
-    (subst (λ b. IsCarriedOut (Some Run) c.args.salt was (outside_of g.D.Disk g.S.Source g.K.Sink (node_disk_a last) b input output) status) (sym c.close-disk_a.ensures.disk_b) over)
+    let from_here = subst (λ o. IsEnded any_reading c.args.max_jump (IsKept first) c.args.salt (node_state first) (outside_with g.S.Source g.K.Sink first c.args.input.now o) now (node_state last) status) c.in-Ok.ensures.unsaid ended in
+    let over = run_over any_reading c.args.max_jump (IsKept first) c.args.salt was now (node_disks first) (node_state first) (node_state last) status c.in-Ok.ensures.opened from_here in
+    subst (λ a. IsCarriedOut any_reading c.args.max_jump (Some Run) c.args.salt was (outside_of g.D.Disk g.S.Source g.K.Sink a c.close-disk_a.result.1 input output) status) (sym c.close-disk_a.ensures.disk_a)
+    (subst (λ b. IsCarriedOut any_reading c.args.max_jump (Some Run) c.args.salt was (outside_of g.D.Disk g.S.Source g.K.Sink (node_disk_a last) b input output) status) (sym c.close-disk_a.ensures.disk_b) over)

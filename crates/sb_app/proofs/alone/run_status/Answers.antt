@@ -1,5 +1,6 @@
 use Rattle.std.proofs.Common.{sym, ◌∙◌, ap}
 use Rattle.sb_node.specs.Nodes.{node_state, IsKept}
+use Rattle.sb_app.specs.Jumps.{any_reading}
 use Rattle.sb_app.specs.Nodes.{outside_with}
 use Rattle.sb_app.specs.declared.ending.RunEnd.{RunEnd}
 use Rattle.sb_app.specs.declared.ending.RunEnd.TheVariants.{DiskFault}
@@ -11,7 +12,7 @@ pub returns-in-Err-clause-cut : goal.returns-in-Err-clause-cut
 returns-in-Err-clause-cut g c end is =
     let was = outside_with g.S.Source g.K.Sink c.args.node.now c.args.input.now c.args.output.now in
     let now = outside_with g.S.Source g.K.Sink c.run_script.new.node c.run_script.new.input c.run_script.new.output in
-    named_end (λ (e : RunEnd). IsCutRun (IsKept c.args.node.now) (node_state c.args.node.now) was now (node_state c.run_script.new.node) e) c.in-Err.end end c.status_of.result c.status_of.ensures c.in-Err.ensures.cut is
+    named_end (λ (e : RunEnd). IsCutRun any_reading c.args.max_jump (IsKept c.args.node.now) (node_state c.args.node.now) was now (node_state c.run_script.new.node) e) c.in-Err.end end c.status_of.result c.status_of.ensures c.in-Err.ensures.cut is
 
 pub returns-in-Err-clause-read_quiet : goal.returns-in-Err-clause-read_quiet
 returns-in-Err-clause-read_quiet g c other = c.in-Err.ensures.read_quiet (λ is. other (c.status_of.ensures ∙ ap status_of_end is))

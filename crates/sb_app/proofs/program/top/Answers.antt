@@ -3,6 +3,7 @@ use Rattle.sb_words.specs.Words.{connections_in}
 use Rattle.sb_server.specs.Serves.{Working}
 use Rattle.sb_server.specs.Works.{ServesBy}
 use Rattle.sb_app.specs.Calls.{task_in}
+use Rattle.sb_app.specs.Jumps.{any_reading, max_jump_in}
 use Rattle.sb_app.specs.Outside.{input_of, outside_of}
 use Rattle.sb_app.specs.Servings.{IsServeCall}
 use Rattle.sb_app.proofs.Calls.{most_in, other_task, unnamed}
@@ -12,12 +13,12 @@ use Rattle.sb_app.proofs.program.top.Goals as goal
 pub returns-in-Err-clause-serves : goal.returns-in-Err-clause-serves
 returns-in-Err-clause-serves g c serves =
     let words : List (List ℕ) = map (λ w. w.now) c.args.words.now in
-    unread_serve (λ desk. Working (ServesBy g.R.Conn.Conn.left g.R.Conn.Conn.given g.R.Conn.Conn.reads g.R.Conn.Conn.writes) g.R.Door.left g.R.Door.taken g.R.Door.ended g.R.Door.count g.R.Door.out desk (connections_in words)) g.R.Door.count words c.in-Err.fault c.args.salt _ _ _ _ c.args.doors.now.items _ c.in-Err.ensures.bad serves c.carry_out-status.ensures.done c.carry_out-status.ensures.usage
+    unread_serve any_reading (max_jump_in words) (λ desk. Working (ServesBy g.R.Conn.Conn.left g.R.Conn.Conn.given g.R.Conn.Conn.reads g.R.Conn.Conn.writes) g.R.Door.left g.R.Door.taken g.R.Door.ended g.R.Door.count g.R.Door.out desk (connections_in words)) g.R.Door.count words c.in-Err.fault c.args.salt _ _ _ _ c.args.doors.now.items _ c.in-Err.ensures.bad serves c.carry_out-status.ensures.done c.carry_out-status.ensures.usage
 
 pub returns-in-Err-clause-link : goal.returns-in-Err-clause-link
 returns-in-Err-clause-link g c other =
     let words : List (List ℕ) = map (λ w. w.now) c.args.words.now in
-    c.carry_out-status.ensures.link (task_in words) (unnamed words c.in-Err.fault c.in-Err.ensures.bad) (other_task words other)
+    c.carry_out-status.ensures.link (task_in words) (max_jump_in words) (unnamed words (max_jump_in words) c.in-Err.fault c.in-Err.ensures.bad) (other_task words other)
 
 pub returns-in-Err-clause-input : goal.returns-in-Err-clause-input
 returns-in-Err-clause-input g c serves = c.carry_out-status.ensures.unread
@@ -27,7 +28,7 @@ returns-in_default-clause-serves g c serves =
     let words : List (List ℕ) = map (λ w. w.now) c.args.words.now in
     let was = outside_of g.D.Disk g.S.Source g.K.Sink c.args.disk_a c.args.disk_b c.args.input.now c.args.output.now in
     let now = outside_of g.D.Disk g.S.Source g.K.Sink c.serve_over-status.result.1 c.serve_over-status.result.2 c.args.input.now c.serve_over-status.new.output in
-    subst (λ most. IsServeCall (λ desk. Working (ServesBy g.R.Conn.Conn.left g.R.Conn.Conn.given g.R.Conn.Conn.reads g.R.Conn.Conn.writes) g.R.Door.left g.R.Door.taken g.R.Door.ended g.R.Door.count g.R.Door.out desk most) g.R.Door.count c.args.salt was now c.args.doors.now.items c.serve_over-status.new.doors.items c.serve_over-status.result.0)
+    subst (λ most. IsServeCall any_reading (max_jump_in words) (λ desk. Working (ServesBy g.R.Conn.Conn.left g.R.Conn.Conn.given g.R.Conn.Conn.reads g.R.Conn.Conn.writes) g.R.Door.left g.R.Door.taken g.R.Door.ended g.R.Door.count g.R.Door.out desk most) g.R.Door.count c.args.salt was now c.args.doors.now.items c.serve_over-status.new.doors.items c.serve_over-status.result.0)
     (most_in words c.in-Ok.form c.in-Ok.ensures.ok) (c.serve_over-status.ensures (input_of g.S.Source c.args.input.now))
 
 pub returns-in_default-clause-usage : goal.returns-in_default-clause-usage

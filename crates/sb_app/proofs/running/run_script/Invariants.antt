@@ -3,6 +3,7 @@ use Rattle.sb_machine.specs.Consistent.{IsConsistent}
 use Rattle.sb_journal.specs.Disks.{AreQuiet, SameHonesty}
 use Rattle.sb_node.specs.Nodes.{node_state, node_stopped, node_disk_b, node_disks, IsKept}
 use Rattle.sb_input.specs.Limits.{max_input}
+use Rattle.sb_app.specs.Jumps.{any_reading, AllWithin}
 use Rattle.sb_app.specs.Lines.{script_lines}
 use Rattle.sb_input.specs.Readers.{work_of}
 use Rattle.sb_app.specs.Runs.{RunsSoFar, FollowLines}
@@ -13,6 +14,7 @@ abbrev pub invariant-lines : goal.invariant-lines
 invariant-lines g l = record {
   so_far : RunsSoFar (node_state l.fn.node) (g.S.Source.left l.fn.input) (g.S.Source.left l.input) (g.K.Sink.given l.fn.output) (g.K.Sink.given l.output) l.reader (node_state l.node) l.refused;
   moments : IsKept l.fn.node → FollowLines (node_state l.fn.node) (script_lines so_far.done) (node_disks l.fn.node) (node_disks l.node);
+  within : AllWithin any_reading l.fn.max_jump (script_lines so_far.done);
   fits : l.reader.taken < max_input;
   running : node_stopped l.node ≡ None;
   consistent : IsConsistent (node_state l.node);

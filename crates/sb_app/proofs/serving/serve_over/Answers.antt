@@ -1,6 +1,6 @@
 use denote.Exit as exit
 use denote.Param.Send.{arg_send, param_send}
-use Rattle.std.proofs.Common.{ap, refl, subst, sym, ◌∙◌}
+use Rattle.std.proofs.Common.{ℕ, ap, refl, subst, sym, ◌∙◌}
 use Rattle.std.specs.Prelude.{is_some}
 use Rattle.sb_journal.specs.Disks.{disks_of}
 use Rattle.sb_node.specs.Nodes.{node_disk_a, node_disk_b, node_disks, node_state, node_stopped, IsKept}
@@ -11,10 +11,14 @@ use Rattle.sb_server.specs.Serves.{Worker, Working}
 use Rattle.sb_server.specs.Works.{ServesBy}
 use Rattle.sb_app.specs.Checks.{IsLineTold}
 use Rattle.sb_app.specs.Openings.{IsOpened}
+use Rattle.sb_engine.specs.declared.summary.Summary.{Summary}
+use Rattle.sb_machine.specs.declared.state.State.{State}
+use Rattle.sb_app.specs.Held.{IsJumpStatus, IsOvertaken}
+use Rattle.sb_app.specs.Jumps.{any_reading, IsSettled}
 use Rattle.sb_app.specs.Outside.{Outside, output_of}
 use Rattle.sb_app.specs.Servings.{IsServeCall, passes_for, report_line, serve_status}
 use Rattle.sb_node.proofs.Crossing.{node_send}
-use Rattle.sb_app.proofs.Servings.{IsClosed, IsWorked, closed_node, each_of, failed_call, served_call, unserved_call}
+use Rattle.sb_app.proofs.Servings.{IsClosed, IsWorked, closed_node, each_of, failed_call, jumped_call, served_call, unserved_call}
 use Rattle.sb_app.proofs.Whole.{kept_recovers}
 use Rattle.sb_app.proofs.serving.serve_over.Goals as goal
 
@@ -23,7 +27,7 @@ returns-in-Err g c input =
     let was : Outside = record { input = input; output = output_of g.K.Sink c.args.output.now; disks = disks_of g.D.Disk c.args.disk_a c.args.disk_b } in
     let failed = c.in-Err.failed in
     let fails = c.in-Err.ensures.failed in
-    failed_call _ g.R.Door.count c.args.salt was (disks_of g.D.Disk failed.1 failed.2) (output_of g.K.Sink c.open_node.new.output) c.args.doors.now.items fails.0 failed.0 fails.1
+    failed_call any_reading c.args.max_jump _ g.R.Door.count c.args.salt was (disks_of g.D.Disk failed.1 failed.2) (output_of g.K.Sink c.open_node.new.output) c.args.doors.now.items fails.0 failed.0 fails.1
 
 pub returns-in-Err-new : goal.returns-in-Err-new
 returns-in-Err-new g c input =
@@ -32,10 +36,10 @@ returns-in-Err-new g c input =
     let doors = c.args.doors.now.items in
     let node = c.in-Ok-open_node.node in
     let back = c.node_back.ensures ∙ c.in-Err-new.ensures.value in
-    let over = unserved_call works g.R.Door.count (IsKept node) c.args.salt was (node_disks node) doors (node_state node) c.in-Ok-open_node.ensures.opened (kept_recovers node c.args.salt) in
-    let unsaid = subst (λ o. IsServeCall works g.R.Door.count c.args.salt was (record was { output = output_of g.K.Sink o; disks = node_disks node }) doors doors 7) (sym c.in-Ok-open_node.ensures.unsaid) over in
-    subst (λ a. IsServeCall works g.R.Door.count c.args.salt was (record was { output = output_of g.K.Sink c.open_node.new.output; disks = disks_of g.D.Disk a c.close-disk_a.result.1 }) doors doors 7) (sym (c.close-disk_a.ensures.disk_a ∙ ap node_disk_a back))
-    (subst (λ b. IsServeCall works g.R.Door.count c.args.salt was (record was { output = output_of g.K.Sink c.open_node.new.output; disks = disks_of g.D.Disk (node_disk_a node) b }) doors doors 7) (sym (c.close-disk_a.ensures.disk_b ∙ ap node_disk_b back)) unsaid)
+    let over = unserved_call any_reading c.args.max_jump works g.R.Door.count (IsKept node) c.args.salt was (node_disks node) doors (node_state node) c.in-Ok-open_node.ensures.opened (kept_recovers node c.args.salt) in
+    let unsaid = subst (λ o. IsServeCall any_reading c.args.max_jump works g.R.Door.count c.args.salt was (record was { output = output_of g.K.Sink o; disks = node_disks node }) doors doors 7) (sym c.in-Ok-open_node.ensures.unsaid) over in
+    subst (λ a. IsServeCall any_reading c.args.max_jump works g.R.Door.count c.args.salt was (record was { output = output_of g.K.Sink c.open_node.new.output; disks = disks_of g.D.Disk a c.close-disk_a-in-Err-new.result.1 }) doors doors 7) (sym (c.close-disk_a-in-Err-new.ensures.disk_a ∙ ap node_disk_a back))
+    (subst (λ b. IsServeCall any_reading c.args.max_jump works g.R.Door.count c.args.salt was (record was { output = output_of g.K.Sink c.open_node.new.output; disks = disks_of g.D.Disk (node_disk_a node) b }) doors doors 7) (sym (c.close-disk_a-in-Err-new.ensures.disk_b ∙ ap node_disk_b back)) unsaid)
 
 pub serve-ending-requires-send-V : goal.serve-ending-requires-send-V
 serve-ending-requires-send-V g c κs within = param_send 0 _ (arg_send _ exit.no _ (node_send _ g.D.Disk c.type_bounds.send-D))
@@ -65,6 +69,8 @@ returns g c input =
     let now : Outside = record { input = input; output = output_of g.K.Sink output; disks = node_disks last } in
     let from_here = same_found (opened_disks first) (opened_disks last) (ok.2 ∙ new.desk.1) ∙ opened.origin in
     let opening = subst (IsOpened (IsKept first) c.args.salt was.disks (node_disks first)) (sym new.desk.0) opened.opened in
+    let moment = ap (λ (o : Summary). o.now) c.summary.ensures.numbers ∙ ap (λ (s : State). s.now) (sym new.desk.0) in
+    let settled = subst (λ (m : ℕ). IsSettled any_reading c.args.max_jump m) moment c.in-Ok-hold_server.ensures.ok in
     let closed = subst (λ d. IsClosed c.args.salt desk.start ok.0 d (node_disks last) stopped) from_here (closed_node last c.args.salt desk.start ok.0 ok.1) in
     let origin = new.desk.1 ∙ ap origin_of opened.origin in
     let worked : IsWorked works ok.0 desk passes passes_now doors doors_now ending =
@@ -78,8 +84,24 @@ returns g c input =
     }
     in
     let line = subst (λ o. IsLineTold (report_line report) (output_of g.K.Sink o) (output_of g.K.Sink output) told) opened.unsaid c.tell_report-told.ensures in
-    let over = served_call works g.R.Door.count (IsKept first) c.args.salt was now (node_disks first) doors doors_now ok.0 desk passes passes_now ending report stopped told (λ w does. does.stops.faults) opening origin worked ok.3 closed line refl in
+    let over = served_call any_reading c.args.max_jump works g.R.Door.count (IsKept first) c.args.salt was now (node_disks first) doors doors_now ok.0 desk passes passes_now ending report stopped told (λ w does. does.stops.faults) opening settled origin worked ok.3 closed line refl in
     let status = c.status_of-status.ensures ∙ ap (λ b. serve_status b ending told) c.stopped.ensures in
-    let told_so = subst (IsServeCall works g.R.Door.count c.args.salt was now doors doors_now) (sym status) over in
-    subst (λ a. IsServeCall works g.R.Door.count c.args.salt was (record now { disks = disks_of g.D.Disk a c.close-disk_a-2.result.1 }) doors doors_now c.status_of-status.result) (sym c.close-disk_a-2.ensures.disk_a)
-    (subst (λ b. IsServeCall works g.R.Door.count c.args.salt was (record now { disks = disks_of g.D.Disk (node_disk_a last) b }) doors doors_now c.status_of-status.result) (sym c.close-disk_a-2.ensures.disk_b) told_so)
+    let told_so = subst (IsServeCall any_reading c.args.max_jump works g.R.Door.count c.args.salt was now doors doors_now) (sym status) over in
+    subst (λ a. IsServeCall any_reading c.args.max_jump works g.R.Door.count c.args.salt was (record now { disks = disks_of g.D.Disk a c.close-disk_a-2.result.1 }) doors doors_now c.status_of-status.result) (sym c.close-disk_a-2.ensures.disk_a)
+    (subst (λ b. IsServeCall any_reading c.args.max_jump works g.R.Door.count c.args.salt was (record now { disks = disks_of g.D.Disk (node_disk_a last) b }) doors doors_now c.status_of-status.result) (sym c.close-disk_a-2.ensures.disk_b) told_so)
+
+pub returns-in-Err-hold_server : goal.returns-in-Err-hold_server
+returns-in-Err-hold_server g c input =
+    let was : Outside = record { input = input; output = output_of g.K.Sink c.args.output.now; disks = disks_of g.D.Disk c.args.disk_a c.args.disk_b } in
+    let works : Open → Worker g.row.R.Denot → Type 0 = λ desk. Working (ServesBy g.R.Conn.Conn.left g.R.Conn.Conn.given g.R.Conn.Conn.reads g.R.Conn.Conn.writes) g.R.Door.left g.R.Door.taken g.R.Door.ended g.R.Door.count g.R.Door.out desk c.args.most in
+    let doors = c.args.doors.now.items in
+    let node = c.in-Ok-open_node.node in
+    let output = output_of g.K.Sink c.jump_status-status.new.output in
+    let status = c.jump_status-status.result in
+    let jump = c.in-Err-hold_server.jump in
+    let moment = ap (λ (o : Summary). o.now) c.summary.ensures.numbers in
+    let far = subst (λ (m : ℕ). IsOvertaken any_reading c.args.max_jump m jump) moment c.in-Err-hold_server.ensures.err in
+    let told = subst (λ o. IsJumpStatus jump (output_of g.K.Sink o) output status) c.in-Ok-open_node.ensures.unsaid c.jump_status-status.ensures in
+    let over = jumped_call any_reading c.args.max_jump works g.R.Door.count (IsKept node) c.args.salt was (node_disks node) output doors (node_state node) jump status c.in-Ok-open_node.ensures.opened (kept_recovers node c.args.salt) far told in
+    subst (λ a. IsServeCall any_reading c.args.max_jump works g.R.Door.count c.args.salt was (record was { output = output; disks = disks_of g.D.Disk a c.close-disk_a-in-Err-hold_server.result.1 }) doors doors status) (sym c.close-disk_a-in-Err-hold_server.ensures.disk_a)
+    (subst (λ b. IsServeCall any_reading c.args.max_jump works g.R.Door.count c.args.salt was (record was { output = output; disks = disks_of g.D.Disk (node_disk_a node) b }) doors doors status) (sym c.close-disk_a-in-Err-hold_server.ensures.disk_b) over)
