@@ -1,7 +1,6 @@
 -- A look, on each of its ways.
 use Rattle.std.proofs.Common.{◌≡◌, ◌≢◌, ◌⊎◌, inl, inr, ℕ, List, refl, subst, arith}
 use Rattle.sb_outside.specs.Causes.{Rose}
-use Rattle.sb_engine.specs.Engines.{summary_of}
 use Rattle.sb_engine.specs.declared.summary.Summary.{Summary}
 use Rattle.sb_journal.specs.Disks.{Disks, AreHonest, AreStill, AreQuiet, HaveFailed, SameHonesty}
 use Rattle.sb_journal.specs.declared.found.OpenWhy.{OpenWhy}
