@@ -48,8 +48,9 @@ pub fn top_alone<D: Disk, C: Clock, S: Source, K: Sink, N: Link>(
 }
 
 /// Does what the words name over what it is handed. A server (`serve`) serves the connections of these
-/// doors to whom `access` lets in, each door by a worker, and ends once all workers have; its status is 0, or 4 to 8 as
-/// `serve_over` says. All else is `top_alone`, and the threads, the clock and the doors aren't used.
+/// doors to whom `access` lets in, each door by a worker, and ends once all workers have; its status is
+/// 0, or 4 to 8 as `serve_over` says. All else is `top_alone`, and the threads, the clock and the doors
+/// aren't used.
 #[tactic(auto, using(crate::proofs::Calls::unnamed))]
 pub fn top<
     T: Threads + Wait + Sync,
