@@ -23,11 +23,11 @@ use std::sync::Wait;
 use std::thread::Threads;
 
 /// Serves the connections of these doors, at most so many each, over the namespace of these disks, to
-/// whom `access` lets in, and tells the numbers of its history once all workers have ended. The status is 0; 5 for a disk that
-/// failed, 6 for a journal that can't be trusted, 8 for a door that failed, 7 for want of memory and 4
-/// for a fault of the output: the first of 5, 8, 7 and 4 where several came. It is 14, and no door is
-/// used, where behind the opening the clock reads more than `max_jump` days past the moment of the
-/// namespace, by 0 never. The salt is that of a new journal.
+/// whom `access` lets in, and tells the numbers of its history once all workers have ended. The status
+/// is 0; 5 for a disk that failed, 6 for a journal that can't be trusted, 8 for a door that failed, 7
+/// for want of memory and 4 for a fault of the output: the first of 5, 8, 7 and 4 where several came. It
+/// is 14, and no door is used, where behind the opening the clock reads more than `max_jump` days past
+/// the moment of the namespace, by 0 never. The salt is that of a new journal.
 #[tactic(auto, using(crate::proofs::Servings::unserved_at_once))]
 pub fn serve_over<
     T: Threads + Wait + Sync,
@@ -83,7 +83,17 @@ where
             return (7, disk_a, disk_b);
         }
     };
-    let ending = serve(rt, alloc, &routes, access, &desk, &mut passes, doors, clock, most);
+    let ending = serve(
+        rt,
+        alloc,
+        &routes,
+        access,
+        &desk,
+        &mut passes,
+        doors,
+        clock,
+        most,
+    );
     drop(routes);
     let (node, report) = match desk.close(passes) {
         Ok(closed) => closed,
