@@ -62,9 +62,7 @@ pub fn carry_out<D: Disk, C: Clock, S: Source, K: Sink, N: Link>(
         Err(WordsFault::OutOfMemory) => return (7, disk_a, disk_b),
     };
     match task {
-        Task::Run => run_over(
-            alloc, disk_a, disk_b, salt, clock, max_jump, input, output,
-        ),
+        Task::Run => run_over(alloc, disk_a, disk_b, salt, clock, max_jump, input, output),
         Task::Check => check_over(alloc, disk_a, disk_b, salt, clock, input, output),
         Task::Look => look_over(alloc, disk_a, disk_b, salt, input, output),
         Task::Client => {

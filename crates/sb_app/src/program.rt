@@ -47,7 +47,16 @@ pub fn top_alone<D: Disk, C: Clock, S: Source, K: Sink, N: Link>(
 {
     let named = named_task(alloc, words);
     carry_out(
-        alloc, named, disk_a, disk_b, salt, clock, input, output, &[], link,
+        alloc,
+        named,
+        disk_a,
+        disk_b,
+        salt,
+        clock,
+        input,
+        output,
+        &[],
+        link,
     )
 }
 

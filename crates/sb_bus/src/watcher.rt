@@ -26,7 +26,9 @@ impl Watcher for Printing<'_> {
                 reading_ms,
             } => {
                 let ahead_ms = moment_ms.saturating_sub(reading_ms);
-                eprintln!(rt; "bus: the namespace's time, {moment_ms} ms, is {ahead_ms} ms ahead of the clock, {reading_ms} ms; it stands still until the clock has caught up")
+                eprintln!(rt;
+                    "bus: the namespace's time, {moment_ms} ms, is {ahead_ms} ms ahead of the clock, {reading_ms} ms; it stands still until the clock has caught up"
+                )
             }
             Notice::Ended { status: 0 } => eprintln!(rt; "bus: all workers have ended"),
             // Of each other status the line of that status tells.
