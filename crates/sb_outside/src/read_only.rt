@@ -144,9 +144,9 @@ pub fn read_disk<R: Files, E: Eprint>(
 
 // The bytes of a file, unless it is another one once they are read.
 fn steady_bytes<F: Read + Seek>(alloc: Global, file: &mut F) -> io::Result<Option<Vec<u8>>> {
-    let bytes = all_bytes(alloc, file)?;
+    let bytes = bytes_of(alloc, file, PIECE_BYTES, u64::MAX)?;
     let length = file.seek(SeekFrom::End(0))?;
-    let front = front_bytes(alloc, file)?;
+    let front = bytes_of(alloc, file, FRONT_BYTES, FRONT_BYTES as u64)?;
     if length < bytes.len() as u64 || !is_front(&front, &bytes) {
         return Ok(None);
     }
@@ -154,17 +154,24 @@ fn steady_bytes<F: Read + Seek>(alloc: Global, file: &mut F) -> io::Result<Optio
     Ok(Some(bytes))
 }
 
-// Whether a file that has these bytes may begin with those.
+// Whether a file that begins so may be the one with these bytes.
 fn is_front(front: &[u8], bytes: &[u8]) -> bool {
-    front.len() == bytes.len().min(FRONT_BYTES) && bytes.starts_with(front)
+    let most = bytes.len().min(FRONT_BYTES);
+    front.len().min(FRONT_BYTES) == most && front.starts_with(&bytes[..most])
 }
 
-// All bytes of a file, up to the first read that gives none: what is written behind its end by then is among them.
-fn all_bytes<F: Read + Seek>(alloc: Global, file: &mut F) -> io::Result<Vec<u8>> {
+// The bytes of a file, read in pieces of at most so many bytes, up to the first read that gives none or
+// the last of so many reads. What is written behind the end meanwhile may be among them.
+fn bytes_of<F: Read + Seek>(
+    alloc: Global,
+    file: &mut F,
+    piece_bytes: usize,
+    reads: u64,
+) -> io::Result<Vec<u8>> {
     file.seek(SeekFrom::Start(0))?;
     let mut bytes = Vec::new(alloc);
-    let mut piece = vec![in alloc; 0; PIECE_BYTES]?;
-    for _ in 0..u64::MAX {
+    let mut piece = vec![in alloc; 0; piece_bytes]?;
+    for _ in 0..reads {
         let count = read_some(file, &mut piece)?;
         if count == 0 {
             break;
@@ -173,20 +180,4 @@ fn all_bytes<F: Read + Seek>(alloc: Global, file: &mut F) -> io::Result<Vec<u8>>
     }
     drop(piece);
     Ok(bytes)
-}
-
-// The first bytes of a file that tell it from another.
-fn front_bytes<F: Read + Seek>(alloc: Global, file: &mut F) -> io::Result<Vec<u8>> {
-    file.seek(SeekFrom::Start(0))?;
-    let mut front = vec![in alloc; 0; FRONT_BYTES]?;
-    let mut at = 0;
-    while at < front.len() {
-        let count = read_some(file, &mut front[at..])?;
-        if count == 0 {
-            break;
-        }
-        at += count;
-    }
-    front.truncate(at);
-    Ok(front)
 }
