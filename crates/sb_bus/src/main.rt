@@ -10,6 +10,7 @@
 //! ```
 #![tactic(auto)]
 
+mod looking;
 mod outside;
 
 use std::process::ExitCode;

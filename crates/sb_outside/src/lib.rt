@@ -11,6 +11,7 @@ mod conn;
 mod disk;
 mod door;
 mod faults;
+mod folder;
 mod images;
 mod link;
 mod memory;
@@ -20,18 +21,18 @@ mod memory_image;
 mod memory_link;
 mod memory_streams;
 mod network;
+mod read_only;
 mod step_clock;
 mod streams;
+mod telling;
 
-pub use adapters::{
-    Connected, FileDisk, HeldStreams, Reading, SystemClock, Writing, hold_streams, open_disk,
-    sync_folder,
-};
+pub use adapters::{Connected, FileDisk, Reading, SystemClock, Writing};
 pub use bytes::Bytes;
 pub use clock::Clock;
 pub use conn::{Conn, NoConn};
 pub use disk::{Disk, DiskFault, LONGEST_DISK};
 pub use door::{Door, DoorFault, NoDoor};
+pub use folder::{HeldStreams, disks_in, hold_streams, lock_folder, open_disk, sync_folder};
 pub use images::{cuts_keep_images, rest_has_one_image, writes_keep_images};
 pub use link::{Link, LinkFault, NoLink};
 pub use memory::MemDisk;
@@ -40,5 +41,7 @@ pub use memory_door::MemDoor;
 pub use memory_link::MemLink;
 pub use memory_streams::{MemSink, MemSource, SureSource};
 pub use network::{Dialing, Listening};
+pub use read_only::{ReadOnly, read_disk};
 pub use step_clock::StepClock;
 pub use streams::{ReadFault, Sink, Source, WriteFault, write_all};
+pub use telling::made;
