@@ -12,6 +12,7 @@
 
 mod endings;
 mod key;
+mod looking;
 mod outside;
 mod watcher;
 

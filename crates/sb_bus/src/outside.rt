@@ -1,6 +1,7 @@
 // Makes the real disks, streams, doors, link and clock, calls the top, and says how that ended.
 use crate::endings::say;
 use crate::key::key_in;
+use crate::looking::over_files;
 use crate::watcher::Printing;
 use sb_app::top;
 use sb_model::Text;
@@ -27,10 +28,10 @@ const NO_MEMORY: u8 = 7;
 
 const NANOS_A_SECOND: u64 = 1_000_000_000;
 
-// What each call of the top gets.
+/// What each call of the top gets.
 #[derive(Drop)]
-struct Call<'c, T> {
-    rt: &'c HostRuntime,
+pub(crate) struct Call<'c, T> {
+    pub(crate) rt: &'c HostRuntime,
     threads: &'c T,
     words: &'c [&'c str],
     clock: SystemClock<&'c HostRuntime>,
@@ -110,6 +111,7 @@ fn status_of<T: Threads + Wait + Sync>(call: &mut Call<T>, form: &Form) -> u8 {
         return NOT_MADE;
     };
     match form.command {
+        Command::Check if form.look => over_files(call, form.folder),
         Command::Run | Command::Check => {
             let mut doors: Vec<NoDoor> = Vec::new(call.rt.alloc());
             over_folder(call, form.folder, &mut doors)
@@ -227,8 +229,8 @@ where
     say(rt, status, folder)
 }
 
-// Calls the top over these disks, doors and link, and the real clock and streams.
-fn over_disks<T: Threads + Wait + Sync, D: Disk + Send + Drop, R: Door + Send, N: Link>(
+/// Calls the top over these disks, doors and link, and the real clock and streams.
+pub(crate) fn over_disks<T: Threads + Wait + Sync, D: Disk + Send + Drop, R: Door + Send, N: Link>(
     call: &Call<T>,
     disk_a: D,
     disk_b: D,

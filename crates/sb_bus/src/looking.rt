@@ -1,0 +1,57 @@
+// A look at the journal of a folder: its files are read alone, and the folder isn't locked.
+use crate::endings::say;
+use crate::outside::{Call, over_disks};
+use sb_outside::{NoDoor, NoLink, ReadOnly, made, read_disk};
+use std::io;
+use std::io::{Error, ErrorKind};
+use std::sync::Wait;
+use std::thread::Threads;
+
+// The status where something of the outside can't be had.
+const NOT_MADE: u8 = 11;
+
+// The status for want of memory.
+const NO_MEMORY: u8 = 7;
+
+/// Calls the top over what the files of a folder hold, as they are read. Where the folder has no journal,
+/// or a file can't be opened for reading, a line on standard error says so.
+pub(crate) fn over_files<T: Threads + Wait + Sync>(call: &Call<T>, folder: &str) -> u8 {
+    let rt = call.rt;
+    let disks = read_disks(rt, folder);
+    if wants_memory(&disks) {
+        return say(rt, NO_MEMORY, folder);
+    }
+    let advice = "name a folder with a journal that may be read";
+    let Some((disk_a, disk_b)) = made(rt, folder, advice, disks) else {
+        return NOT_MADE;
+    };
+    let mut doors: Vec<NoDoor> = Vec::new(rt.alloc());
+    let status = over_disks(call, disk_a, disk_b, &mut doors, &mut NoLink::new());
+    say(rt, status, folder)
+}
+
+// Whether this is an error for want of memory.
+fn wants_memory<T>(result: &io::Result<T>) -> bool {
+    match result {
+        Ok(_) => false,
+        Err(error) => error.kind() == ErrorKind::OutOfMemory,
+    }
+}
+
+// The disks of a folder, as they are read. The second file may be missing.
+fn read_disks(rt: &HostRuntime, folder: &str) -> io::Result<(ReadOnly, ReadOnly)> {
+    let Some(disk_a) = read_journal(rt, folder, "a")? else {
+        return Err(Error::new(ErrorKind::NotFound, "there is no a.journal"));
+    };
+    let disk_b = match read_journal(rt, folder, "b")? {
+        Some(disk) => disk,
+        None => ReadOnly::new(Vec::new(rt.alloc())),
+    };
+    Ok((disk_a, disk_b))
+}
+
+// The disk of the journal with this name in a folder, if it is there.
+fn read_journal(rt: &HostRuntime, folder: &str, name: &str) -> io::Result<Option<ReadOnly>> {
+    let path = format!(in rt.alloc(); "{folder}/{name}.journal")?;
+    read_disk(rt, rt.alloc(), path.as_str(), rt)
+}
