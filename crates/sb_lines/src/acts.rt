@@ -263,10 +263,7 @@ fn receive(alloc: Global, value: &Value) -> Result<Act, LineFault>
         value,
         &InLine(Shown(Both(
             Address("from"),
-            Both(
-                ModeWord("mode"),
-                Optional("session", TokenText("session")),
-            ),
+            Both(ModeWord("mode"), Optional("session", TokenText("session"))),
         ))),
     )?;
     Ok(Act::Receive {
@@ -287,10 +284,7 @@ fn receive_deferred(alloc: Global, value: &Value) -> Result<Act, LineFault>
             Address("from"),
             Both(
                 Number("seq"),
-                Both(
-                    ModeWord("mode"),
-                    Optional("session", TokenText("session")),
-                ),
+                Both(ModeWord("mode"), Optional("session", TokenText("session"))),
             ),
         ))),
     )?;
@@ -494,10 +488,7 @@ fn peek(alloc: Global, value: &Value) -> Result<Act, LineFault>
     let (from, (start, count)) = object_of(
         alloc,
         value,
-        &InLine(Shown(Both(
-            Address("from"),
-            Both(Number("start"), Whole("count")),
-        ))),
+        &InLine(Shown(Both(Address("from"), Both(Number("start"), Whole("count"))))),
     )?;
     Ok(Act::Peek { from, start, count })
 }

@@ -81,11 +81,7 @@ fn beside(alloc: Global, takes: bool, value: &Value) -> Result<(u64, Option<By>)
 }
 
 // The form of the reply, and what stands beside the act.
-fn formed(
-    alloc: Global,
-    takes: bool,
-    value: &Value,
-) -> Result<(Form, (u64, Option<By>)), LineFault>
+fn formed(alloc: Global, takes: bool, value: &Value) -> Result<(Form, (u64, Option<By>)), LineFault>
     ensures { Answers result (lines.formed takes (view value.now)) }
 {
     let form = FormWord("form").read(alloc, value)?;
