@@ -136,7 +136,7 @@ disk_cut s after asked form tick a line was now failed is written allowed leads 
   answer = a;
   is = allowed;
   part = written.part;
-  cause = (failed, subst (λ (l : List ℕ). IsWritten l written.part was.faults now.faults) (is ∙ ap (λ x. answer_line form x) (sym failed)) written.is);
+  cause = (failed, subst (λ (l : List ℕ). IsWritten l written.part was.faults now.faults) (is ∙ ap (λ (x : Result Answered Refusal). answer_line form x) (sym failed)) written.is);
   written = written.written;
   leads = leads;
 }
@@ -148,7 +148,7 @@ memory_cut s after asked form tick a line was now wants is written allowed leads
   answer = a;
   is = allowed;
   part = written.part;
-  cause = inl (wants, subst (λ (l : List ℕ). IsWritten l written.part was.faults now.faults) (is ∙ ap (λ x. answer_line form x) (sym wants)) written.is);
+  cause = inl (wants, subst (λ (l : List ℕ). IsWritten l written.part was.faults now.faults) (is ∙ ap (λ (x : Result Answered Refusal). answer_line form x) (sym wants)) written.is);
   written = written.written;
   leads = leads;
 }
