@@ -126,6 +126,7 @@ fn answers<T: Threads + Wait + Sync>(
         &mut input,
         &mut output,
         &mut doors,
+        &[],
         &mut link,
         &NoWatcher,
     );

@@ -9,6 +9,8 @@ mod adapter_tests;
 #[cfg(test)]
 mod client_tests;
 #[cfg(test)]
+mod jump_tests;
+#[cfg(test)]
 mod linked_tests;
 #[cfg(test)]
 mod look_tests;

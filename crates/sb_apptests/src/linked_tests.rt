@@ -62,6 +62,7 @@ fn served<T: Threads + Wait + Sync>(rt: &HostRuntime, threads: &T) -> Result<Vec
         &mut input,
         &mut output,
         &mut doors,
+        &[],
         &mut NoLink::new(),
         &NoWatcher,
     );

@@ -243,6 +243,7 @@ fn served<T: Threads + Wait + Sync>(
         &mut input,
         output,
         doors,
+        &[],
         &mut NoLink::new(),
         &NoWatcher,
     );

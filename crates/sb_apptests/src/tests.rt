@@ -149,6 +149,7 @@ fn ran<T: Threads + Wait + Sync>(
         &mut input,
         &mut output,
         &mut doors,
+        &[],
         &mut NoLink::new(),
         &NoWatcher,
     );

@@ -172,6 +172,7 @@ fn two_connections_at_once(rt: HostRuntime) -> Result<(), Fail> {
         &mut input,
         &mut output,
         &mut doors,
+        &[],
         &mut NoLink::new(),
         &NoWatcher,
     );

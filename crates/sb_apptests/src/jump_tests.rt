@@ -1,0 +1,253 @@
+// Clocks far ahead of a journal, and lines of a run far ahead of a clock: what is told, what is left on the
+// disks, and who is told of it.
+use crate::tests::SALT;
+use sb_app::{Notice, Watcher, top};
+use sb_outside::{MemConn, MemDisk, MemDoor, MemSink, MemSource, NoLink, StepClock};
+use sb_rest::Access;
+use std::sync::Wait;
+use std::sync::atomic::{AtomicU64, Ordering};
+use std::test::Fail;
+use std::thread::Threads;
+
+// 2026-01-01 and 2028-01-01.
+const FIRST: u64 = 1_767_225_600_000;
+
+const THIRD: u64 = 1_830_297_600_000;
+
+const RUN: &[&str] = &["run", "--data", "."];
+
+const RUN_A_DAY: &[&str] = &["run", "--data", ".", "--max-jump=1"];
+
+const SERVE: &[&str] = &["serve", "--data", ".", "--port", "8080"];
+
+const SERVE_EVER: &[&str] = &["serve", "--data", ".", "--port", "8080", "--max-jump=0"];
+
+const SERVE_YEARS: &[&str] = &["serve", "--data", ".", "--port", "8080", "--max-jump=730"];
+
+const SERVE_LESS: &[&str] = &["serve", "--data", ".", "--port", "8080", "--max-jump=729"];
+
+const CHECK: &[&str] = &["check", "--data", "."];
+
+const MADE: &str = "{\"at\":1767225600000,\"do\":\"create-queue\",\"name\":\"q\"}\n";
+
+const MADE_EARLY: &str = "{\"at\":60000,\"do\":\"create-queue\",\"name\":\"q\"}\n";
+
+const DONE: &str = "{\"ok\":\"done\"}\n";
+
+// At the clock, a day ahead of it, a millisecond further, and at the clock again.
+const LINES: &str =
+    "{\"at\":1767225600000,\"do\":\"create-queue\",\"name\":\"q\"}\n{\"at\":1767312000000,\"do\":\"create-queue\",\"name\":\"r\"}\n\n{\"at\":1767312000001,\"do\":\"create-queue\",\"name\":\"s\"}\n{\"at\":1767225600000,\"do\":\"create-queue\",\"name\":\"t\"}\n";
+
+const LINES_TOLD: &str =
+    "{\"ok\":\"done\"}\n{\"ok\":\"done\"}\n{\"moment\":1767312000001,\"reading\":1767225600000,\"refused\":\"TimeJump\"}\n";
+
+const ALL_TOLD: &str =
+    "{\"ok\":\"done\"}\n{\"ok\":\"done\"}\n{\"ok\":\"done\"}\n{\"ok\":\"done\"}\n";
+
+const CHECKED: &str =
+    "{\"copies\":0,\"entities\":2,\"events\":2,\"made\":0,\"now\":1767312000000,\"ok\":\"check\"}\n";
+
+const JUMP: &str =
+    "{\"moment\":1767225600000,\"reading\":1830297600000,\"refused\":\"TimeJump\"}\n";
+
+const SERVED: &str = "{\"changing\":1,\"entries\":1,\"ok\":\"report\",\"refused\":0}\n";
+
+const SEND: &[u8] = b"POST /q/messages HTTP/1.1\r\nHost: h\r\nContent-Length: 2\r\n\r\nhi";
+
+const SENT: &[u8] = b"HTTP/1.1 201 Created\r\nContent-Length: 0\r\n\r\n";
+
+// What a watcher was told.
+#[derive(Drop)]
+struct Heard {
+    records: AtomicU64,
+    ahead_ms: AtomicU64,
+    status: AtomicU64,
+}
+
+impl Heard {
+    fn new() -> Self {
+        Heard {
+            records: AtomicU64::new(u64::MAX),
+            ahead_ms: AtomicU64::new(0),
+            status: AtomicU64::new(u64::MAX),
+        }
+    }
+
+    fn told(&self) -> (u64, u64, u64) {
+        (
+            self.records.load(Ordering::SeqCst),
+            self.ahead_ms.load(Ordering::SeqCst),
+            self.status.load(Ordering::SeqCst),
+        )
+    }
+}
+
+impl Watcher for Heard {
+    fn tell(&self, notice: Notice) {
+        match notice {
+            Notice::Opened { records } => self.records.store(records, Ordering::SeqCst),
+            Notice::Ahead {
+                moment_ms,
+                reading_ms,
+            } => self
+                .ahead_ms
+                .store(moment_ms.saturating_sub(reading_ms), Ordering::SeqCst),
+            Notice::Ended { status } => self.status.store(u64::from(status), Ordering::SeqCst),
+        }
+    }
+}
+
+// A call over a disk with these bytes, and what it must tell and end with.
+#[derive(Clone, Copy)]
+struct Case<'a> {
+    words: &'a [&'a str],
+    disk: &'a [u8],
+    script: &'a str,
+    reading: u64,
+    told: &'a str,
+    // what its one connection, which sends, is given; nothing where it isn't taken
+    given: &'a [u8],
+    status: u8,
+}
+
+fn door(rt: &HostRuntime) -> Result<MemDoor, Fail> {
+    let alloc = rt.alloc();
+    let source = MemSource::new(SEND.to_vec(alloc)?, 4096, Vec::new(alloc));
+    let sink = MemSink::new(alloc, 4096, Vec::new(alloc))?;
+    let mut connections = Vec::new(alloc);
+    connections.push(MemConn::new(source, sink))?;
+    Ok(MemDoor::new(alloc, connections, Vec::new(alloc))?)
+}
+
+fn is_given(doors: &[MemDoor], response: &[u8]) -> bool {
+    let Some(door) = doors.first() else {
+        return false;
+    };
+    match door.taken().first() {
+        Some(conn) => conn.bytes() == response,
+        None => response.is_empty(),
+    }
+}
+
+// The bytes that the call leaves on disk a.
+fn leaves<T: Threads + Wait + Sync>(
+    rt: &HostRuntime,
+    threads: &T,
+    case: Case<'_>,
+    heard: &Heard,
+) -> Result<Vec<u8>, Fail> {
+    let alloc = rt.alloc();
+    let disk_a = MemDisk::new(alloc, case.disk.to_vec(alloc)?, Vec::new(alloc))?;
+    let disk_b = MemDisk::new(alloc, Vec::new(alloc), Vec::new(alloc))?;
+    let mut input = MemSource::new(case.script.as_bytes().to_vec(alloc)?, 7, Vec::new(alloc));
+    let mut output = MemSink::new(alloc, 4096, Vec::new(alloc))?;
+    let mut doors = Vec::new(alloc);
+    doors.push(door(rt)?)?;
+    let clock = StepClock::new(case.reading, 0);
+    let (status, disks) = top(
+        threads,
+        alloc,
+        case.words,
+        &Access::unlocked(alloc),
+        disk_a,
+        disk_b,
+        SALT,
+        &clock,
+        &mut input,
+        &mut output,
+        &mut doors,
+        &[],
+        &mut NoLink::new(),
+        heard,
+    );
+    if output.bytes() != case.told.as_bytes() {
+        return Err(Fail::from("other lines were written"));
+    }
+    if status != case.status {
+        return Err(Fail::from("another status"));
+    }
+    if !is_given(&doors, case.given) {
+        return Err(Fail::from("another response"));
+    }
+    let Some((disk_a, _disk_b)) = disks else {
+        return Err(Fail::from("the disks come back"));
+    };
+    Ok(disk_a.bytes().to_vec(alloc)?)
+}
+
+fn answers<'a>(words: &'a [&'a str], disk: &'a [u8], script: &'a str, told: &'a str) -> Case<'a> {
+    Case {
+        words,
+        disk,
+        script,
+        reading: FIRST,
+        told,
+        given: &[],
+        status: 0,
+    }
+}
+
+fn serves<'a>(words: &'a [&'a str], disk: &'a [u8], reading: u64) -> Case<'a> {
+    Case {
+        words,
+        disk,
+        script: "",
+        reading,
+        told: SERVED,
+        given: SENT,
+        status: 0,
+    }
+}
+
+// A clock two years on, 730 days, is too far ahead of a journal of 2026 by default and by 729 days: the disk
+// is left as the opening leaves it, and nobody is served. By 730 days and by 0 it isn't, nor is it of a
+// journal at a moment that a script made up.
+#[test]
+fn a_clock_two_years_on(rt: HostRuntime) -> Result<(), Fail> {
+    let heard = Heard::new();
+    let made = leaves(&rt, &rt, answers(RUN, &[], MADE, DONE), &heard)?;
+    let early = leaves(&rt, &rt, answers(RUN, &[], MADE_EARLY, DONE), &heard)?;
+    assert_eq!(rt; heard.told(), (u64::MAX, 0, u64::MAX));
+    for words in &[SERVE, SERVE_LESS] {
+        let held = Case {
+            told: JUMP,
+            given: &[],
+            status: 14,
+            ..serves(*words, &made, THIRD)
+        };
+        let left = leaves(&rt, &rt, held, &heard)?;
+        assert_eq!(rt; left.as_slice(), made.as_slice());
+        assert_eq!(rt; heard.told(), (1, 0, 14));
+    }
+    for words in &[SERVE_EVER, SERVE_YEARS] {
+        leaves(&rt, &rt, serves(*words, &made, THIRD), &heard)?;
+    }
+    leaves(&rt, &rt, serves(SERVE, &early, THIRD), &heard)?;
+    assert_eq!(rt; heard.told(), (1, 0, 0));
+    Ok(())
+}
+
+// A namespace that is ahead of the clock is served, and the watcher is told by how much.
+#[test]
+fn a_clock_behind(rt: HostRuntime) -> Result<(), Fail> {
+    let heard = Heard::new();
+    let made = leaves(&rt, &rt, answers(RUN, &[], MADE, DONE), &heard)?;
+    leaves(&rt, &rt, serves(SERVE, &made, 1_767_225_599_000), &heard)?;
+    assert_eq!(rt; heard.told(), (1, 1000, 0));
+    Ok(())
+}
+
+// The lines before one that is too far ahead of the clock are answered, and it isn't carried out, nor is
+// what comes behind it.
+#[test]
+fn a_line_ahead(rt: HostRuntime) -> Result<(), Fail> {
+    let heard = Heard::new();
+    let held = Case {
+        status: 14,
+        ..answers(RUN_A_DAY, &[], LINES, LINES_TOLD)
+    };
+    let left = leaves(&rt, &rt, held, &heard)?;
+    leaves(&rt, &rt, answers(CHECK, &left, "", CHECKED), &heard)?;
+    leaves(&rt, &rt, answers(RUN, &[], LINES, ALL_TOLD), &heard)?;
+    Ok(())
+}
