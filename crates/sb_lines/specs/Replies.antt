@@ -22,6 +22,7 @@ use Rattle.sb_lines.specs.Tokens.{token_text}
 abbrev pub said_before : List ℕ → Members → Members
 said_before word rest = with_string (codes "ok") word rest
 
+-- a reply's word alone
 abbrev pub said : List ℕ → Members
 said word = said_before word no_members
 
@@ -30,6 +31,7 @@ abbrev pub receipt_data : Receipt → Data
 receipt_data (Number n) = number (unsigned n)
 receipt_data Duplicate = null
 
+-- how each part is named
 abbrev pub part_name : Part → List ℕ
 part_name Main = codes "main"
 part_name Dead = codes "dead"
@@ -40,11 +42,13 @@ abbrev pub with_state : Option (List ℕ) → Members → Members
 with_state None ms = put (codes "state") null ms
 with_state (Some bytes) ms = with_bytes (codes "state") (codes "state_hex") bytes ms
 
+-- the counts of the three parts
 abbrev pub count_data : ℕ → ℕ → ℕ → Data
 count_data main dead transfer = object (with_number (codes "dead") dead (with_number (codes "main") main (with_number (codes "transfer") transfer no_members)))
 
 -- ---- what was done
 
+-- each reply, with its fields
 abbrev pub reply_data : Reply → Data
 reply_data Done = object (said (codes "done"))
 reply_data (Sent receipts) = object (member (codes "numbers") (array (items_of (map receipt_data receipts))) (said (codes "sent")))
@@ -63,10 +67,12 @@ reply_data (Counts main dead transfer) = object (member (codes "counts") (count_
 
 -- ---- the line
 
+-- a reply, one that was kept for its client, or a refusal
 abbrev pub answer_data : Result Answered Refusal → Data
 answer_data (Ok (New reply)) = reply_data reply
 answer_data (Ok (Kept reply)) = object (member (codes "kept") (reply_data reply) (said (codes "kept")))
 answer_data (Err refusal) = refusal_data refusal
 
+-- the line of an answer
 abbrev pub answer_line : Result Answered Refusal → List ℕ
 answer_line answer = compact_text (answer_data answer) ++ 10 ∷ []

@@ -29,6 +29,7 @@ abbrev pub with_properties : Members → List Property → Members
 with_properties ms [] = ms
 with_properties ms (p ∷ ps) = with_properties (put p.name (property_data p.value) ms) ps
 
+-- members with the system texts of a message
 abbrev pub with_texts : Members → List SystemText → Members
 with_texts ms [] = ms
 with_texts ms (t ∷ ts) = with_texts (put (system_name t.name) (string t.text) ms) ts
@@ -56,6 +57,7 @@ abbrev pub with_ttl : Option ℕ → Members → Members
 with_ttl None ms = ms
 with_ttl (Some ttl) ms = put (codes "ttl") (number (unsigned ttl)) ms
 
+-- how a message that is looked at stands
 abbrev pub state_name : CopyState → List ℕ
 state_name Ready = codes "ready"
 state_name Deferred = codes "deferred"
@@ -75,5 +77,6 @@ with_showing Removed ms = ms
 with_showing (Locked token until) ms = put (codes "until") (number (unsigned until)) (put (codes "token") (string (token_text token)) ms)
 with_showing (Browsed state) ms = put (codes "state") (string (state_name state)) (with_schedule state ms)
 
+-- a message, with all that is shown of it
 abbrev pub shown_data : CopyShown → Data
 shown_data c = object (with_bytes (codes "body") (codes "body_hex") c.message.body (with_showing c.showing (with_ttl c.message.ttl (common_members c))))
