@@ -132,8 +132,8 @@ Choice A = ℕ → Reader A
 abbrev pub no_row : {A : Type 0} → Choice A
 no_row k bytes = None
 
--- this variant behind its code, or another behind another code
 infixr 5 ◌or◌
+-- this variant behind its code, or another behind another code
 abbrev pub ◌or◌ : {A : Type 0} → Row A → Choice A → Choice A
 (r or others) k bytes = if k == r.code then mapped r.make r.form.reads bytes else others k bytes
 

@@ -8,8 +8,8 @@ use Rattle.sb_codec.specs.declared.unread.Unread.TheVariants.{Memory, NoSpelling
 abbrev pub Reader : Type 0 → Type 0
 Reader A = List ℕ → Option (A × List ℕ)
 
--- goes on with what was read, unless it was none
 infixl 10 ◌>>=◌
+-- goes on with what was read, unless it was none
 abbrev pub ◌>>=◌ : {A B : Type 0} → Option A → (A → Option B) → Option B
 None >>= f = None
 (Some x) >>= f = f x

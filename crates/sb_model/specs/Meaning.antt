@@ -64,7 +64,7 @@ system_text m name = option_map (λ s. Text s.text) (find (λ s. system_code s.n
 abbrev pub max_seconds : ℕ
 max_seconds = 922337203685
 
--- in seconds; a longer one has no value
+-- a time to live as a value; one that is too long has none
 abbrev pub time_to_live : Option ℕ → Option PropertyValue
 time_to_live (Some seconds) = if nat_le seconds max_seconds then Some (Int (pos seconds)) else None
 time_to_live None = None
