@@ -14,6 +14,7 @@ freed t s = sweep_locks t s ++ sweep_expired t s
 abbrev pub woken : ℕ → Space → List Change
 woken t s = in_turn activated t (due_scheduled t s) (after_all t (freed t s) s)
 
+-- the changes of a time step, each by what is due as it begins
 abbrev pub as_found : ℕ → Space → List Change
 as_found t s = (freed t s ++ woken t s) ++ due_transactions t s
 
