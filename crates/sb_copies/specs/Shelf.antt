@@ -2,6 +2,7 @@
 use Rattle.std.specs.Prelude.{ℕ, List}
 use Rattle.sb_machine.specs.declared.state.StoredCopy.{StoredCopy}
 
+-- the messages of a part, and how many more fit
 pub record Shelved : Type 0 where
   -- in the order in which they were put there
   pub copies : List StoredCopy

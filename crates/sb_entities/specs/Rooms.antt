@@ -13,6 +13,7 @@ use Rattle.sb_entities.specs.declared.place.PartPlace.TheVariants.{Copies, Sessi
 
 -- ---- of a part
 
+-- how many messages and sessions more a part has slots for
 pub record PartRoom : Type 0 where
   pub copies : ℕ
   pub sessions : ℕ
@@ -41,6 +42,7 @@ HasPartRoom _ r = Unit {0}
 
 -- ---- of an entity
 
+-- how much more an entity has slots for
 pub record Room : Type 0 where
   pub ids : ℕ
   pub rules : ℕ

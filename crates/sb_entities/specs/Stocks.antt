@@ -22,6 +22,7 @@ use Rattle.sb_entities.specs.declared.place.Place.TheVariants.{Entities, Transac
 
 -- ---- one entity
 
+-- an entity with its slots
 pub record Entry : Type 0 where
   pub entity : Entity
   pub room : Room
@@ -70,6 +71,7 @@ IsReady c x = HasRoom c x.room × (made_in x.entity + given_in c ≤ max_number)
 
 -- ---- the whole
 
+-- a namespace with its slots
 pub record Stock : Type 0 where
   pub salt : ℕ
   pub last_entity : ℕ

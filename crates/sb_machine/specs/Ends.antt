@@ -89,6 +89,7 @@ spends_in t _ s = []
 
 -- ---- ids that are accepted under a window
 
+-- an id that was accepted: by which entity, when, and with which window
 pub record Noted : Type 0 where
   pub entity : ℕ
   pub id : List ℕ

@@ -23,6 +23,7 @@ pub data Lot : Type 0 where
   stays : ℕ → Message → Lot
   ends : Cause → Lot
 
+-- a message comes to a part of an entity, where it stays or ends
 pub record Visit : Type 0 where
   pub entity : ℕ
   pub part : Part
