@@ -40,9 +40,11 @@ number_option name = record (new_rule name) { long = Some name; value_names = 1 
 abbrev pub serve_command : Shape
 serve_command = (with_rule (with_rule (with_rule (with_rule (new_app (codes "serve")) data_option) port_option) (number_option (codes "workers"))) (number_option (codes "connections"))).top
 
+-- the commands over a folder
 abbrev pub folder_commands : App
 folder_commands = with_subcommand (with_subcommand bus (over_folder (codes "run"))) (over_folder (codes "check"))
 
+-- all commands
 abbrev pub program : App
 program = with_subcommand (with_subcommand folder_commands (with_server (codes "client"))) serve_command
 
@@ -56,18 +58,22 @@ pub record Form : Type 0 where
   pub workers : ℕ
   pub connections : ℕ
 
+-- the form that was read
 abbrev pub form_value : ReadForm → Form
 form_value f = record { command = f.command; folder = f.folder.now; port = f.port; workers = f.workers; connections = f.connections }
 
+-- the form that the program is given
 abbrev pub needs_value : Needs → Form
 needs_value n = record { command = n.command; folder = string_bytes n.folder; port = n.port; workers = n.workers; connections = n.connections }
 
+-- the command of each name
 abbrev pub command_named : Text → Option Command
 command_named word = if bytes_eq word (codes "run") then Some Run
     else (if bytes_eq word (codes "check") then Some Check
     else (if bytes_eq word (codes "client") then Some Client
     else (if bytes_eq word (codes "serve") then Some Serve else None)))
 
+-- whether a text's first character is 0
 abbrev pub begins_with_zero : Text → Bool
 begins_with_zero [] = false
 begins_with_zero (b ∷ bs) = b == 48
@@ -92,10 +98,12 @@ abbrev pub connections_by : Option Text → Option ℕ
 connections_by None = Some (2 ^ 64 - 1)
 connections_by (Some word) = number_within 1000000 word
 
+-- a command over a folder, which has to be there
 abbrev pub over_folder_in : Command → Option Text → Option Form
 over_folder_in command None = None
 over_folder_in command (Some folder) = Some (record { command = command; folder = folder; port = 0; workers = 0; connections = 0 })
 
+-- a client's call, whose port has to be there
 abbrev pub with_server_at : Option ℕ → Option Form
 with_server_at None = None
 with_server_at (Some port) = Some (record { command = Client; folder = []; port = port; workers = 0; connections = 0 })
@@ -105,6 +113,7 @@ abbrev pub serving_at : Option Text → (port workers connections : Option ℕ) 
 serving_at (Some folder) (Some port) (Some workers) (Some connections) = Some (record { command = Serve; folder = folder; port = port; workers = workers; connections = connections })
 serving_at _ _ _ _ = None
 
+-- a server's call, by the texts of its options
 abbrev pub serving_in : (folder port workers connections : Option Text) → Option Form
 serving_in folder port workers connections = serving_at folder (port_by port) (workers_by workers) (connections_by connections)
 
@@ -134,6 +143,7 @@ form_in words = unless_at_fault (fault_of program words) (form_at (subcommand_of
 abbrev pub command_in : List Text → Option Command
 command_in words = option_map (λ f. f.command) (form_in words)
 
+-- after how many connections a worker ends; 0 where there is no form
 abbrev pub connections_of : Option Form → ℕ
 connections_of None = 0
 connections_of (Some form) = form.connections
@@ -144,6 +154,7 @@ connections_in words = connections_of (form_in words)
 
 -- ---- help and the version
 
+-- whether help or the version is asked for
 abbrev pub asks_for_text : ErrorKind → Bool
 asks_for_text DisplayHelp = true
 asks_for_text DisplayVersion = true
