@@ -38,11 +38,13 @@ pub record IsReplied (line : List ℕ) (made : List Exchange) (written : List �
   pub takes : TakesLine reply written data_is
   pub says : refused ≡ refuses data_is
 
+-- how each kind of line is answered: a blank one not at all, one too long by a refusal, another by the server
 abbrev pub IsAnsweredAs : LineKind → (line : List ℕ) → List Exchange → (written : List ℕ) → Bool → Type 0
 IsAnsweredAs blank line made written refused = (made ≡ []) × (written ≡ []) × (refused ≡ false)
 IsAnsweredAs too_long line made written refused = (made ≡ []) × (written ≡ long_line) × (refused ≡ true)
 IsAnsweredAs sent line made written refused = IsReplied line made written refused
 
+-- a line with what was exchanged and written for it
 abbrev pub IsAnswer : Answer → Type 0
 IsAnswer a = IsAnsweredAs (kind_of a.line) a.line a.made a.written a.refused
 

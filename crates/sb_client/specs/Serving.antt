@@ -5,6 +5,7 @@ use Rattle.sb_outside.specs.Streams.{Gains}
 use Rattle.sb_client.specs.Answers.{IsAnsweredAs, IsCutAt, kind_of}
 use Rattle.sb_client.specs.declared.ending.ClientEnding.{ClientEnding}
 
+-- the line was answered: what was exchanged and what was written
 pub record IsServed (line : List ℕ) (told told_after : Option (List Exchange)) (given given_after : Option (List ℕ)) (refused : Bool) : Type 0 where
   pub made : List Exchange
   pub written : List ℕ
@@ -12,6 +13,7 @@ pub record IsServed (line : List ℕ) (told told_after : Option (List Exchange))
   pub tells : Gains told told_after made
   pub gives : Gains given given_after written
 
+-- the line ended the run: what was exchanged by then, and what was written of its reply
 pub record IsCutServing (line : List ℕ) (told told_after : Option (List Exchange)) (given given_after : Option (List ℕ)) (end : ClientEnding) : Type 0 where
   pub made : List Exchange
   pub part : List ℕ
