@@ -28,6 +28,7 @@ IsNamed task (Ok named) = task ≡ Some named
 IsNamed task (Err BadWords) = task ≡ None
 IsNamed task (Err OutOfMemory) = Unit {0}
 
+-- a call of the program that isn't a server's, by the task that its words name
 pub record IsCall (task : Option Task) (salt : ℕ) (was now : Outside) (link link_now : Exchanges) (status : ℕ) : Type 0 where
   -- a run, a check, and words that name no task
   pub carried_out : task ≢ Some Client → IsCarriedOut task salt was now status

@@ -18,6 +18,7 @@ pub record Exchanges : Type 0 where
   pub told : Option (List Exchange)
   pub faults : ℕ
 
+-- what a link has exchanged, and its count of faults
 abbrev pub exchanges_of : {N : Type 0} → Link N → N → Exchanges
 exchanges_of link n = record { told = link.told n; faults = link.count n }
 

@@ -9,6 +9,7 @@ use Rattle.sb_lines.specs.Lines.{line_of}
 use Rattle.sb_input.specs.Limits.{max_line}
 use Rattle.sb_input.specs.Lines.{lines_of, is_blank}
 
+-- what a line says: a call, or the key at fault
 abbrev pub script_line_of : Result TimedCall (List ℕ) → ScriptLine
 script_line_of (Ok call) = Request call
 script_line_of (Err key) = Malformed key
