@@ -57,6 +57,7 @@ WaitsForMore left = HasNone left × IsUnderWay left
 abbrev pub GoesOnBy : Left → List RequestMessage → Left → Type 0
 GoesOnBy old ms new = (stream : List ℕ) (before : List RequestMessage) → Requests stream before old → Requests stream (before ++ ms) new
 
+-- each outcome of taking a request: one, none yet, or a fault
 abbrev pub TookOf : Left → Took → Left → Type 0
 TookOf old (One ask closes) new = (m : RequestMessage) × AsksFor m ask × (closes ≡ asks_close m) × GoesOnBy old (m ∷ []) new
 TookOf old NoneYet new = GoesOnBy old [] new × WaitsForMore new
@@ -69,6 +70,7 @@ abbrev pub FillsWith : Option (List ℕ) → Option (List ℕ) → Type 0
 FillsWith None after = Unit {0}
 FillsWith (Some before) after = after ≡ Some before
 
+-- bytes came in, and none were fed
 pub record Fills (old new : Stand) : Type 0 where
   pub left : new.left ≡ old.left
   pub fed : new.fed ≡ old.fed

@@ -44,6 +44,7 @@ AnswersCall call answer host closes out = (said : ResponseMessage) × Gives call
 abbrev pub line_bytes : Result Answered Refusal → Bool → List ℕ
 line_bytes answer closes = response_bytes (closed (closes || stops answer) (line_response (answer_line answer)))
 
+-- the response to a request that is no call
 abbrev pub fault_bytes : RestFault → Bool → List ℕ
 fault_bytes fault closes = response_bytes (closed closes (fault_response fault))
 

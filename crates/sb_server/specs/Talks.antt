@@ -56,6 +56,7 @@ pub record Talks (s : Start) (h : Here) (turn : Turn) : Type 0 where
 
 -- ---- what is refused
 
+-- the status of the response to a faulty request
 abbrev pub refusal_status : HttpFault → Status
 refusal_status HeadBad = BadRequest
 refusal_status HeadLarge = HeaderFieldsTooLarge
@@ -65,9 +66,11 @@ refusal_status BodyLarge = PayloadTooLarge
 abbrev pub refusal_said : HttpFault → ResponseMessage
 refusal_said fault = record { status = refusal_status fault; fields = []; body = []; ends = true }
 
+-- the response to a faulty request
 abbrev pub refusal_bytes : HttpFault → List ℕ
 refusal_bytes fault = response_bytes (refusal_said fault)
 
+-- how a connection ends behind it
 abbrev pub refusal_ending : HttpFault → Ending
 refusal_ending HeadBad = BadHead
 refusal_ending HeadLarge = HeadTooLarge
@@ -140,6 +143,7 @@ abbrev pub TurnsTo : Start → Here → Option Ending → Type 0
 TurnsTo s h None = Talks s h Goes
 TurnsTo s h (Some ending) = Ends s h ending
 
+-- one turn of a connection leads on, or to this ending
 abbrev pub Turns : Here → Option Ending → Here → Type 0
 Turns old ending new = (s : Start) → Talks s old Goes → TurnsTo s new ending
 
