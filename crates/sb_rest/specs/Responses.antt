@@ -59,6 +59,7 @@ refusal_ends refusal.DiskFault = true
 refusal_ends (refusal.Stopped faults) = true
 refusal_ends _ = false
 
+-- the response to a refused call
 abbrev pub refusal_response : Refusal → ResponseMessage
 refusal_response r = record { status = refusal_status r; fields = (codes "Content-Type", codes "application/json") ∷ []; body = refusal_text r; ends = refusal_ends r }
 
@@ -67,6 +68,7 @@ abbrev pub and_later : List (List ℕ) → List ℕ
 and_later [] = []
 and_later (word ∷ words) = codes ", " ++ word ++ and_later words
 
+-- words with commas between them
 abbrev pub listed : List (List ℕ) → List ℕ
 listed [] = []
 listed (word ∷ words) = word ++ and_later words
@@ -86,18 +88,22 @@ fault_response OutOfMemory = refusal_response refusal.OutOfMemory
 
 -- ---- replies; one that no call of a route is answered is an error of the server's own
 
+-- the status of a send
 abbrev pub sent_status : Reply → Status
 sent_status (Sent receipts) = status.Created
 sent_status _ = status.InternalServerError
 
+-- the status of a settlement
 abbrev pub settled_status : Reply → Status
 settled_status Done = status.Ok
 settled_status _ = status.InternalServerError
 
+-- the status of a renewal
 abbrev pub renewed_status : Reply → Status
 renewed_status (Renewed until) = status.Ok
 renewed_status _ = status.InternalServerError
 
+-- the status of a receive that gave a message
 abbrev pub taken_status : Mode → Status
 taken_status Lock = status.Created
 taken_status Delete = status.Ok
@@ -110,6 +116,7 @@ pub record GivesMessage (from : Path) (mode : Mode) (host : List ℕ) (c : CopyS
   pub locked : IsUntil c.showing until
   pub whole : r ≡ record { status = taken_status mode; fields = message_fields host enqueued until from c; body = c.message.body; ends = false }
 
+-- the response to a receive: the message, or that there was none
 abbrev pub GivesTaken : Path → Mode → List ℕ → Reply → ResponseMessage → Type 0
 GivesTaken from mode host (Message c) r = GivesMessage from mode host c r
 GivesTaken from mode host Empty r = r ≡ bare status.NoContent
@@ -129,6 +136,7 @@ GivesReply _ host reply r = r ≡ bare status.InternalServerError
 abbrev pub as_kept : ResponseMessage → ResponseMessage
 as_kept r = record r { fields = r.fields ++ (codes "Repeat-Kept", codes "true") ∷ [] }
 
+-- the response to a repeated call
 abbrev pub GivesKept : Act → List ℕ → Reply → ResponseMessage → Type 0
 GivesKept act host reply r = (first : ResponseMessage) × GivesReply act host reply first × (r ≡ as_kept first)
 
@@ -143,6 +151,7 @@ abbrev pub host_from : Option Field → List ℕ
 host_from None = codes "localhost"
 host_from (Some f) = f.1
 
+-- the host in a request's header fields; where there is none, localhost
 abbrev pub host_in : List Field → List ℕ
 host_in fields = host_from (find (λ f. same_word (codes "host") f.0) fields)
 
