@@ -59,7 +59,7 @@ abbrev pub of_span : Bool → Data → Result (Option ℕ) (List ℕ)
 of_span beside d =
     if beside then Err (codes "TimeToLiveTimeSpan") else or_key (codes "TimeToLiveTimeSpan") (option_and_then if_positive (option_and_then span_in (as_str d)))
 
--- the time to live by either field; a fault of the seconds comes first
+-- the time to live by either field; of both, the span is at fault
 abbrev pub lifetime_from : Option Data → Option Data → Result (Option ℕ) (List ℕ)
 lifetime_from seconds None = of_seconds seconds
 lifetime_from seconds (Some span) = of_span (is_some seconds) span
