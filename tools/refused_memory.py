@@ -24,12 +24,19 @@ SHIM = r"""
 #define _GNU_SOURCE
 #include <dlfcn.h>
 #include <errno.h>
-#include <stdio.h>
+#include <fcntl.h>
 #include <stdlib.h>
-static long calls, refused = -1;
+#include <unistd.h>
+static long calls, refused;
+static int told = -1;
 static int refuse(void) {
-    if (refused < 0) { char *at = getenv("REFUSE_AT"); refused = at ? atol(at) : 0; }
-    return ++calls == refused;
+    if (told < 0) {
+        told = open(getenv("CALLS_TO"), O_WRONLY | O_CREAT | O_TRUNC | O_CLOEXEC, 0600);
+        refused = atol(getenv("REFUSE_AT"));
+    }
+    ++calls;
+    if (pwrite(told, &calls, sizeof calls, 0) != sizeof calls) abort();
+    return calls == refused;
 }
 void *malloc(size_t n) {
     static void *(*next)(size_t);
@@ -42,10 +49,6 @@ void *realloc(void *p, size_t n) {
     if (!next) next = dlsym(RTLD_NEXT, "realloc");
     if (refuse()) { errno = ENOMEM; return 0; }
     return next(p, n);
-}
-__attribute__((destructor)) static void tell(void) {
-    FILE *f = fopen(getenv("CALLS_TO"), "w");
-    if (f) { fprintf(f, "%ld", calls); fclose(f); }
 }
 """
 
@@ -102,8 +105,8 @@ class Trial:
         while True:
             path = self.folder(start)
             status, told = self.run(path, lines, refused)
-            with open(self.calls) as calls:
-                if int(calls.read()) < refused:
+            with open(self.calls, "rb") as calls:
+                if int.from_bytes(calls.read(), sys.byteorder) < refused:
                     break
             said = told[-1:] == [WANTING]
             whole = told[:-1] if said else told
