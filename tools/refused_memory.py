@@ -1,11 +1,11 @@
 #!/usr/bin/env python3
 """Runs the built program with each growth of its memory refused in turn.
 
-usage: tools/refused_memory.py PROGRAM
+usage: tools/refused_memory.py PROGRAM [EVERY]
 
 PROGRAM is the built program (crates/sb_bus/out/sb_bus), which takes its memory by the C library's
 malloc and realloc. A small library put before it (made here by `cc`) refuses the Nth call of these.
-For each N two scripts are run, one on an empty folder and one on the journal that the first leaves,
+For each N (from 1 on by EVERY, where that is said) two scripts are run, one on an empty folder and one on the journal that the first leaves,
 until no call is refused any more. Each run has to end with 0 and all replies, with 7 and the first
 replies (and the line of OutOfMemory behind them, or nothing), or with 11 and nothing; and the
 journal must open again, with all that stood there before the run, each acknowledged change, and at
@@ -66,8 +66,8 @@ HEAD = 18  # a file's salt differs from run to run
 class Trial:
     """A folder of its own, the program, and the library before it."""
 
-    def __init__(self, program, work):
-        self.program, self.work = program, work
+    def __init__(self, program, work, every):
+        self.program, self.work, self.every = program, work, every
         self.library, self.calls = f"{work}/refuse.so", f"{work}/calls"
         with open(f"{work}/refuse.c", "w") as source:
             source.write(SHIM)
@@ -124,7 +124,7 @@ class Trial:
             if not sound:
                 wrong += 1
                 print(f"WRONG: {name}, growth {refused}: status {status}, {told}")
-            refused += 1
+            refused += self.every
         for (status, count, said), runs in sorted(classes.items()):
             line = "and its line" if said else "no line more"
             print(f"{name}: {runs:4} runs with status {status}, {count} replies, {line}")
@@ -140,9 +140,9 @@ def behind_head(folder):
 
 
 def main():
-    program, _ = lib.given_words(__doc__)
+    program, more = lib.given_words(__doc__, most=2)
     with tempfile.TemporaryDirectory() as work:
-        trial = Trial(program, work)
+        trial = Trial(program, work, int(more[0]) if more else 1)
         wrong = trial.sweep("first run", None, FIRST)
         base = f"{work}/base"
         os.mkdir(base)
