@@ -1,7 +1,8 @@
 #!/usr/bin/env bash
 # Runs the built program (its path is the one argument) where the outside fails it, and compares its
-# statuses: no folder, files and folders that may not be written, standard streams that are closed, an
-# output that is full or has no reader, a disk that is full. After each of them the journal must open.
+# statuses: words that are no command, no folder, files and folders that may not be written, standard
+# streams that are closed, an output that is full or has no reader, a disk that is full. After each of
+# them the journal must open.
 # Where strace is there it also looks at the order of system calls: a record is written and synced, then
 # its gate, and only then the reply is written.
 # As root it also tries what only an unprivileged user is refused, and the full disk (a tmpfs of 16 KiB).
@@ -31,8 +32,32 @@ opens() {
     expect "opening after: $1" $? 0
 }
 
-./bus run --data none </dev/null
-expect "no folder" $? 11
+# Words that are no command: one line on standard output, and no folder is touched.
+mkdir words
+for words in "" "sing" "serve" "run" "run --data" "run words" "run --data words more" "client --port 0" "check --port 80"; do
+    # shellcheck disable=SC2086
+    told=$(./bus $words </dev/null 2>/dev/null)
+    expect "the words: bus $words" $? 2
+    case "$told" in
+        "usage: bus COMMAND"*) [ "$(echo "$told" | wc -l)" -eq 1 ] || { echo "WRONG: $told" && failed=1; } ;;
+        *) echo "WRONG: $told, and no usage line" && failed=1 ;;
+    esac
+done
+[ -z "$(ls words)" ] || { echo "WRONG: the folder has $(ls words)" && failed=1; }
+
+# What can't be had: nothing on standard output, and a line on standard error.
+refused() {
+    told=$(./bus "$@" </dev/null 2>refused)
+    expect "can't be had: bus $*" $? 11
+    { [ -z "$told" ] && [ "$(wc -l <refused)" -eq 1 ]; } || { echo "WRONG: $told and $(cat refused)" && failed=1; }
+}
+: >file
+refused run --data none
+refused check --data none
+refused serve --data none --port 8080
+refused run --data file
+mkdir folder_for_file folder_for_file/a.journal
+refused run --data folder_for_file
 
 mkdir closed_output
 ./bus run --data closed_output <"$script" >&-
