@@ -3,12 +3,13 @@
 
 usage: tools/served_rows.py PROGRAM [--short]
 
-PROGRAM is the built program (crates/sb_bus/out/sb_bus). A server is started on an empty folder; a message
-is sent and received as docs/REST.md has it, settled by its Location, and the same two requests are sent whole,
-pipelined and cut after each byte. The largest message comes back byte for byte. Two connections are open at once where
-a receive waits for a send. A server that can't take a connection, since it has no more files, ends with status 8. The
-one worker of a server is free again once its caller has said nothing for 60 seconds, or has taken nothing of its
-response for some minutes; --short leaves these two out. The exit status is 1 where something is answered otherwise.
+PROGRAM is the built program (crates/sb_bus/out/sb_bus). A server is started on an empty folder; a message is sent and
+received as docs/REST.md has it, settled by its Location, and the same two requests are sent whole, pipelined and cut
+after each byte. The largest message comes back byte for byte. A moment lies between two readings of the clock here.
+Two connections are open at once where a receive waits for a send. A server that can't take a connection, since it has
+no more files, ends with status 8. The one worker of a server is free again once its caller has said nothing for 60
+seconds, or has taken nothing of its response for some minutes; --short leaves these two out. The exit status is 1
+where something is answered otherwise.
 """
 import contextlib
 import os
@@ -117,6 +118,19 @@ def largest_message(port):
     wants(status == 200 and came == body, f"the largest message came back with status {status} and {len(came)} bytes")
 
 
+def system_clock(port):
+    """A message is enqueued between two readings of the clock, and locked for 60 s from then on."""
+    with Caller(port) as caller:
+        before = int(time.time() * 1000)
+        caller.line({"do": "send", "to": "q", "messages": [{"body": "now"}]})
+        between = int(time.time() * 1000)
+        message = caller.line({"do": "receive", "from": "q"})["message"]
+        after = int(time.time() * 1000)
+        caller.line({"do": "complete", "from": "q", "seq": message["seq"], "token": message["token"]})
+    enqueued, locked = message["enqueued"], message["until"] - 60_000
+    wants(before <= enqueued <= between <= locked <= after, f"{enqueued} and {locked} at {before}, {between}, {after}")
+
+
 def two_at_once(port):
     """A receive waits on one connection while another sends."""
     got = []
@@ -139,6 +153,7 @@ def all_rows(program, is_short):
         two_requests(port)
         by_curl(port)
         largest_message(port)
+        system_clock(port)
         two_at_once(port)
         port_in_use(program, port)
     two_workers_end(program)

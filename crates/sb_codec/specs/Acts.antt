@@ -7,7 +7,7 @@ use Rattle.sb_codec.specs.Forms.{Form, number64, blob, text, ◌then◌, optiona
 use Rattle.sb_codec.specs.Messages.{message, any_next}
 use Rattle.sb_codec.specs.Pieces.{path, token, description, mode}
 
--- each operation: its code, the form of its fields, and what is made of these
+-- a queue is made; here as below: the code, the form of the fields, and what these make
 abbrev pub create_queue : Row Act
 create_queue = row 1 (text then description) (λ x. act.CreateQueue x.0 x.1)
 

@@ -105,7 +105,7 @@ abbrev pub bad_in_filter : FilterText → Key
 bad_in_filter (Sql text) = None
 bad_in_filter (Correlation conditions) = bad_in_conditions conditions.sys conditions.props
 
--- the field that names which message, where its number is none
+-- the number by which a message is named, where it is out of its range
 abbrev pub bad_in_which : Which → Key
 bad_in_which (Number n) = unless (is_number n) (codes "seq")
 bad_in_which (Id id) = None
