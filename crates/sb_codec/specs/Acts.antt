@@ -1,4 +1,4 @@
--- The acts, each by its code and the form of its fields. What only looks has no code.
+-- The operations (acts), each by its code and the form of its fields. What only looks has no code.
 use Rattle.std.specs.Prelude.{ℕ}
 use Rattle.sb_machine.specs.declared.call.Act.{Act}
 use Rattle.sb_machine.specs.declared.call.Act.TheVariants as act

@@ -1,4 +1,4 @@
--- The copies of one part of an entity, as contracts see them.
+-- The messages of one queue or subqueue (the copies on a shelf), as contracts see them.
 use Rattle.std.specs.Prelude.{ℕ, List}
 use Rattle.sb_machine.specs.declared.state.StoredCopy.{StoredCopy}
 

@@ -1,4 +1,5 @@
--- What contracts see of a desk and of a pass.
+-- What contracts see of a desk, which has one value that many callers use in turn, and of a pass, which is the handle
+-- of one caller at a time.
 use Rattle.std.specs.Prelude.{◌≡◌, ℕ, zero, suc, List, [], ◌∷◌, ◌++◌, Option, Result}
 use Rattle.atomic_table.specs.Seated.{TableId}
 use Rattle.sb_machine.specs.History.{IsLegal}

@@ -1,4 +1,5 @@
 -- The rule of the desk's table: what its words, its slot and the views of all seats have to do with the one history.
+-- A seat is a caller's place in that history, a view what it has seen of it.
 use Rattle.std.specs.Prelude.{◌≡◌, ℕ, ◌+◌, ◌-◌, ◌%◌, ◌^◌, ◌<◌, ◌≤◌, List, [], ◌∷◌, length, Option, Some, None}
 use mathlib.Core.Option.{some}
 use mathlib.Core.Option as maybe

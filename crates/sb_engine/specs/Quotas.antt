@@ -1,4 +1,4 @@
--- How many copies live behind changes.
+-- How many messages stand in the namespace behind changes.
 use Rattle.std.specs.Prelude.{◌≡◌, ◌⊎◌, ℕ, ◌-◌, true, false, List, [], ◌∷◌, Option, Some, None, is_some, Result, Ok, Err}
 use Rattle.sb_machine.specs.Changes.{after}
 use Rattle.sb_machine.specs.Leaves.{copy_in}

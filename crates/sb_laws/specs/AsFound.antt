@@ -1,4 +1,4 @@
--- A tick's changes by what is due as it begins: its later sweeps needn't look at what the earlier ones leave.
+-- The changes of a time step by what is due as it begins: its later sweeps needn't look at what the earlier ones leave.
 use Rattle.std.specs.Prelude.{◌≡◌, ℕ, List, ◌++◌}
 use Rattle.sb_machine.specs.Changes.{after_all, in_turn}
 use Rattle.sb_machine.specs.Due.{activated, due_scheduled, due_transactions, sweep_expired, sweep_locks, tick_changes}

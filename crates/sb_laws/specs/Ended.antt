@@ -1,4 +1,4 @@
--- A copy number ends once.
+-- The number of a message ends once.
 use Rattle.std.specs.Prelude.{◌≡◌, ℕ, ◌≤◌, ◌<◌, ◌+◌, ◌==◌, ◌&&◌, Bool, List, length, sum_by, if◌then◌else◌}
 use Rattle.sb_laws.specs.Counting.{times}
 use Rattle.sb_machine.specs.Accounts.{ends_of}

@@ -1,4 +1,4 @@
--- A receive under a session hands out the copy of least number.
+-- A receive under a session hands out the message of the least number.
 use Rattle.std.specs.Prelude.{◌≡◌, ◌&&◌, ℕ, ◌≤◌, List, [], ◌∷◌, Bool, true, Some, Ok}
 use Rattle.sb_machine.specs.Answers.{moment_of}
 use Rattle.sb_machine.specs.Consistent.{IsConsistent}

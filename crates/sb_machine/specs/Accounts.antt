@@ -1,4 +1,4 @@
--- Lists over a history.
+-- What is read off a history, call by call: numbers that ended, locks that were used up, ids, numbered calls, events.
 use Rattle.std.specs.Prelude.{ℕ, List, [], ◌∷◌, ◌++◌, Bool, ◌&&◌, not, if◌then◌else◌, Option, Some, None, Result}
 use Rattle.sb_machine.specs.Answers.{changes_of, is_change, moment_of}
 use Rattle.sb_machine.specs.Changes.{along}

@@ -1,4 +1,4 @@
--- What each act comes to, its fields judged first and the numbers that it gives last.
+-- What each act (an operation that a caller asks for) comes to, its fields judged first and the numbers that it gives last.
 use Rattle.std.specs.Prelude.{ℕ, Bool, false, Option, Some, None}
 use Rattle.sb_machine.specs.Administration.{create_row, create_subscription_row, create_rule_row, delete_row, delete_rule_row, counts_row}
 use Rattle.sb_machine.specs.Fields.{Key, bad_field}

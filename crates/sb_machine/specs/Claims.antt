@@ -1,4 +1,4 @@
--- By whom a part is received: by anybody, or by the holder of a session.
+-- Who receives from a part of an entity (its queue or a subqueue): anybody, or the holder of a session.
 use Rattle.std.specs.Prelude.{ℕ, ◌&&◌, not, Bool, true, List, Option, Some, None}
 use Rattle.sb_machine.specs.Leases.{held_session}
 use Rattle.sb_machine.specs.Messages.{has_text_of}

@@ -1,4 +1,4 @@
--- What holds of a state between entries.
+-- What holds of a state between two entries of its history, point by point.
 use Rattle.std.specs.Prelude.{◌≡◌, ◌≢◌, ℕ, ◌+◌, ◌++◌, ◌≤◌, ◌<◌, List, [], ◌∷◌, length, map, filter, true, false, is_none, sum_by, Some, None}
 use Rattle.std.specs.List.{flat_map}
 use Rattle.sb_machine.specs.Answers.{max_moment}

@@ -1,4 +1,5 @@
--- How copies move: delivery, dead-lettering, expiring and releasing, each as a list of changes.
+-- How messages move: delivery, dead-lettering, expiring and releasing, each as a list of changes.
+-- A copy is a message as it stands in one part of an entity, under a number of its own.
 use Rattle.std.specs.Prelude.{ℕ, ◌+◌, ◌*◌, ◌&&◌, not, Bool, false, nat_le, min, List, [], ◌∷◌, map, if◌then◌else◌, Option, Some, None}
 use Rattle.sb_machine.specs.Leaves.{seq_or}
 use Rattle.sb_machine.specs.Leases.{was_deferred}

@@ -1,4 +1,4 @@
--- Time: what falls due at a moment, and the changes that carry it out.
+-- Time: what falls due at a moment, and the changes that carry it out. All of these together are a tick.
 use Rattle.std.specs.Prelude.{ℕ, ◌&&◌, not, Bool, true, false, nat_le, List, [], ◌∷◌, ◌++◌, map, filter, if◌then◌else◌, Option, Some, None}
 use Rattle.std.specs.List.{flat_map}
 use Rattle.sb_machine.specs.Changes.{after_all, in_turn}

@@ -1,4 +1,4 @@
--- Messages, copies, rules and entities as a state may hold them.
+-- Messages, entities, sessions and rules as a state may hold them.
 use Rattle.std.specs.Prelude.{◌≡◌, ◌≢◌, ℕ, ◌+◌, ◌*◌, ◌≤◌, ◌<◌, nat_lt, ◌&&◌, ◌||◌, not, Bool, List, [], length, filter, bytes_eq, codes, true, false, is_some, is_none, Option, Some, None}
 use Rattle.std.specs.List.{list_any}
 use Rattle.sb_machine.specs.Changes.{max_number, is_earlier}

@@ -1,4 +1,4 @@
--- Locks: who holds a copy or a session, and which lock lives.
+-- Locks: who holds a message or a session, and which lock lives.
 use Rattle.std.specs.Prelude.{ℕ, ◌==◌, ◌&&◌, ◌||◌, nat_lt, nat_le, Bool, true, false, List, bytes_eq, find, if◌then◌else◌, Option, Some, None}
 use Rattle.std.specs.List.{list_any}
 use Rattle.std.specs.Fmt.{decimal}

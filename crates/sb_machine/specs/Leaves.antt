@@ -1,4 +1,5 @@
--- What changes in one part of an entity.
+-- What changes in one part of an entity: its queue, its dead-letter subqueue or its transfer dead-letter subqueue.
+-- A leaf is what stands in one: its messages in order of their numbers, its sessions, and the last number that it gave.
 use Rattle.std.specs.Prelude.{ℕ, ◌+◌, ◌==◌, List, [], ◌∷◌, ◌++◌, Bool, true, false, if◌then◌else◌, find, bytes_eq, Option, Some, None, is_some}
 use Rattle.sb_machine.specs.Keyed.{changed, with_sorted}
 use Rattle.sb_machine.specs.Names.{is_before}

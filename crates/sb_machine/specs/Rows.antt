@@ -1,4 +1,5 @@
--- What an act comes to: it is refused, or it is answered and these are its changes.
+-- A row is what an operation comes to: it is refused, or it is answered and these are its changes. Here are the tests
+-- that rows are made of, each with its refusal.
 use Rattle.std.specs.Prelude.{ℕ, ◌-◌, ◌&&◌, ◌||◌, not, nat_lt, Bool, if◌then◌else◌, List, Option, Some, None, true, false}
 use Rattle.sb_machine.specs.Changes.{after_all, is_numbered}
 use Rattle.sb_machine.specs.Names.{is_address}

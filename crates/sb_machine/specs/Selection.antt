@@ -1,4 +1,4 @@
--- Which copies a subscription takes of a message.
+-- What a subscription takes of a message that comes to its topic: by its rules once, several times, changed, or not at all.
 use Rattle.std.specs.Prelude.{ℕ, List, [], ◌∷◌, ◌++◌, Bool, true, false, not, ◌&&◌, ◌==◌, if◌then◌else◌, map, find, bytes_eq, codes, Option, Some, None, is_none, is_some, Result, Ok, Err}
 use Rattle.std.specs.List.{filter, list_all, list_any}
 use Rattle.std.specs.Ordering.{int_eq}

@@ -1,4 +1,4 @@
--- Settling a copy that is held under a lock, and renewing the lock.
+-- Settling a message that is held under a lock, and renewing the lock.
 use Rattle.std.specs.Prelude.{ℕ, ◌==◌, not, Bool, true, false, List, [], ◌∷◌, if◌then◌else◌, Option, Some, None}
 use Rattle.sb_machine.specs.Delivery.{in_part, dead_lettered, released}
 use Rattle.sb_machine.specs.Leases.{leased}

@@ -1,4 +1,5 @@
--- Where a message gets a number: in the parts that it visits, in order. Numbers themselves play no part in it.
+-- Where a message gets a sequence number: in the queues and subqueues that it comes to, in order (its visits).
+-- Numbers themselves play no part in it.
 use Rattle.std.specs.Prelude.{ℕ, zero, suc, ◌-◌, List, [], ◌∷◌, Bool, false, not, ◌&&◌, ◌==◌, if◌then◌else◌, find, min, bytes_eq, Option, Some, None, is_none}
 use Rattle.std.specs.List.{filter, flat_map, list_any, insert, prefix_len, fold}
 use Rattle.sb_machine.specs.Names.{is_before}

@@ -1,4 +1,4 @@
--- Workers at several doors.
+-- Workers at several doors (listening sockets).
 use Rattle.std.specs.Prelude.{◌≡◌, ◌⊎◌, ℕ, List, [], ◌∷◌, ◌++◌, map, Bool, true, false, Option, Some, None, if◌then◌else◌}
 use Rattle.std.specs.List.{list_any}
 use Rattle.sb_desk.specs.Desks.{Open, Sitting, IsOf}
