@@ -3,7 +3,7 @@
 # statuses: words that are no command, no folder, files and folders that may not be written, standard
 # streams that are closed, an output that is full or has no reader, a disk that is full. After each of
 # them the journal must open.
-# Where strace is there it also looks at the order of system calls: a record is written and synced, then
+# Where strace is there and may trace it also looks at the order of system calls: a record is written and synced, then
 # its gate, and only then the reply is written.
 # As root it also tries what only an unprivileged user is refused, and the full disk (a tmpfs of 16 KiB).
 set -u
@@ -98,7 +98,7 @@ calls_of() {
     sed -n -e 's/^write(1,.*/r/p' -e 's/^write(2,.*//p' -e 's/^p\{0,1\}write.*/w/p' -e 's/^f.*sync(.*/s/p' trace | tr -d '\n'
 }
 
-if command -v strace >/dev/null; then
+if strace -o /dev/null true 2>/dev/null; then
     mkdir synced && ./bus run --data synced </dev/null
     echo '{"do":"create-queue","name":"q"}' >create.script
     send='{"do":"send","to":"q","messages":[{"body":"a"}]}'
