@@ -1,9 +1,9 @@
 #!/usr/bin/env python3
 """Runs the client programs of examples/ against a server.
 
-usage: tools/client_examples.py PROGRAM
+usage: tools/client_examples.py PROGRAM [LINES]
 
-PROGRAM is the built program (crates/sb_bus/out/sb_bus). The numbered sends go on through a server that is killed
+PROGRAM is the built program (crates/sb_bus/out/sb_bus). So many numbered sends, 1,000 where nothing is said, go on through a server that is killed
 and started again, and through a second call with the same lines; the worker gets an order that takes longer than
 its lock and one that is none; the sessions are worked off in order. It needs node and curl. The exit status is
 1 where something else happens.
@@ -17,7 +17,6 @@ import time
 import lib
 
 EXAMPLES = os.path.join(lib.TOP, "examples")
-LINES = [f"order {number}" for number in range(1, 1001)]
 
 
 def made_queue(port, name, **fields):
@@ -44,22 +43,24 @@ def output(process, given=""):
     return told
 
 
-def numbered_sends(program, folder, port):
+def numbered_sends(program, folder, port, count):
     words = [str(port), "sends", "desk 1"]
+    lines = [f"order {number}" for number in range(1, count + 1)]
+    given = "".join(f"{line}\n" for line in lines)
     server = lib.start(program, folder, port)
     try:
         made_queue(port, "sends")
         sender = example("numbered_sends.py", *words)
-        sender.stdin.write("".join(f"{line}\n" for line in LINES))
+        sender.stdin.write(given)
         sender.stdin.flush()
         for _ in range(3):
             time.sleep(0.4)
             lib.stop(server, signal.SIGKILL)
             server = lib.start(program, folder, port)
         output(sender)
-        told = output(example("numbered_sends.py", *words), "".join(f"{line}\n" for line in LINES))
+        told = output(example("numbered_sends.py", *words), given)
         lib.wants(told == "0 sent\n", f"the same lines again were told as {told}")
-        lib.wants(lib.taken(port, "sends") == LINES, "a line was lost, doubled or came out of turn")
+        lib.wants(lib.taken(port, "sends") == lines, "a line was lost, doubled or came out of turn")
     finally:
         lib.stop(server)
 
@@ -92,9 +93,9 @@ def sessions(port):
     lib.wants(state == {"ok": "state", "state": "3"}, f"the session remembers {state}")
 
 
-def tried(program):
+def tried(program, count):
     with tempfile.TemporaryDirectory() as folder:
-        numbered_sends(program, folder, lib.free_port())
+        numbered_sends(program, folder, lib.free_port(), count)
     port = lib.free_port()
     with tempfile.TemporaryDirectory() as folder, lib.serving(program, folder, port):
         worker(port)
@@ -102,8 +103,8 @@ def tried(program):
 
 
 def main():
-    program, _ = lib.given_words(__doc__)
-    lib.tell(lambda: tried(program))
+    program, more = lib.given_words(__doc__, most=2)
+    lib.tell(lambda: tried(program, int(more[0]) if more else 1000))
 
 
 if __name__ == "__main__":

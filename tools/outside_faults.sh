@@ -31,8 +31,32 @@ opens() {
     expect "opening after: $1" $? 0
 }
 
-./bus run --data none </dev/null
-expect "no folder" $? 11
+# Words that are no command: one line on standard output, and no folder is touched.
+mkdir words
+for words in "" "sing" "serve" "run" "run --data" "run words" "run --data words more" "client --port 0" "check --port 80"; do
+    # shellcheck disable=SC2086
+    told=$(./bus $words </dev/null 2>/dev/null)
+    expect "the words: bus $words" $? 2
+    case "$told" in
+        "usage: bus COMMAND"*) [ "$(echo "$told" | wc -l)" -eq 1 ] || { echo "WRONG: $told" && failed=1; } ;;
+        *) echo "WRONG: $told, and no usage line" && failed=1 ;;
+    esac
+done
+[ -z "$(ls words)" ] || { echo "WRONG: the folder has $(ls words)" && failed=1; }
+
+# What can't be had: nothing on standard output, and a line on standard error.
+refused() {
+    told=$(./bus "$@" </dev/null 2>refused)
+    expect "can't be had: bus $*" $? 11
+    { [ -z "$told" ] && [ "$(wc -l <refused)" -eq 1 ]; } || { echo "WRONG: $told and $(cat refused)" && failed=1; }
+}
+: >file
+refused run --data none
+refused check --data none
+refused serve --data none --port 8080
+refused run --data file
+mkdir folder_for_file folder_for_file/a.journal
+refused run --data folder_for_file
 
 mkdir no_journal
 ./bus check --data no_journal --look
@@ -78,7 +102,7 @@ calls_of() {
     sed -n -e 's/^write(1,.*/r/p' -e 's/^write(2,.*//p' -e 's/^p\{0,1\}write.*/w/p' -e 's/^f.*sync(.*/s/p' trace | tr -d '\n'
 }
 
-if command -v strace >/dev/null; then
+if strace -o /dev/null true 2>/dev/null; then
     mkdir synced && ./bus run --data synced </dev/null
     echo '{"do":"create-queue","name":"q"}' >create.script
     send='{"do":"send","to":"q","messages":[{"body":"a"}]}'

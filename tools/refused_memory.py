@@ -1,11 +1,11 @@
 #!/usr/bin/env python3
 """Runs the built program with each growth of its memory refused in turn.
 
-usage: tools/refused_memory.py PROGRAM
+usage: tools/refused_memory.py PROGRAM [EVERY]
 
 PROGRAM is the built program (crates/sb_bus/out/sb_bus), which takes its memory by the C library's
 malloc and realloc. A small library put before it (made here by `cc`) refuses the Nth call of these.
-For each N two scripts are run, one on an empty folder and one on the journal that the first leaves,
+For each N (from 1 on by EVERY, where that is said) two scripts are run, one on an empty folder and one on the journal that the first leaves,
 until no call is refused any more. Each run has to end with 0 and all replies, with 7 and the first
 replies (and the line of OutOfMemory behind them, or nothing), or with 11 and nothing; and the
 journal must open again, with all that stood there before the run, each acknowledged change, and at
@@ -24,12 +24,19 @@ SHIM = r"""
 #define _GNU_SOURCE
 #include <dlfcn.h>
 #include <errno.h>
-#include <stdio.h>
+#include <fcntl.h>
 #include <stdlib.h>
-static long calls, refused = -1;
+#include <unistd.h>
+static long calls, refused;
+static int told = -1;
 static int refuse(void) {
-    if (refused < 0) { char *at = getenv("REFUSE_AT"); refused = at ? atol(at) : 0; }
-    return ++calls == refused;
+    if (told < 0) {
+        told = open(getenv("CALLS_TO"), O_WRONLY | O_CREAT | O_TRUNC | O_CLOEXEC, 0600);
+        refused = atol(getenv("REFUSE_AT"));
+    }
+    ++calls;
+    if (pwrite(told, &calls, sizeof calls, 0) != sizeof calls) abort();
+    return calls == refused;
 }
 void *malloc(size_t n) {
     static void *(*next)(size_t);
@@ -42,10 +49,6 @@ void *realloc(void *p, size_t n) {
     if (!next) next = dlsym(RTLD_NEXT, "realloc");
     if (refuse()) { errno = ENOMEM; return 0; }
     return next(p, n);
-}
-__attribute__((destructor)) static void tell(void) {
-    FILE *f = fopen(getenv("CALLS_TO"), "w");
-    if (f) { fprintf(f, "%ld", calls); fclose(f); }
 }
 """
 
@@ -63,8 +66,8 @@ HEAD = 18  # a file's salt differs from run to run
 class Trial:
     """A folder of its own, the program, and the library before it."""
 
-    def __init__(self, program, work):
-        self.program, self.work = program, work
+    def __init__(self, program, work, every):
+        self.program, self.work, self.every = program, work, every
         self.library, self.calls = f"{work}/refuse.so", f"{work}/calls"
         with open(f"{work}/refuse.c", "w") as source:
             source.write(SHIM)
@@ -102,8 +105,8 @@ class Trial:
         while True:
             path = self.folder(start)
             status, told = self.run(path, lines, refused)
-            with open(self.calls) as calls:
-                if int(calls.read()) < refused:
+            with open(self.calls, "rb") as calls:
+                if int.from_bytes(calls.read(), sys.byteorder) < refused:
                     break
             said = told[-1:] == [WANTING]
             whole = told[:-1] if said else told
@@ -121,7 +124,7 @@ class Trial:
             if not sound:
                 wrong += 1
                 print(f"WRONG: {name}, growth {refused}: status {status}, {told}")
-            refused += 1
+            refused += self.every
         for (status, count, said), runs in sorted(classes.items()):
             line = "and its line" if said else "no line more"
             print(f"{name}: {runs:4} runs with status {status}, {count} replies, {line}")
@@ -137,9 +140,9 @@ def behind_head(folder):
 
 
 def main():
-    program, _ = lib.given_words(__doc__)
+    program, more = lib.given_words(__doc__, most=2)
     with tempfile.TemporaryDirectory() as work:
-        trial = Trial(program, work)
+        trial = Trial(program, work, int(more[0]) if more else 1)
         wrong = trial.sweep("first run", None, FIRST)
         base = f"{work}/base"
         os.mkdir(base)

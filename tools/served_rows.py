@@ -1,22 +1,28 @@
 #!/usr/bin/env python3
 """Asks a server over real sockets, by curl, by the program's own client and byte by byte.
 
-usage: tools/served_rows.py PROGRAM
+usage: tools/served_rows.py PROGRAM [--short]
 
-PROGRAM is the built program (crates/sb_bus/out/sb_bus). A server is started on an empty folder; a message
-is sent and received as docs/REST.md has it, settled by its Location, and the same two requests are sent whole,
-pipelined and cut after each byte. Two connections are open at once where a receive waits for a send, and the one worker
-of a server is free again once its caller has said nothing for 60 seconds. The exit status is 1 where something is
-answered otherwise.
+PROGRAM is the built program (crates/sb_bus/out/sb_bus). A server is started on an empty folder; a message is sent and
+received as docs/REST.md has it, settled by its Location, and the same two requests are sent whole, pipelined and cut
+after each byte. The largest message comes back byte for byte. A moment lies between two readings of the clock here.
+Two connections are open at once where a receive waits for a send. A server that can't take a connection, since it has
+no more files, ends with status 8. The one worker of a server is free again once its caller has said nothing for 60
+seconds, or has taken nothing of its response for some minutes; --short leaves these two out. The exit status is 1
+where something is answered otherwise.
 """
+import contextlib
+import os
 import re
 import socket
 import subprocess
+import sys
 import tempfile
 import threading
 import time
+from concurrent.futures import ThreadPoolExecutor
 
-from lib import free_port, given_words, serving, start, tell, wants
+from lib import Caller, free_port, given_words, serving, start, tell, wants
 
 SEND = b"POST /Q/messages HTTP/1.1\r\nHost: h\r\nContent-Length: 2\r\n\r\nhi"
 RECEIVE = b"POST /q/messages/head?timeout=0 HTTP/1.1\r\nHost: h\r\n\r\n"
@@ -103,6 +109,28 @@ def by_curl(port):
     wants(status == 200, f"the large message was answered {status}")
 
 
+def largest_message(port):
+    body = os.urandom(262_144)
+    with Caller(port) as caller:
+        status, _, _ = caller.ask("POST", "/q/messages", body)
+        wants(status == 201, f"the largest message was answered {status}")
+        status, _, came = caller.ask("DELETE", "/q/messages/head")
+    wants(status == 200 and came == body, f"the largest message came back with status {status} and {len(came)} bytes")
+
+
+def system_clock(port):
+    """A message is enqueued between two readings of the clock, and locked for 60 s from then on."""
+    with Caller(port) as caller:
+        before = int(time.time() * 1000)
+        caller.line({"do": "send", "to": "q", "messages": [{"body": "now"}]})
+        between = int(time.time() * 1000)
+        message = caller.line({"do": "receive", "from": "q"})["message"]
+        after = int(time.time() * 1000)
+        caller.line({"do": "complete", "from": "q", "seq": message["seq"], "token": message["token"]})
+    enqueued, locked = message["enqueued"], message["until"] - 60_000
+    wants(before <= enqueued <= between <= locked <= after, f"{enqueued} and {locked} at {before}, {between}, {after}")
+
+
 def two_at_once(port):
     """A receive waits on one connection while another sends."""
     got = []
@@ -114,7 +142,7 @@ def two_at_once(port):
     wants(got and got[0][0] == 200 and got[0][1].endswith("late"), f"a receive that waits was answered {got}")
 
 
-def all_rows(program):
+def all_rows(program, is_short):
     port = free_port()
     with tempfile.TemporaryDirectory() as folder, serving(program, folder, port):
         told = client(program, port, ['{"do":"create-queue","name":"q"}', '{"do":"counts","entity":"q"}'], 0)
@@ -124,10 +152,21 @@ def all_rows(program):
         )
         two_requests(port)
         by_curl(port)
+        largest_message(port)
+        system_clock(port)
         two_at_once(port)
         port_in_use(program, port)
     two_workers_end(program)
-    silent_caller(program)
+    out_of_files(program)
+    if not is_short:
+        each_at_once(lambda: silent_caller(program), lambda: caller_who_takes_nothing(program))
+
+
+def each_at_once(*rows):
+    """Calls all of them, and fails where one does."""
+    with ThreadPoolExecutor(len(rows)) as pool:
+        for it in [pool.submit(row) for row in rows]:
+            it.result()
 
 
 def port_in_use(program, port):
@@ -151,13 +190,74 @@ def silent_caller(program):
         wants(code == 410 and 55 < waited < 75, f"{code} after {waited:.1f} seconds beside a silent caller")
 
 
+def caller_who_takes_nothing(program):
+    """One worker, whose caller asks for much and takes none of it: another is served once no more of it has gone out
+    for a minute, and what the system's buffers take goes out."""
+    port = free_port()
+    with tempfile.TemporaryDirectory() as folder, serving(program, folder, port, "--workers", "1"):
+        with Caller(port) as caller:
+            caller.line({"do": "create-queue", "name": "q"})
+            for _ in range(20):
+                caller.ask("POST", "/q/messages", b"x" * 262_144)
+        peek = b'{"do":"peek","from":"q","start":1,"count":20}'
+        ask = b"POST /$script HTTP/1.1\r\nHost: h\r\nContent-Length: %d\r\n\r\n%s" % (len(peek), peek)
+        with socket.create_connection(("127.0.0.1", port)) as conn:
+            conn.sendall(4 * ask)
+            begun = time.monotonic()
+            code, _ = curl(port, "-X", "POST", "--data-binary", "hi", "/r/messages")
+            waited = time.monotonic() - begun
+    wants(code == 410 and 55 < waited < 300, f"{code} after {waited:.1f} seconds beside a caller who takes nothing")
+
+
+def out_of_files(program):
+    """Two workers and files for one connection: the second can't be taken, and the end has status 8."""
+    with tempfile.TemporaryDirectory() as folder:
+        port, few = free_port(), os.path.join(folder, "few")
+        with serving(program, folder, port, "--workers", "2") as server, Caller(port) as caller:
+            caller.line({"do": "create-queue", "name": "q"})
+            files = max(int(number) for number in os.listdir(f"/proc/{server.pid}/fd")) + 1
+        with open(few, "w", encoding="ascii") as script:
+            script.write(f"#!/bin/sh\nulimit -n {files}\nexec '{program}' \"$@\"\n")
+        os.chmod(few, 0o755)
+        port = free_port()
+        with ending(few, folder, port, "--workers", "2", "--connections", "2") as server:
+            with Caller(port) as first:
+                first.line({"do": "counts", "entity": "q"})
+                second = Caller(port)
+                until(lambda: len(os.listdir(f"/proc/{server.pid}/task")) < 2)
+            with second:
+                reply = second.line({"do": "counts", "entity": "q"})
+            told, _ = server.communicate(timeout=20)
+    wants(reply.get("ok") == "counts", f"the worker that is left answered {reply}")
+    wants(server.returncode == 8, f"out of files: status {server.returncode}, {told!r}")
+
+
+def until(holds):
+    """Waits for it, some seconds at most."""
+    for _ in range(100):
+        if holds():
+            return
+        time.sleep(0.05)
+
+
+@contextlib.contextmanager
+def ending(program, folder, port, *words):
+    """A server that ends by itself within the block, and is killed where it doesn't."""
+    server = start(program, folder, port, *words)
+    try:
+        yield server
+    finally:
+        server.kill()
+        server.wait()
+
+
 def two_workers_end(program):
     """Each worker ends after one connection, and the numbers of the history are told."""
     port = free_port()
     with tempfile.TemporaryDirectory() as folder:
-        server = start(program, folder, port, "--workers", "2", "--connections", "1")
-        client(program, port, ['{"do":"create-queue","name":"q"}', '{"do":"delete","entity":"r"}'], 1)
-        told, _ = server.communicate(timeout=20)
+        with ending(program, folder, port, "--workers", "2", "--connections", "1") as server:
+            client(program, port, ['{"do":"create-queue","name":"q"}', '{"do":"delete","entity":"r"}'], 1)
+            told, _ = server.communicate(timeout=20)
     wants(
         told == '{"changing":1,"entries":2,"ok":"report","refused":1}\n' and server.returncode == 0,
         f"status {server.returncode}, {told!r}",
@@ -165,8 +265,10 @@ def two_workers_end(program):
 
 
 def main():
-    program, _ = given_words(__doc__)
-    tell(lambda: all_rows(program))
+    program, more = given_words(__doc__, most=2)
+    if more not in ([], ["--short"]):
+        sys.exit(__doc__)
+    tell(lambda: all_rows(program, bool(more)))
 
 
 if __name__ == "__main__":

@@ -12,10 +12,12 @@ use Rattle.sb_model.specs.declared.message.SystemText.{SystemText}
 use Rattle.sb_amqp.specs.Reads.{Reads}
 use Rattle.sb_amqp.specs.Written.{written, max_header_ttl}
 
+-- system texts that are all UTF-8
 abbrev pub AreTexts : List SystemText → Type 0
 AreTexts [] = Unit {0}
 AreTexts (s ∷ sys) = (is_utf8 s.text ≡ true) × AreTexts sys
 
+-- a value that its type can hold
 abbrev pub HasRange : PropertyValue → Type 0
 HasRange (Int z) = FitsSigned w64 z
 HasRange (Text text) = is_utf8 text ≡ true
@@ -27,6 +29,7 @@ pub record IsFolded (p : Property) : Type 0 where
   pub folded : str_to_ascii_lowercase p.name ≡ p.name
   pub value : HasRange p.value
 
+-- properties whose names are all in lower case
 abbrev pub AreFolded : List Property → Type 0
 AreFolded [] = Unit {0}
 AreFolded (p ∷ props) = IsFolded p × AreFolded props
@@ -41,5 +44,6 @@ pub record IsWritable (m : Message) : Type 0 where
   pub ttl : IfSome m.ttl (λ ttl. (0 < ttl) × (ttl ≤ max_header_ttl))
   pub schedule : IfSome m.schedule (λ moment. moment < 2 ^ 63)
 
+-- a message that is written is read back as it was
 abbrev pub ReadsBack : Type 0
 ReadsBack = (m : Message) → IsWritable m → Reads (written m) m

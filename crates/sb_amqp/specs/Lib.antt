@@ -1,3 +1,5 @@
+-- Messages as bytes of AMQP 1.0, in the order to read them: Values, Fields; Written (how one is written); Sections, Meaning, Reads (which
+-- message bytes say); Reading (how values are taken from bytes); Laws, Worked.
 pub mod Values
 pub mod Fields
 pub mod Written

@@ -38,6 +38,7 @@ signed_in content =
     else if length content == 1 then cast_signed w8 (slice_index content 0)
     else pos 0
 
+-- bytes, if they are UTF-8
 abbrev pub if_utf8 : List ℕ → Option (List ℕ)
 if_utf8 bytes = if is_utf8 bytes then Some bytes else None
 
@@ -49,19 +50,23 @@ plain_text _ content = None
 
 -- ---- the header's third field: milliseconds, in s rounded up, 1 at least
 
+-- milliseconds as seconds, rounded up, and one at least
 abbrev pub seconds : ℕ → ℕ
 seconds ms = (ms - 1) / 1000 + 1
 
+-- a time to live, where it can be used; null leaves what was there
 abbrev pub ttl_from : Kind → List ℕ → Option ℕ → Option (Option ℕ)
 ttl_from kind.Null content ttl = Some ttl
 ttl_from kind.Uint content ttl = Some (Some (seconds (unsigned_in content)))
 ttl_from _ content ttl = None
 
+-- what an item of the header adds: the third is the time to live, the others say nothing that is kept
 abbrev pub header_item : ℕ → List ℕ → Message → Option Message
 header_item index value m = if index == 2 then option_map (λ ttl. record m { ttl = ttl }) (ttl_from (kind_of value) (content_of value) m.ttl) else Some m
 
 -- ---- the annotation that schedules
 
+-- whether a key is that of the moment from which on a message may be received
 abbrev pub is_schedule_key : Kind → List ℕ → Bool
 is_schedule_key kind.String content = bytes_eq content schedule_key
 is_schedule_key kind.Symbol content = bytes_eq content schedule_key
@@ -71,6 +76,7 @@ is_schedule_key _ content = false
 abbrev pub moment_in : ℕ → Option ℕ
 moment_in n = if nat_lt n (2 ^ 63) then Some n else None
 
+-- that moment, where it can be used
 abbrev pub moment_from : Kind → List ℕ → Option ℕ
 moment_from kind.Timestamp content = moment_in (unsigned_in content)
 moment_from _ content = None
@@ -93,6 +99,7 @@ id_text kind.Ulong content = Some (decimal (unsigned_in content))
 id_text kind.Uuid content = uuid_text content
 id_text _ content = None
 
+-- the ids, which may also be given as a number or a UUID
 abbrev pub is_id : SystemName → Bool
 is_id MessageId = true
 is_id CorrelationId = true
@@ -108,6 +115,7 @@ abbrev pub is_null : Kind → Bool
 is_null kind.Null = true
 is_null _ = false
 
+-- a system text from a value; null is an empty one
 abbrev pub text_from : SystemName → Kind → List ℕ → Option (List ℕ)
 text_from name k content = if is_null k then Some [] else if is_id name then id_text k content else plain_text k content
 
@@ -116,21 +124,26 @@ abbrev pub with_text : SystemName → List ℕ → List SystemText → List Syst
 with_text name [] sys = sys
 with_text name (b ∷ bs) sys = with_text_more (record { name = name; text = b ∷ bs }) sys
 
+-- what an item of the properties adds, where it is one that is kept
 abbrev pub named_item : Option SystemName → List ℕ → Message → Option Message
 named_item None value m = Some m
 named_item (Some name) value m = option_map (λ text. record m { sys = with_text name text m.sys }) (text_from name (kind_of value) (content_of value))
 
 -- ---- application properties
 
+-- a whole number as a value, if it is below 2^63
 abbrev pub if_i64 : ℕ → Option PropertyValue
 if_i64 n = if nat_lt n (2 ^ 63) then Some (Int (pos n)) else None
 
+-- one byte as a value: 0 is false, 1 is true
 abbrev pub if_truth : ℕ → Option PropertyValue
 if_truth n = if n == 0 then Some (Truth false) else if n == 1 then Some (Truth true) else None
 
+-- a text as a value
 abbrev pub text_property : Option (List ℕ) → Option PropertyValue
 text_property text = option_map (λ t. Text t) text
 
+-- the value of a user property, of each type that one may have
 abbrev pub property_from : Kind → List ℕ → Option PropertyValue
 property_from kind.True content = Some (Truth true)
 property_from kind.False content = Some (Truth false)
@@ -151,6 +164,7 @@ property_from _ content = None
 abbrev pub with_property : List ℕ → PropertyValue → Message → Message
 with_property name value m = record m { props = with_user (str_to_ascii_lowercase name) (Some value) m.props }
 
+-- a message with one user property more
 abbrev pub entry_named : List ℕ → List ℕ → Message → Option Message
 entry_named name value m = option_map (λ v. with_property name v m) (property_from (kind_of value) (content_of value))
 
@@ -158,9 +172,11 @@ entry_named name value m = option_map (λ v. with_property name v m) (property_f
 abbrev pub entry_of : List ℕ → List ℕ → Message → Option Message
 entry_of key value m = if is_null (kind_of value) then Some m else option_and_then (λ name. entry_named name value m) (plain_text (kind_of key) (content_of key))
 
+-- the key of a user property, which has to be a text
 abbrev pub key_of : List ℕ → Message → Option Message
 key_of key m = option_map (λ _. m) (plain_text (kind_of key) (content_of key))
 
+-- what an item of the user properties adds: keys and values stand in turn
 abbrev pub application_item : ℕ → List ℕ → List ℕ → Message → Option Message
 application_item index key value m = if index % 2 == 0 then key_of value m else entry_of key value m
 
@@ -179,6 +195,7 @@ abbrev pub or_left : {A : Type 0} → ℕ → Option A → Result A ℕ
 or_left left None = Err left
 or_left left (Some a) = Ok a
 
+-- goes on, unless something couldn't be used
 abbrev pub and_then : {A B : Type 0} → Result A ℕ → (A → Result B ℕ) → Result B ℕ
 and_then (Ok a) f = f a
 and_then (Err left) f = Err left
@@ -191,9 +208,11 @@ items_say code index before m (v ∷ vs) behind =
 
 -- ---- sections
 
+-- a message with these bytes behind its body's others
 abbrev pub with_body : List ℕ → Message → Message
 with_body bytes m = record m { body = m.body ++ bytes }
 
+-- a string, where the body is a value
 abbrev pub value_text : ℕ → List ℕ → Option (List ℕ)
 value_text code content = if code == value_code then if_utf8 content else None
 
@@ -203,13 +222,16 @@ body_from code kind.Binary content = Some content
 body_from code kind.String content = value_text code content
 body_from code _ content = None
 
+-- what a section of the body adds, or how many bytes are left where it can't be used
 abbrev pub body_says : ℕ → List ℕ → Message → ℕ → Result Message ℕ
 body_says code value m left = or_left left (option_map (λ bytes. with_body bytes m) (body_from code (kind_of value) (content_of value)))
 
+-- what the items of a section add, where its value is of the right type
 abbrev pub items_if : Bool → ℕ → Message → List ℕ → List (List ℕ) → ℕ → Result Message ℕ
 items_if true code m value items behind = items_say code 0 [] m items behind
 items_if false code m value items behind = Err (length value + behind)
 
+-- what each section adds; sequences can't be used
 abbrev pub section_says : ℕ → List ℕ → List (List ℕ) → Message → ℕ → Result Message ℕ
 section_says code value items m behind =
     if code == header_code || code == properties_code then items_if (is_list (kind_of value)) code m value items behind
@@ -223,6 +245,7 @@ abbrev pub sections_say : Message → List Section → Result Message ℕ
 sections_say m [] = Ok m
 sections_say m (s ∷ ss) = and_then (section_says s.code s.value s.items m (length (all_spelled ss))) (λ next. sections_say next ss)
 
+-- a message that nothing was said of
 abbrev pub no_message : Message
 no_message = record { body = []; sys = []; props = []; ttl = None; schedule = None }
 

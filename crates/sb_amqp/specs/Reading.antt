@@ -14,6 +14,7 @@ behind n bytes = if nat_lt (length bytes) n then None else Some (drop n bytes)
 unfoldable pub number_at : Width → List ℕ → Option (ℕ × List ℕ)
 number_at w bytes = if nat_lt (length bytes) (byte_len w) then None else Some (from_be_bytes w (take (byte_len w) bytes), drop (byte_len w) bytes)
 
+-- what is behind a value of this extent
 unfoldable pub after_plain : Extent → List ℕ → Option (List ℕ)
 after_plain (Fixed n) bytes = behind n bytes
 after_plain Short [] = None
@@ -29,6 +30,7 @@ after_value zero (code ∷ rest) = after_plain (extent_of code) rest
 after_value (suc n) (zero ∷ rest) = option_and_then (λ value. after_value n value) (after_value n rest)
 after_value (suc n) (suc code ∷ rest) = after_plain (extent_of (suc code)) rest
 
+-- what stands before the rest of some bytes, and that rest
 abbrev pub cut : List ℕ → List ℕ → List ℕ × List ℕ
 cut bytes rest = (take (length bytes - length rest) bytes, rest)
 
@@ -47,6 +49,7 @@ counted Long content = number_at w32 content
 counted Described content = None
 counted Unknown content = None
 
+-- there is one, and it passes the test
 abbrev pub is_some_and : {A : Type 0} → (A → Bool) → Option A → Bool
 is_some_and test None = false
 is_some_and test (Some a) = test a
@@ -56,15 +59,18 @@ unfoldable pub are_values : ℕ → List ℕ → Bool
 are_values zero bytes = length bytes == 0
 are_values (suc n) bytes = is_some_and (λ x. are_values n x.1) (value_at bytes)
 
+-- a list or map has as many items as it says, and a map has pairs of them
 unfoldable pub is_filled : List ℕ → Bool
 is_filled value = is_some_and (λ x. pairs_up (kind_of value) x.0 && are_values x.0 x.1) (counted (extent_at value) (content_of value))
 
+-- the same, where the items are used
 abbrev pub is_filled_if : Bool → List ℕ → Bool
 is_filled_if false value = true
 is_filled_if true value = is_filled value
 
 -- ---- sections
 
+-- a code of one byte, and what is behind it
 abbrev pub code_at : List ℕ → Option (ℕ × List ℕ)
 code_at [] = None
 code_at (code ∷ rest) = Some (code, rest)
@@ -73,6 +79,7 @@ code_at (code ∷ rest) = Some (code, rest)
 abbrev pub if_small : ℕ × List ℕ → Option (ℕ × List ℕ)
 if_small x = if nat_lt 255 x.0 then None else Some x
 
+-- a code of eight bytes, and what is behind it, where it is small
 unfoldable pub small_at : List ℕ → Option (ℕ × List ℕ)
 small_at bytes = option_and_then if_small (number_at w64 bytes)
 
@@ -87,6 +94,7 @@ descriptor_at (b ∷ []) = None
 descriptor_at (zero ∷ form ∷ rest) = coded_at form rest
 descriptor_at (suc b ∷ form ∷ rest) = None
 
+-- a section, if the items that are used of it are there
 abbrev pub if_filled : ℕ → List ℕ × List ℕ → Option (ℕ × (List ℕ × List ℕ))
 if_filled code x = if is_filled_if (has_used_items code (kind_of x.0)) x.0 then Some (code, x) else None
 
@@ -94,6 +102,7 @@ if_filled code x = if is_filled_if (has_used_items code (kind_of x.0)) x.0 then 
 unfoldable pub section_at : List ℕ → Option (ℕ × (List ℕ × List ℕ))
 section_at bytes = option_and_then (λ d. option_and_then (λ x. if_filled d.0 x) (value_at d.1)) (descriptor_at bytes)
 
+-- a section, if it may follow the one before it
 abbrev pub if_next : ℕ → ℕ × (List ℕ × List ℕ) → Option (ℕ × (List ℕ × List ℕ))
 if_next last x = if may_follow last x.0 then Some x else None
 

@@ -9,6 +9,7 @@ use Rattle.sb_amqp.specs.declared.values.Kind.TheVariants as kind
 use Rattle.sb_amqp.specs.Fields.{header_code, annotations_code, properties_code, application_code, data_code, footer_code}
 use Rattle.sb_amqp.specs.Values.{joined, IsValue, AreValues, max_nesting, extent_at, kind_of, content_of}
 
+-- one section: its descriptor, its value, and the items of that
 pub record Section : Type 0 where
   -- the descriptor's number
   pub code : ℕ
@@ -23,9 +24,11 @@ abbrev pub descriptor : Bool → ℕ → List ℕ
 descriptor true code = 0 ∷ 83 ∷ code ∷ []
 descriptor false code = 0 ∷ 128 ∷ to_be_bytes w64 code
 
+-- the bytes of a section
 abbrev pub spelled : Section → List ℕ
 spelled s = descriptor s.is_small s.code ++ s.value
 
+-- the bytes of sections, one behind the other
 abbrev pub all_spelled : List Section → List ℕ
 all_spelled ss = flat_map spelled ss
 
@@ -53,10 +56,12 @@ pub record HasItems (value : List ℕ) (items : List (List ℕ)) : Type 0 where
   pub each : AreValues items
   pub count : FitsCount (extent_at value) (length items)
 
+-- whether a value is a list
 abbrev pub is_list : Kind → Bool
 is_list kind.List = true
 is_list _ = false
 
+-- whether a value is a map
 abbrev pub is_map : Kind → Bool
 is_map kind.Map = true
 is_map _ = false
@@ -72,6 +77,7 @@ has_used_items code k =
 abbrev pub pairs_up : Kind → ℕ → Bool
 pairs_up k count = if is_map k then count % 2 == 0 else true
 
+-- a section has the items of its value, where they are used, else none
 abbrev pub HasUsedItems : Bool → List ℕ → List (List ℕ) → Type 0
 HasUsedItems false value items = items ≡ []
 HasUsedItems true value items = HasItems value items × (pairs_up (kind_of value) (length items) ≡ true)
@@ -82,6 +88,7 @@ pub record IsSection (s : Section) : Type 0 where
   pub value : IsValue max_nesting s.value
   pub items : HasUsedItems (has_used_items s.code (kind_of s.value)) s.value s.items
 
+-- all of these are sections
 abbrev pub AreSections : List Section → Type 0
 AreSections [] = Unit {0}
 AreSections (s ∷ ss) = IsSection s × AreSections ss
@@ -103,10 +110,12 @@ may_follow last code =
 abbrev pub may_end : ℕ → Bool
 may_end last = nat_le data_code last
 
+-- the code of the last section, or of what came before
 abbrev pub last_code : ℕ → List Section → ℕ
 last_code last [] = last
 last_code last (s ∷ ss) = last_code s.code ss
 
+-- all of these are sections, each of which may follow the one before it
 abbrev pub AreInOrder : ℕ → List Section → Type 0
 AreInOrder last [] = Unit {0}
 AreInOrder last (s ∷ ss) = (may_follow last s.code ≡ true) × IsSection s × AreInOrder s.code ss

@@ -13,6 +13,7 @@ joined (v ∷ vs) = v ++ joined vs
 
 -- ---- how far a value goes
 
+-- the extent in a row of the table, if there is one
 abbrev pub extent_or_unknown : Option (ℕ × Extent) → Extent
 extent_or_unknown None = Unknown
 extent_or_unknown (Some row) = row.1
@@ -27,6 +28,7 @@ extents =
 unfoldable pub extent_of : ℕ → Extent
 extent_of code = if code == 0 then Described else extent_or_unknown (find (λ row. row.0 == code / 16) extents)
 
+-- the extent of the value at the front
 unfoldable pub extent_at : List ℕ → Extent
 extent_at [] = Unknown
 extent_at (code ∷ rest) = extent_of code
@@ -46,15 +48,18 @@ IsValue zero (code ∷ rest) = HasExtent (extent_of code) rest
 IsValue (suc n) (zero ∷ rest) = (descriptor : List ℕ) × (value : List ℕ) × IsValue n descriptor × IsValue n value × (rest ≡ descriptor ++ value)
 IsValue (suc n) (suc code ∷ rest) = HasExtent (extent_of (suc code)) rest
 
+-- at most so many descriptors stand one within the other
 abbrev pub max_nesting : ℕ
 max_nesting = 8
 
+-- all of these are values
 abbrev pub AreValues : List (List ℕ) → Type 0
 AreValues [] = Unit {0}
 AreValues (v ∷ vs) = IsValue max_nesting v × AreValues vs
 
 -- ---- what a value is
 
+-- the kind in a row of the table, if there is one
 abbrev pub kind_or_other : Option (ℕ × Kind) → Kind
 kind_or_other None = kind.Other
 kind_or_other (Some row) = row.1
@@ -70,6 +75,7 @@ kinds =
     ∷ (160, kind.Binary) ∷ (176, kind.Binary) ∷ (161, kind.String) ∷ (177, kind.String) ∷ (163, kind.Symbol) ∷ (179, kind.Symbol)
     ∷ (69, kind.List) ∷ (192, kind.List) ∷ (208, kind.List) ∷ (193, kind.Map) ∷ (209, kind.Map) ∷ []
 
+-- what kind of value it is, by its constructor
 unfoldable pub kind_of : List ℕ → Kind
 kind_of [] = kind.Other
 kind_of (code ∷ rest) = kind_or_other (find (λ row. row.0 == code) kinds)
@@ -82,6 +88,7 @@ behind_length Long bytes = drop 4 bytes
 behind_length Described bytes = bytes
 behind_length Unknown bytes = bytes
 
+-- the bytes of a value behind its constructor and its length
 unfoldable pub content_of : List ℕ → List ℕ
 content_of [] = []
 content_of (code ∷ rest) = behind_length (extent_of code) rest

@@ -42,6 +42,7 @@ full_application = 0 ∷ 83 ∷ 116 ∷ 209 ∷ 0 ∷ 0 ∷ 0 ∷ 38 ∷ 0 ∷ 0
 abbrev full_body : List ℕ
 full_body = 0 ∷ 83 ∷ 117 ∷ 176 ∷ 0 ∷ 0 ∷ 0 ∷ 1 ∷ 255 ∷ []
 
+-- all of it
 abbrev pub full_written : List ℕ
 full_written = full_header ++ full_annotations ++ full_properties ++ full_application ++ full_body
 

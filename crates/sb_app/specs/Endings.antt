@@ -53,6 +53,7 @@ IsReplyCut line was now TimeJump = ⊥
 
 -- ---- the line at which a run ends
 
+-- the line that a run ended at, and how its call was answered
 pub record LastLine : Type 0 where
   pub line : ScriptLine
   -- the moment of the tick that its call made first, if it did
@@ -102,10 +103,12 @@ pub record IsCutAt (s : State) (line : ScriptLine) (was now : Output) (after : S
 
 -- ---- a run that ended early
 
+-- that line, if there is one
 abbrev pub line_of_last : Option LastLine → List ScriptLine
 line_of_last None = []
 line_of_last (Some last) = last.line ∷ []
 
+-- the entries of its call, if there is one
 abbrev pub entries_of_last : Option LastLine → List Entry
 entries_of_last None = []
 entries_of_last (Some last) = entries_by last.line last.tick last.answer

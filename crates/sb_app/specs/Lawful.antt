@@ -14,6 +14,7 @@ use Rattle.sb_machine.specs.History.{fresh_log, state_after}
 use Rattle.sb_machine.specs.declared.history.Entry.{Entry}
 use Rattle.sb_machine.specs.declared.state.State.{State}
 
+-- what holds of a legal history: numbers, ids, messages, locks and sessions, each as its law says
 pub record HasLaws (s : State) (h : List Entry) : Type 0 where
   -- a repeat acts once: each client's numbers rise, and none acts twice
   pub numbers : ActOnce s (acted_numbers (fresh_log s) h)

@@ -15,17 +15,21 @@ pub record Output : Type 0 where
   pub given : Option (List ℕ)
   pub faults : ℕ
 
+-- an input, an output and two disks, as contracts see them
 pub record Outside : Type 0 where
   pub input : Input
   pub output : Output
   pub disks : Disks
 
+-- an input, by its ghost values
 abbrev pub input_of : {S : Type 0} → Source S → S → Input
 input_of source input = record { left = source.left input; faults = source.count input }
 
+-- an output, by its ghost values
 abbrev pub output_of : {K : Type 0} → Sink K → K → Output
 output_of sink output = record { given = sink.given output; faults = sink.count output }
 
+-- all of it, by its ghost values
 abbrev pub outside_of : {D S K : Type 0} → Disk D → Source S → Sink K → D → D → S → K → Outside
 outside_of disk source sink a b input output = record {
   input = input_of source input;

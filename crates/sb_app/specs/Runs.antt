@@ -57,6 +57,7 @@ state_by s Blank = s
 state_by s (Malformed key) = s
 state_by s (Request a form) = state_after s (entries_at 0 s a.reading a.call)
 
+-- whether a line is refused; a blank one never is
 abbrev pub refuses_it : State → ScriptLine → Bool
 refuses_it s Blank = false
 refuses_it s (Malformed key) = true
@@ -77,14 +78,17 @@ pub record IsAnswered (s : State) (line : ScriptLine) (was now : Output) (after 
 
 -- ---- all lines, one after another
 
+-- what is written for lines, one after another
 abbrev pub replies_to : State → List ScriptLine → List ℕ
 replies_to s [] = []
 replies_to s (l ∷ ls) = reply_to s l ++ replies_to (state_by s l) ls
 
+-- the state after lines
 abbrev pub state_after_all : State → List ScriptLine → State
 state_after_all s [] = s
 state_after_all s (l ∷ ls) = state_after_all (state_by s l) ls
 
+-- whether one of the lines is refused
 abbrev pub any_refused : State → List ScriptLine → Bool
 any_refused s [] = false
 any_refused s (l ∷ ls) = refuses_it s l || any_refused (state_by s l) ls

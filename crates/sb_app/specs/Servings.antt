@@ -157,6 +157,7 @@ pub record IsFreeServing {R : Type 0} (reads : ℕ → Type 0) (days : ℕ) (cou
   pub door_quiet : HasDoorRisen count doors doors_now → ⊥
   pub output_quiet : IsQuiet was.output.faults now.output.faults
 
+-- the statuses that a server's call may end with
 abbrev pub IsServeStatus : ℕ → Type 0
 IsServeStatus status = (status ≡ 0) ⊎ (status ≡ 4) ⊎ (status ≡ 5) ⊎ (status ≡ 6) ⊎ (status ≡ 7) ⊎ (status ≡ 8) ⊎ (status ≡ 14)
 

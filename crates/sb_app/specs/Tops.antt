@@ -105,10 +105,12 @@ IsEarly reads days salt was now end = IsUnopened salt was now end ⊎ IsEarlyRun
 abbrev pub usage_line : List ℕ
 usage_line = codes "usage: bus COMMAND (run, serve, client, check, drill)\n"
 
+-- how a disk is named
 abbrev pub letter_of : Side → List ℕ
 letter_of A = codes "a"
 letter_of B = codes "b"
 
+-- the line that tells of damage: the disk and the place
 abbrev pub damage_line : Side → ℕ → List ℕ
 damage_line side place = codes "{\"disk\":\"" ++ (letter_of side ++ (codes "\",\"place\":" ++ (decimal place ++ codes ",\"refused\":\"Damaged\"}\n")))
 
@@ -142,6 +144,7 @@ IsRunStatus status = ((refused : Bool) × (status ≡ status_by refused)) ⊎ ((
 abbrev pub IsStatus : ℕ → Type 0
 IsStatus status = IsRunStatus status ⊎ ((status ≡ 2) ⊎ (status ≡ 6))
 
+-- a count of faults didn't rise
 abbrev pub IsQuiet : (before now : ℕ) → Type 0
 IsQuiet before now = Rose before now → ⊥
 

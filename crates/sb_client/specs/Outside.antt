@@ -6,6 +6,7 @@ use Rattle.sb_outside.specs.declared.link.Link.{Ghosts as Link}
 use Rattle.sb_outside.specs.declared.streams.Source.{Ghosts as Source}
 use Rattle.sb_outside.specs.declared.streams.Sink.{Ghosts as Sink}
 
+-- what is left of the input, what the link exchanged, and what was written
 pub record Outside : Type 0 where
   pub key : List ℕ
   pub left : Option (List ℕ)

@@ -17,17 +17,21 @@ use Rattle.sb_client.specs.declared.ending.ClientEnding.TheVariants.{Done, ReadF
 abbrev pub lines_in : List Answer → List (List ℕ)
 lines_in answers = map (λ a. a.line) answers
 
+-- all that was exchanged for these lines
 abbrev pub exchanges_in : List Answer → List Exchange
 exchanges_in answers = flat_map (λ a. a.made) answers
 
+-- all that was written for these lines
 abbrev pub replies_in : List Answer → List ℕ
 replies_in answers = flat_map (λ a. a.written) answers
 
+-- whether one of these lines was refused
 abbrev pub any_refused : List Answer → Bool
 any_refused answers = list_any (λ a. a.refused) answers
 
 -- ---- a run that took all its input
 
+-- a run that took all its input and answered each line, in order
 pub record IsWholeRun (was now : Outside) (refused : Bool) : Type 0 where
   pub input : List ℕ
   pub took : Took was.left now.left input

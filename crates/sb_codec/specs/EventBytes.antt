@@ -10,22 +10,28 @@ use Rattle.sb_codec.specs.Forms.{Form, number64, ◌then◌, shaped, optional, R
 use Rattle.sb_codec.specs.Pieces.{by}
 use Rattle.sb_codec.specs.Readers.{◌>>=◌}
 
+-- the form of calls: the client and number, if there are any, and the operation
 unfoldable pub a_call : Form Call
 a_call = shaped (λ x. record { by = x.0; act = x.1 }) (λ c. (c.by, c.act)) (optional by then any_act)
 
+-- a time step
 abbrev pub tick : Row Event
 tick = row 0 number64 (λ t. Tick t)
 
+-- a call, with the moment at which it acted
 abbrev pub called : Row Event
 called = row 1 (number64 then a_call) (λ x. Called x.0 x.1)
 
+-- the code and the bytes of each event
 abbrev pub event_case : Event → Case
 event_case (Tick t) = of tick t
 event_case (Called t call) = of called (t, call)
 
+-- what is read behind each code
 abbrev pub event_choice : Choice Event
 event_choice = tick or called or no_row
 
+-- the form of events
 unfoldable pub event : Form Event
 event = variants event_case event_choice
 
@@ -36,9 +42,11 @@ event_of (CalledRef t call) = Called t call.now
 
 -- ---- as others cite it
 
+-- the bytes of an event, as they stand in a record of the journal
 abbrev pub event_bytes : Event → List ℕ
 event_bytes e = event.spell e
 
+-- an event that has such bytes
 abbrev pub HasSpelling : Event → Type 0
 HasSpelling e = event.Fits e
 

@@ -10,6 +10,7 @@ use Rattle.sb_codec.specs.Bytes.{sized}
 use Rattle.sb_codec.specs.Readers as readers
 use Rattle.sb_codec.specs.Readers.{Reader, ◌>>=◌, mapped, number_at, sized_at, optional_at, listed_at}
 
+-- how values are spelled and read, which of them have a spelling, and how long it is
 pub record Form (A : Type 0) : Type 1 where
   pub spell : A → List ℕ
   pub reads : Reader A
@@ -34,6 +35,7 @@ number32 = record { spell = λ n. to_be_bytes w32 n; reads = number_at w32; Fits
 abbrev pub number64 : Form ℕ
 number64 = record { spell = λ n. to_be_bytes w64 n; reads = number_at w64; Fits = λ n. n < 2 ^ 64; Asks = λ _. Unit {0}; fixed = 8; content = λ _. 0 }
 
+-- bytes behind their count, which has 4 bytes
 abbrev pub blob : Form (List ℕ)
 blob = record { spell = sized; reads = sized_at; Fits = λ t. length t < 2 ^ 32; Asks = λ t. length t < 2 ^ 32; fixed = 4; content = λ t. length t }
 
@@ -41,6 +43,7 @@ blob = record { spell = sized; reads = sized_at; Fits = λ t. length t < 2 ^ 32;
 abbrev pub tested : {A : Type 0} → (A → Bool) → Form A → Form A
 tested test f = record { spell = f.spell; reads = readers.tested test f.reads; Fits = λ a. f.Fits a × (test a ≡ true); Asks = λ a. test a ≡ true → f.Asks a; fixed = f.fixed; content = f.content }
 
+-- the same, of bytes that are UTF-8
 abbrev pub text : Form (List ℕ)
 text = tested is_utf8 blob
 
@@ -62,6 +65,7 @@ f then g = record {
 abbrev pub shaped : {A B : Type 0} → (A → B) → (B → A) → Form A → Form B
 shaped make parts f = record { spell = λ b. f.spell (parts b); reads = mapped make f.reads; Fits = λ b. f.Fits (parts b); Asks = λ b. f.Asks (parts b); fixed = f.fixed; content = λ b. f.content (parts b) }
 
+-- the bytes of a content that may be left out
 abbrev pub content_or_none : {A : Type 0} → (A → ℕ) → Option A → ℕ
 content_or_none content None = 0
 content_or_none content (Some a) = content a
@@ -93,6 +97,7 @@ unfoldable pub coded_at : {A : Type 0} → (A → ℕ) → List A → Reader A
 coded_at code values [] = None
 coded_at code values (b ∷ rest) = find (λ a. code a == b) values >>= λ a. Some (a, rest)
 
+-- one of a few values, as one byte
 abbrev pub coded : {A : Type 0} → (A → ℕ) → List A → Form A
 coded code values = record { spell = λ a. code a ∷ []; reads = coded_at code values; Fits = λ _. Unit {0}; Asks = λ _. Unit {0}; fixed = 1; content = λ _. 0 }
 
@@ -103,6 +108,7 @@ pub record Row (A : Type 0) : Type 1 where
   pub form : Form Fields
   pub make : Fields → A
 
+-- a variant: its code, the form of its fields, and the value that they make
 abbrev pub row : {P A : Type 0} → ℕ → Form P → (P → A) → Row A
 row {P} code form make = record { code = code; Fields = P; form = form; make = make }
 
@@ -114,6 +120,7 @@ pub record Case : Type 1 where
   pub Asks : Type 0
   pub most : ℕ
 
+-- the case that a variant with these fields is
 abbrev pub of : {A : Type 0} → (r : Row A) → r.Fields → Case
 of r fields = record { code = r.code; bytes = r.form.spell fields; Fits = r.form.Fits fields; Asks = r.form.Asks fields; most = r.form.fixed + r.form.content fields }
 
@@ -121,13 +128,16 @@ of r fields = record { code = r.code; bytes = r.form.spell fields; Fits = r.form
 abbrev pub Choice : Type 0 → Type 0
 Choice A = ℕ → Reader A
 
+-- no code is left
 abbrev pub no_row : {A : Type 0} → Choice A
 no_row k bytes = None
 
 infixr 5 ◌or◌
+-- this variant behind its code, or another behind another code
 abbrev pub ◌or◌ : {A : Type 0} → Row A → Choice A → Choice A
 (r or others) k bytes = if k == r.code then mapped r.make r.form.reads bytes else others k bytes
 
+-- a code, and what is read behind it
 unfoldable pub chosen_at : {A : Type 0} → Choice A → Reader A
 chosen_at choice [] = None
 chosen_at choice (k ∷ rest) = choice k rest

@@ -65,6 +65,7 @@ has_sizes (Send to messages txn) = is_none (large_size messages)
 has_sizes (SessionSet from session state) = nat_le (size_of state) max_state
 has_sizes _ = true
 
+-- what the tests say of a call that passed all of them
 pub record IsJudged (is_via : Bool) (call : Call) : Type 0 where
   -- it does more than look
   pub coded : takes_number call.act ≡ true

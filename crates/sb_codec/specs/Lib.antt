@@ -1,3 +1,5 @@
+-- The bytes of events in the journal, in the order to read them: Bytes, Readers, Forms (what a form is); Pieces, Messages, Choices, Acts,
+-- EventBytes (the format itself, as docs/FORMATS.md tells it); Judged and Laws (what passes the machine's tests has a spelling).
 pub mod Bytes
 pub mod Readers
 pub mod Forms

@@ -9,6 +9,7 @@ abbrev pub Reader : Type 0 → Type 0
 Reader A = List ℕ → Option (A × List ℕ)
 
 infixl 10 ◌>>=◌
+-- goes on with what was read, unless it was none
 abbrev pub ◌>>=◌ : {A B : Type 0} → Option A → (A → Option B) → Option B
 None >>= f = None
 (Some x) >>= f = f x
@@ -18,6 +19,7 @@ abbrev pub Fails : {Y : Type 0} → Unread → Option Y → Type 0
 Fails Memory read = Unit {0}
 Fails NoSpelling read = read ≡ None
 
+-- what a function returned, seen by view, is what reading gives
 abbrev pub Gives : {X Y : Type 0} → (X → Y) → Result X Unread → Option Y → Type 0
 Gives view (Ok x) read = read ≡ Some (view x)
 Gives view (Err e) read = Fails e read
@@ -26,6 +28,7 @@ Gives view (Err e) read = Fails e read
 abbrev pub both : {A B : Type 0} → Reader A → Reader B → Reader (A × B)
 both r q = λ bytes. r bytes >>= λ x. q x.1 >>= λ y. Some ((x.0, y.0), y.1)
 
+-- what was read, with f of it
 abbrev pub mapped : {A B : Type 0} → (A → B) → Reader A → Reader B
 mapped f r = λ bytes. r bytes >>= λ x. Some (f x.0, x.1)
 

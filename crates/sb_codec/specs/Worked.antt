@@ -15,9 +15,11 @@ use Rattle.sb_model.specs.declared.message.Message.{Message}
 use Rattle.sb_model.specs.declared.message.PropertyValue.TheVariants.{Int, Text, Bool as Truth}
 use Rattle.sb_model.specs.declared.message.SystemName.TheVariants.{MessageId, Label}
 
+-- a call at a moment, without a client's number
 abbrev pub acted : ℕ → Act → Event
 acted moment act = Called moment (record { by = None; act = act })
 
+-- a message that has a body alone
 abbrev pub body_only : List ℕ → Message
 body_only body = record { body = body; sys = []; props = []; ttl = None; schedule = None }
 
@@ -25,6 +27,7 @@ body_only body = record { body = body; sys = []; props = []; ttl = None; schedul
 abbrev pub ticked : Event
 ticked = Tick 9
 
+-- its bytes
 abbrev pub ticked_bytes : List ℕ
 ticked_bytes = 0 ∷ 0 ∷ 0 ∷ 0 ∷ 0 ∷ 0 ∷ 0 ∷ 0 ∷ 9 ∷ []
 
@@ -32,6 +35,7 @@ ticked_bytes = 0 ∷ 0 ∷ 0 ∷ 0 ∷ 0 ∷ 0 ∷ 0 ∷ 0 ∷ 9 ∷ []
 abbrev pub made : Event
 made = acted 0 (CreateQueue (codes "q") default_description)
 
+-- its bytes
 abbrev pub made_bytes : List ℕ
 made_bytes =
     1 ∷ 0 ∷ 0 ∷ 0 ∷ 0 ∷ 0 ∷ 0 ∷ 0 ∷ 0 ∷ 0 ∷ 1

@@ -1,8 +1,8 @@
 //! Journal events as bytes: one spelling a value, read back exactly.
 //!
 //! What a journal record holds is one event: time went on, or a call acted. The crate stands on
-//! `sb_machine` alone. Its one contract: [`encode_event`] and [`write_event`] give the bytes that
-//! `specs/EventBytes` says, and [`decode_event`] gives an event exactly where bytes spell one.
+//! `sb_model` and `sb_machine`. Its one contract: [`encode_event`] and [`write_event`] give the bytes
+//! that `specs/EventBytes` says, and [`decode_event`] gives an event exactly where bytes spell one.
 //!
 //! A *form* (`specs/Forms`) says of one kind of values how they are spelled, how they are read,
 //! which of them have a spelling and how long it is; a piece (`piece.rt`) is a form in code. Forms

@@ -1,4 +1,5 @@
--- What contracts see of a desk and of a pass.
+-- What contracts see of a desk, which has one value that many callers use in turn, and of a pass, which is the handle
+-- of one caller at a time.
 use Rattle.std.specs.Prelude.{◌≡◌, ℕ, zero, suc, List, [], ◌∷◌, ◌++◌, Option, Result}
 use Rattle.atomic_table.specs.Seated.{TableId}
 use Rattle.sb_machine.specs.History.{IsLegal}
@@ -44,6 +45,7 @@ mine p = entries_by p.seat p.seen
 abbrev pub IsOf : Open → Sitting → Type 0
 IsOf d p = (p.desk ≡ d.desk) × (p.start ≡ d.start) × (p.origin ≡ d.origin) × (p.passes ≡ d.passes)
 
+-- a pass of the desk that has seen nothing yet
 abbrev pub IsNew : Open → Sitting → Type 0
 IsNew d p = IsOf d p × (p.seen ≡ [])
 
@@ -70,10 +72,12 @@ below (suc n) = n ∷ below n
 
 -- ---- how they are kept
 
+-- the first of these views; where there is none, that of a seat which is gone
 abbrev pub view_of : List View → View
 view_of [] = spent_view
 view_of (v ∷ vs) = v
 
+-- a pass, by its desk and its view
 abbrev pub sitting : TableId → View → Sitting
 sitting desk v = record { desk = desk; seat = v.seat; passes = v.passes; start = v.start; origin = v.origin; seen = v.seen }
 
@@ -86,8 +90,10 @@ pub record IsResting (v : View) : Type 0 where
   pub legal : IsLegal v.start v.seen
   pub seats : HaveSeatsBelow v.passes v.seen
 
+-- what a pass that is joined into another leaves behind
 abbrev pub claim_of : Sitting → Claim
 claim_of p = record { seat = p.seat; seen = p.seen }
 
+-- the value that a refused making gives back
 abbrev pub value_of : {X : Type 0} → NewFault X → X
 value_of (OutOfMemory value) = value

@@ -15,6 +15,7 @@ abbrev pub made_by : ℕ → Option ℕ → ℕ → Call → Result Answered Ref
 made_by seat (Some t) reading call answer = Ticked seat t ∷ Replied seat reading call answer ∷ []
 made_by seat None reading call answer = Replied seat reading call answer ∷ []
 
+-- the seat that made an entry
 abbrev pub seat_of : Entry → ℕ
 seat_of (Ticked seat t) = seat
 seat_of (Replied seat reading call answer) = seat
@@ -25,6 +26,7 @@ entries_by seat entries = filter (λ e. seat_of e == seat) entries
 
 -- ---- the numbers of a history
 
+-- whether an entry is a call that was refused
 abbrev pub is_refused : Entry → Bool
 is_refused (Ticked seat t) = false
 is_refused (Replied seat reading call (Ok reply)) = false

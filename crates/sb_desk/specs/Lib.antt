@@ -1,3 +1,5 @@
+-- A desk gives many callers turns at one namespace. In the order to read it: Entries, Lists (histories by the seats that made them), Desks
+-- (what a caller holds, and what a call does), Rule (what is kept between calls), Steps (what each step does).
 pub mod Entries
 pub mod Lists
 pub mod Rule

@@ -15,6 +15,7 @@ IsEnd end all = (before : List Entry) × (all ≡ before ++ end)
 abbrev pub GoesOn : List Entry → ℕ → List Entry → Type 0
 GoesOn log seat seen = (rest : List Entry) × (log ≡ seen ++ rest) × (entries_by seat rest ≡ [])
 
+-- one of two lists begins the other
 abbrev pub AreComparable : List Entry → List Entry → Type 0
 AreComparable a b = IsFront a b ⊎ IsFront b a
 
@@ -22,10 +23,12 @@ AreComparable a b = IsFront a b ⊎ IsFront b a
 abbrev pub longer : List Entry → List Entry → List Entry
 longer a b = if nat_lt (length a) (length b) then b else a
 
+-- the sum of f over a list
 abbrev pub total : {A : Type 0} → (A → ℕ) → List A → ℕ
 total f [] = 0
 total f (x ∷ xs) = f x + total f xs
 
+-- P of each element of a list
 abbrev pub Each : {A : Type 0} → (A → Type 0) → List A → Type 0
 Each P [] = Unit {0}
 Each P (x ∷ xs) = P x × Each P xs

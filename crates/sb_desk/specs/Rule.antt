@@ -1,4 +1,5 @@
 -- The rule of the desk's table: what its words, its slot and the views of all seats have to do with the one history.
+-- A seat is a caller's place in that history, a view what it has seen of it.
 use Rattle.std.specs.Prelude.{◌≡◌, ℕ, ◌+◌, ◌-◌, ◌%◌, ◌^◌, ◌<◌, ◌≤◌, List, [], ◌∷◌, length, Option, Some, None}
 use mathlib.Core.Option.{some}
 use mathlib.Core.Option as maybe
@@ -20,9 +21,11 @@ use Rattle.sb_desk.specs.Lists.{IsFront, GoesOn, total, Each, HaveSeatsBelow}
 abbrev pub word : ℕ → ℕ
 word k = k % 2 ^ 64
 
+-- how many passes a view stands for
 abbrev pub parts : View → ℕ
 parts v = v.parts
 
+-- 1 while a seat has a ticket, else 0
 abbrev pub ticketed : Stage → ℕ
 ticketed (Waits k) = 1
 ticketed (Turn k) = 1
@@ -33,6 +36,7 @@ ticketed _ = 0
 abbrev pub tickets : View → ℕ
 tickets v = ticketed v.stage
 
+-- 1 while a seat has the value, else 0
 abbrev pub out_at : Stage → ℕ
 out_at (Out k log) = 1
 out_at _ = 0
@@ -41,12 +45,14 @@ out_at _ = 0
 abbrev pub outs : View → ℕ
 outs v = out_at v.stage
 
+-- the number of a seat's ticket; 0 where it has none
 abbrev pub ticket_of : Stage → ℕ
 ticket_of (Waits k) = k
 ticket_of (Turn k) = k
 ticket_of (Out k log) = k
 ticket_of _ = 0
 
+-- the history that came with the value; none where a seat hasn't got it
 abbrev pub log_of : Stage → List Entry
 log_of (Out k log) = log
 log_of _ = []
@@ -74,6 +80,7 @@ module _ (log : List Entry) (seats : ℕ → Option ℕ) where
 
 -- owner: which seat of the table has a ticket
 module _ (log : List Entry) (drawn served : ℕ) (owner : ℕ → ℕ) (seats : ℕ → Option ℕ) where
+  -- what holds of a seat at each stage: it rests, waits with a ticket, has its turn, or has the value
   abbrev pub IsPlaced : Stage → ℕ → View → Type 0
   IsPlaced Note i v = IsFront v.seen log
   IsPlaced Idle i v = Sits log seats i v
@@ -94,12 +101,14 @@ module _ {X : Type 0} (stands : X → State → List Entry → Type 0) (origin_o
   abbrev pub IsHome : List Entry → List (maybe.Option (Option X)) → Type 0
   IsHome log homes = (x : X) × (homes ≡ some (Some x) ∷ []) × stands x start log × (origin_of x ≡ origin)
 
+  -- what holds of each view
   pub record Fits (log : List Entry) (drawn served : ℕ) (owner : ℕ → ℕ) (seats : ℕ → Option ℕ) (i : ℕ) (v : View) : Type 0 where
     -- who has a ticket stands for a pass
     pub part : tickets v ≤ v.parts
     pub began : Began start origin passes v.stage v
     pub placed : IsPlaced log drawn served owner seats v.stage i v
 
+  -- what holds of the table between two steps, whoever makes them: the one history, and where each seat stands in it
   pub record Kept (s : table.State (Option X) View) : Type 0 where
     -- the history, in which passes alone have entries
     pub log : List Entry

@@ -17,6 +17,7 @@ use Rattle.sb_desk.specs.Rule.{word, ticket_of, log_of}
 
 -- ---- steps on a word
 
+-- a view at another stage
 abbrev pub placed : Stage → View → View
 placed stage v = record v { stage = stage }
 
@@ -29,13 +30,16 @@ abbrev pub entries_in : ℕ → Option Made → List Entry
 entries_in seat None = []
 entries_in seat (Some m) = made_by seat m.stepped.value.tick m.reading.value m.call.value m.stepped.value.answer
 
+-- what a seat carries through a step: its view, and the values that it has
 abbrev pub Sat : Type 0 → Type 0
 Sat X = Me (Option X) View
 
 module _ {X : Type 0} where
+  -- the seat drew the ticket of this number
   abbrev pub drew : Step (Option X) → Sat X → ℕ → Sat X → Type 0
   drew st m r m' = (k : ℕ) × (word k ≡ r) × (m' ≡ (placed (Waits k) m.0, m.1))
 
+  -- the seat has its turn if its ticket's number stands in the word, else nothing changed
   abbrev pub looked : Step (Option X) → Sat X → ℕ → Sat X → Type 0
   looked st m r m' = (word (ticket_of m.0.stage) ≡ r → m' ≡ (placed (Turn (ticket_of m.0.stage)) m.0, m.1)) × (word (ticket_of m.0.stage) ≢ r → m' ≡ m)
 
@@ -44,6 +48,7 @@ module _ {X : Type 0} where
   took stands origin_of st m r m' =
       (x : X) × (log : List Entry) × (m' ≡ (placed (Out (ticket_of m.0.stage) log) m.0, (0, Some x) ∷ m.1)) × stands x m.0.start log × (origin_of x ≡ m.0.origin)
 
+  -- the entries that the value made last which the seat carries
   abbrev pub carried_made : (ℕ → X → List Entry) → ℕ → List (ℕ × Option X) → List Entry
   carried_made made_in seat ((k, Some x) ∷ c) = made_in seat x
   carried_made made_in seat _ = []
@@ -54,12 +59,15 @@ module _ {X : Type 0} where
       (m' ≡ (with_made (carried_made made_in m.0.seat m.1) m.0, m.1)) × (between : List Entry) × (log_of m.0.stage ≡ m.0.seen ++ between) × (entries_by m.0.seat between ≡ [])
       × HaveSeatsBelow m'.0.passes m'.0.seen
 
+  -- the value was put back
   abbrev pub gave : Step (Option X) → Sat X → ℕ → Sat X → Type 0
   gave st m r m' = m' ≡ (placed (Turn (ticket_of m.0.stage)) m.0, rest m.1)
 
+  -- the turn is given on, and the seat rests
   abbrev pub passed : Step (Option X) → Sat X → ℕ → Sat X → Type 0
   passed st m r m' = m' ≡ (placed Idle m.0, m.1)
 
+  -- the two lists that were shown are comparable with what the seat has seen
   abbrev pub compared : Step (Option X) → Sat X → ℕ → Sat X → Type 0
   compared st m r m' = (m' ≡ m) × AreComparable m.0.one m.0.seen × AreComparable m.0.other m.0.seen
 
@@ -80,6 +88,7 @@ one_more v = record { seat = v.seat + v.spare; spare = 0; passes = v.passes; sta
 abbrev no_disk : DiskOrigin
 no_disk = record { faults = 0; honest = false; held = record { seen = []; synced = []; ranges = []; least = 0; greatest = 0 }; past = [] }
 
+-- the view of a seat that is gone
 abbrev pub spent_view : View
 spent_view = record { seat = 0; spare = 0; passes = 0; start = empty_state 0; origin = record { disk_a = no_disk; disk_b = no_disk }; seen = []; parts = 0; stage = Spent; one = []; other = []; claims = [] }
 
@@ -87,8 +96,10 @@ spent_view = record { seat = 0; spare = 0; passes = 0; start = empty_state 0; or
 abbrev pub told : View → View → View
 told v w = record v { seen = longer v.seen w.seen; one = v.seen; other = w.seen }
 
+-- one view stands for the passes of both, with a claim for the other's
 abbrev pub gathered : View → View → View
 gathered v w = record v { parts = v.parts + w.parts; claims = record { seat = w.seat; seen = w.seen } ∷ v.claims }
 
+-- the table has three words and one slot
 abbrev pub IsSized : TableId → Type 0
 IsSized z = (z.words ≡ 3) × (z.slots ≡ 1)

@@ -28,6 +28,7 @@ state_at (Some t) = state_of (empty_state 0) t creation
 abbrev pub no_disk : DiskOrigin
 no_disk = record { faults = 0; honest = false; held = record { seen = []; synced = []; ranges = []; least = 0; greatest = 0 }; past = [] }
 
+-- this namespace stands for a history: it is legal, and leads to this state and these numbers
 pub record StandsFor (made : Option ℕ) (numbers : Report) (from : State) (h : List Entry) : Type 0 where
   pub consistent : IsConsistent from
   pub legal : IsLegal from h

@@ -12,15 +12,19 @@ use Rattle.sb_desk.specs.Entries.{entries_by, IsReport}
 use Rattle.sb_desk.specs.Lists.{HaveSeatsBelow, longer}
 use Rattle.sb_desktests.specs.Namespaces.{creation, state_at}
 
+-- seat 0 makes the queue
 abbrev pub first : Entry
 first = Replied 0 5 creation (Ok (New Done))
 
+-- seat 1 asks for the same, and is refused
 abbrev pub second : Entry
 second = Replied 1 7 creation (Err EntityExists)
 
+-- both, in this order
 abbrev pub history : List Entry
 history = first ∷ second ∷ []
 
+-- what the definitions of the desk say of these two entries
 pub record WorkedRows : Type 0 where
   pub entries : entries_at 0 (empty_state 0) 5 creation ++ entries_at 1 (state_at (Some 5)) 7 creation ≡ history
   pub own : entries_by 1 history ≡ second ∷ []

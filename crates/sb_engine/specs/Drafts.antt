@@ -5,6 +5,7 @@ use Rattle.sb_machine.specs.declared.call.How.{How}
 use Rattle.sb_machine.specs.declared.call.How.TheVariants.{Complete, Abandon, Defer, DeadLetter}
 use Rattle.sb_engine.specs.declared.draft.Draft.{Draft}
 
+-- what was planned is what the row answers and changes; a failure says nothing
 abbrev pub DraftsRow : {E : Type 0} → Result Draft E → Row → Type 0
 DraftsRow (Ok d) row = row ≡ answers d.reply d.changes
 DraftsRow (Err e) row = Unit {0}

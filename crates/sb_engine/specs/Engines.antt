@@ -20,6 +20,7 @@ use Rattle.sb_engine.specs.Planned.{Planned}
 use Rattle.sb_engine.specs.declared.engine.Engine.{Engine}
 use Rattle.sb_engine.specs.declared.summary.Summary.{Summary}
 
+-- the state that an engine is
 abbrev pub engine_state : Engine → State
 engine_state e = record { now = e.moment; clients = e.clients.clients; space = space_in e.space }
 
@@ -55,6 +56,7 @@ pub record HasRoom (e : Engine) (t : ℕ) (p : Planned) : Type 0 where
 
 -- ---- what a call comes to, as a plan
 
+-- what a plan has to be for an outcome: nothing for a refusal or a repetition, else the changes, and what is kept for the client
 abbrev pub planned_of : Option By → Act → Outcome → Result Planned Refusal
 planned_of by act (refused r) = Err r
 planned_of by act (repeated reply) = Ok (record { changes = []; answered = Repeated reply; kept = None })
@@ -67,5 +69,6 @@ PlansAs (Err r) said = (r ≡ OutOfMemory) ⊎ (said ≡ Err r)
 
 -- ---- numbers
 
+-- the counts that are told of a state after so many events
 abbrev pub summary_of : State → ℕ → Summary
 summary_of s events = record { copies = live s.space; entities = length s.space.entities; events = events; made = made s.space; now = s.now }

@@ -22,6 +22,7 @@ Refuses {X = X} head r = (next : X → Row) → head next ≡ refuses r
 abbrev pub Allows : (Row → Row) → Type 0
 Allows test = (row : Row) → test row ≡ row
 
+-- whatever would be done, this test refuses it
 abbrev pub Forbids : (Row → Row) → Refusal → Type 0
 Forbids test r = (row : Row) → test row ≡ refuses r
 

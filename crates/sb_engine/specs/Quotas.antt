@@ -1,4 +1,4 @@
--- How many copies live behind changes.
+-- How many messages stand in the namespace behind changes.
 use Rattle.std.specs.Prelude.{◌≡◌, ◌⊎◌, ℕ, ◌-◌, true, false, List, [], ◌∷◌, Option, Some, None, is_some, Result, Ok, Err}
 use Rattle.sb_machine.specs.Changes.{after}
 use Rattle.sb_machine.specs.Leaves.{copy_in}
@@ -20,14 +20,17 @@ abbrev pub enters_in_leaf : LeafChange → ℕ
 enters_in_leaf (Enters fresh) = 1
 enters_in_leaf _ = 0
 
+-- how many messages a change of one part ends
 abbrev pub ends_in_leaf : LeafChange → ℕ
 ends_in_leaf (Ends n settled cause) = 1
 ends_in_leaf _ = 0
 
+-- how many messages enter by a change
 abbrev pub enters_in : Change → ℕ
 enters_in (InLeaf key c) = enters_in_leaf c
 enters_in _ = 0
 
+-- how many messages end by a change
 abbrev pub ends_in : Change → ℕ
 ends_in (InLeaf key c) = ends_in_leaf c
 ends_in _ = 0
@@ -37,6 +40,7 @@ abbrev pub copy_where : LeafKey → ℕ → Option Entity → Option StoredCopy
 copy_where key n None = None
 copy_where key n (Some e) = copy_in n (leaf_of key.part e)
 
+-- the message of a number in a part of the namespace
 abbrev pub copy_at : LeafKey → ℕ → Space → Option StoredCopy
 copy_at key n s = copy_where key n (entity_of key.entity s)
 
@@ -52,6 +56,7 @@ IsCounted (InLeaf key c) s = IsCountedIn key c s
 IsCounted (Removes n) s = ⊥
 IsCounted _ s = Unit {0}
 
+-- each change is so in the namespace that those before it lead to
 abbrev pub AreCounted : ℕ → List Change → Space → Type 0
 AreCounted t [] s = Unit {0}
 AreCounted t (c ∷ cs) s = IsCounted c s × AreCounted t cs (after t c s)

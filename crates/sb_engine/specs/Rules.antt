@@ -9,15 +9,19 @@ use Rattle.sb_machine.specs.declared.reply.Reply.TheVariants.{Done}
 use Rattle.sb_machine.specs.declared.rule.Rule.{Rule}
 use Rattle.sb_machine.specs.declared.state.Listed.{Listed}
 
+-- the rule of this name, if there is one
 abbrev pub rule_of : List ℕ → List Rule → Option Rule
 rule_of name rules = find (λ r. bytes_eq r.name name) rules
 
+-- adding a rule to a subscription that has none of its name: its texts are read, its size is judged
 abbrev pub read_in : ℕ → List ℕ → FilterText → Option (List ℕ) → Row
 read_in entity name asked action = read_or (filter_of asked) (λ f. read_or (action_of action) (λ a.
     refused_by (large_filter asked) (answers Done (AddsRule entity (record { name = name; filter = f; action = a }) ∷ []))))
 
+-- adding a rule to a subscription
 abbrev pub created_in : Listed → List ℕ → FilterText → Option (List ℕ) → Row
 created_in about name asked action = absent_or (rule_of name about.rules) EntityExists (read_in about.number name asked action)
 
+-- dropping a rule of a subscription
 abbrev pub deleted_in : Listed → List ℕ → Row
 deleted_in about name = found_or (rule_of name about.rules) EntityNotFound (λ r. answers Done (DropsRule about.number name ∷ []))

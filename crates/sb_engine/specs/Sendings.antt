@@ -33,6 +33,7 @@ abbrev pub knows_so_far : ℕ → Option Entity → List (List ℕ) → List ℕ
 knows_so_far t None fresh id = false
 knows_so_far t (Some e) fresh id = elim e.about.description.window [ Some window ↦ is_known_with window e.ids fresh id t | None ↦ false ]
 
+-- whether a message is a duplicate of one before it
 abbrev pub is_repeat_so_far : ℕ → Option Entity → List (List ℕ) → Message → Bool
 is_repeat_so_far t e fresh m = elim (text_of MessageId m) [ Some id ↦ knows_so_far t e fresh id | None ↦ false ]
 
@@ -50,6 +51,7 @@ waits_for t m = elim m.schedule [ Some at ↦ (if nat_lt t at then Some at else 
 abbrev pub View : Type 0
 View = Listed × List AcceptedId
 
+-- what is seen of an entity
 abbrev pub view_of : Entity → View
 view_of e = (e.about, e.ids)
 
@@ -63,6 +65,7 @@ pub record HasIds (t : ℕ) (e : Entity) (fresh : List (List ℕ)) (now : Option
   pub is : now ≡ Some (e.about, ids)
   pub known : (id : List ℕ) → ◌≡◌ {A = Bool} (elim e.about.description.window [ Some window ↦ is_known window id t ids | None ↦ false ]) (knows_so_far t (Some e) fresh id)
 
+-- what is seen now is of the entity as it was read, with the ids noted since; or there was none and is none
 abbrev pub StandsSeen : ℕ → Option Entity → List (List ℕ) → Option View → Type 0
 StandsSeen t None fresh now = now ≡ None
 StandsSeen t (Some e) fresh now = HasIds t e fresh now
@@ -73,6 +76,7 @@ StandsSeen t (Some e) fresh now = HasIds t e fresh now
 abbrev pub IsThere : Space → Entity → Type 0
 IsThere read e = is_listed e.about.number (listed read) ≡ true
 
+-- the same, where there is an entity to ask for
 abbrev pub IsThereIn : Space → Option Entity → Type 0
 IsThereIn read None = Unit {0}
 IsThereIn read (Some e) = IsThere read e
@@ -89,15 +93,18 @@ pub record Comes (t : ℕ) (read : Space) (n : ℕ) (f : Space → List Change) 
   pub changes : (s : Space) → Stands read before s → is_listed n (listed read) ≡ true → new ≡ old ++ f s
   pub stands : (s : Space) → Stands read before s → Stands read after (after_all t (f s) s)
 
+-- a plan under way: the numbers given, the ids noted, the changes and the receipts
 pub record Told : Type 0 where
   pub given : Given
   pub fresh : List (List ℕ)
   pub changes : List Change
   pub receipts : List Receipt
 
+-- what a plan in memory says of itself
 abbrev pub told : Sending → Told
 told p = record { given = given_in p.lasts; fresh = p.noted.items; changes = p.changes; receipts = p.receipts.items }
 
+-- a plan's numbers and ids stand for the namespace that its changes lead to
 abbrev pub IsUnderWay : ℕ → Space → ℕ → Told → Type 0
 IsUnderWay t read n p = StandsAt t read n p.given p.fresh p.changes
 

@@ -21,30 +21,37 @@ use Rattle.sb_engine.specs.Deadlines.{copy_deadline, copy_expiry, expiry, hold_d
 
 -- ---- nothing comes due before a moment
 
+-- a deadline isn't before the moment m, if there is one
 abbrev pub IsNotBefore : ℕ → Option ℕ → Type 0
 IsNotBefore m deadline = IfSome deadline (λ d. m ≤ d)
 
+-- nothing of a part comes due before m
 abbrev pub IsLaterIn : ℕ → Part → Leaf → Type 0
 IsLaterIn m part leaf = Each (λ x. IsNotBefore m (session_deadline x)) leaf.sessions × Each (λ c. IsNotBefore m (copy_deadline part c)) leaf.copies
 
+-- nothing of an entity comes due before m
 pub record IsLaterOf (m : ℕ) (e : Entity) : Type 0 where
   pub main : IsLaterIn m Main e.main
   pub dead : IsLaterIn m Dead e.dead
   pub transfer : IsLaterIn m Transfer e.transfer
 
+-- nothing of the namespace comes due before m
 pub record IsLater (m : ℕ) (s : Space) : Type 0 where
   pub entities : Each (IsLaterOf m) s.entities
   pub transactions : Each (λ x. m ≤ x.deadline) s.transactions
 
 -- ---- the soonest of all
 
+-- the earlier of a deadline, if there is one, and m
 abbrev pub sooner : Option ℕ → ℕ → ℕ
 sooner None m = m
 sooner (Some d) m = min d m
 
+-- the earliest of m and the deadlines of a part
 abbrev pub soonest_in : Part → ℕ → Leaf → ℕ
 soonest_in part m leaf = fold (λ m c. sooner (copy_deadline part c) m) (fold (λ m x. sooner (session_deadline x) m) m leaf.sessions) leaf.copies
 
+-- the earliest of m and the deadlines of an entity
 abbrev pub soonest_of : ℕ → Entity → ℕ
 soonest_of m e = soonest_in Transfer (soonest_in Dead (soonest_in Main m e.main) e.dead) e.transfer
 
@@ -59,6 +66,7 @@ abbrev pub expiry_of_copy : Option StoredCopy → Option ℕ
 expiry_of_copy None = None
 expiry_of_copy (Some c) = copy_expiry c
 
+-- when the message of this number expires, if it is there and does
 abbrev pub expiry_in : Part → ℕ → Option Entity → Option ℕ
 expiry_in part n None = None
 expiry_in part n (Some e) = expiry_of_copy (copy_in n (leaf_of part e))

@@ -27,12 +27,15 @@ is_looked_for Ended t sessions c = has_ended t sessions c.standing
 is_looked_for Expired t sessions c = is_ready c.standing && is_expired t c
 is_looked_for Come t sessions c = has_come t c.standing
 
+-- a message with its place
 abbrev pub item : Entity → Part → StoredCopy → Item
 item e part c = record { entity = e; part = part; copy = c }
 
+-- the messages of a part that a sweep looks for
 abbrev pub found_in : Search → ℕ → Entity → Part → List Item
 found_in search t e part = map (item e part) (filter (is_looked_for search t (leaf_of part e).sessions) (leaf_of part e).copies)
 
+-- the messages of an entity that a sweep looks for, part after part
 abbrev pub found_of : Search → ℕ → Entity → List Item
 found_of search t e = found_in search t e Main ++ found_in search t e Dead ++ found_in search t e Transfer
 
@@ -40,6 +43,7 @@ found_of search t e = found_in search t e Main ++ found_in search t e Dead ++ fo
 abbrev pub item_in : Found → Item
 item_in f = item (entity_in f.entity.now) f.part f.copy.now
 
+-- the same of all that was found
 abbrev pub items_in : List Found → List Item
 items_in found = map item_in found
 

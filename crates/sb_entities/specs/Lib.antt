@@ -1,3 +1,5 @@
+-- A namespace in memory, in the order to read it: Listings, Tables, Transactions, Numbers (what stands in memory); Stores (the namespace that
+-- it is); Places, Rooms, Stocks (which memory is promised before a change is made, so that making it can't fail).
 pub mod Listings
 pub mod Numbers
 pub mod Places

@@ -4,6 +4,7 @@ use Rattle.sb_machine.specs.declared.rule.Rule.{Rule}
 use Rattle.sb_machine.specs.declared.state.Listed.{Listed}
 use Rattle.std.specs.Global.{Global}
 
+-- what is listed of an entity, and how many rules more fit
 pub record Described : Type 0 where
   pub about : Listed
   -- so many more rules may be added

@@ -13,10 +13,12 @@ use Rattle.sb_entities.specs.declared.place.PartPlace.TheVariants.{Copies, Sessi
 
 -- ---- of a part
 
+-- how many messages and sessions more a part has slots for
 pub record PartRoom : Type 0 where
   pub copies : ℕ
   pub sessions : ℕ
 
+-- the slots of one of these lists
 abbrev pub spare_in_part : PartPlace → PartRoom → ℕ
 spare_in_part Copies r = r.copies
 spare_in_part Sessions r = r.sessions
@@ -32,6 +34,7 @@ part_used (Enters fresh) r = record r { copies = r.copies - 1 }
 part_used (Opens id until) r = record r { sessions = r.sessions - 1 }
 part_used _ r = r
 
+-- a part has the slot that a change of it needs
 abbrev pub HasPartRoom : LeafChange → PartRoom → Type 0
 HasPartRoom (Enters fresh) r = 1 ≤ r.copies
 HasPartRoom (Opens id until) r = 1 ≤ r.sessions
@@ -39,6 +42,7 @@ HasPartRoom _ r = Unit {0}
 
 -- ---- of an entity
 
+-- how much more an entity has slots for
 pub record Room : Type 0 where
   pub ids : ℕ
   pub rules : ℕ
@@ -46,32 +50,38 @@ pub record Room : Type 0 where
   pub dead : PartRoom
   pub transfer : PartRoom
 
+-- the slots of a part
 abbrev pub part_room : Part → Room → PartRoom
 part_room Main r = r.main
 part_room Dead r = r.dead
 part_room Transfer r = r.transfer
 
+-- an entity's slots with those of one part anew
 abbrev pub with_part_room : Part → PartRoom → Room → Room
 with_part_room Main x r = record r { main = x }
 with_part_room Dead x r = record r { dead = x }
 with_part_room Transfer x r = record r { transfer = x }
 
+-- the slots of one list of an entity
 abbrev pub spare_in : EntityPlace → Room → ℕ
 spare_in (OfPart part x) r = spare_in_part x (part_room part r)
 spare_in Ids r = r.ids
 spare_in Rules r = r.rules
 
+-- one slot more is promised in a list of an entity
 abbrev pub grown : EntityPlace → Room → Room
 grown (OfPart part x) r = with_part_room part (part_grown x (part_room part r)) r
 grown Ids r = record r { ids = r.ids + 1 }
 grown Rules r = record r { rules = r.rules + 1 }
 
+-- a change takes the slot that it needs of an entity
 abbrev pub used : EntityChange → Room → Room
 used (InPart part lock c) r = with_part_room part (part_used c (part_room part r)) r
 used (NotesId id) r = record r { ids = r.ids - 1 }
 used (GainsRule rule) r = record r { rules = r.rules - 1 }
 used (LosesRule name) r = r
 
+-- an entity has the slot that a change of it needs
 abbrev pub HasRoom : EntityChange → Room → Type 0
 HasRoom (InPart part lock c) r = HasPartRoom c (part_room part r)
 HasRoom (NotesId id) r = 1 ≤ r.ids

@@ -22,13 +22,16 @@ use Rattle.sb_entities.specs.declared.place.Place.TheVariants.{Entities, Transac
 
 -- ---- one entity
 
+-- an entity with its slots
 pub record Entry : Type 0 where
   pub entity : Entity
   pub room : Room
 
+-- whether an entry is that of the entity of this number
 abbrev pub has_number : ℕ → Entry → Bool
 has_number n x = is_entity n x.entity
 
+-- no slots
 abbrev pub no_room : Room
 no_room = record {
   ids = 0;
@@ -38,6 +41,7 @@ no_room = record {
   transfer = record { copies = 0; sessions = 0 };
 }
 
+-- a new entity, which has no slots yet
 abbrev pub new_entry : Listed → Entry
 new_entry about = record { entity = new_entity about; room = no_room }
 
@@ -48,9 +52,11 @@ entity_after t (NotesId id) e = record e { ids = noted e.about.description.windo
 entity_after t (GainsRule rule) e = with_rules (rule_added rule) e
 entity_after t (LosesRule name) e = with_rules (rule_dropped name) e
 
+-- an entity after a change, which has taken its slot
 abbrev pub entry_after : ℕ → EntityChange → Entry → Entry
 entry_after t c x = record { entity = entity_after t c x.entity; room = used c x.room }
 
+-- an entity with one slot more
 abbrev pub entry_grown : EntityPlace → Entry → Entry
 entry_grown p x = record x { room = grown p x.room }
 
@@ -65,6 +71,7 @@ IsReady c x = HasRoom c x.room × (made_in x.entity + given_in c ≤ max_number)
 
 -- ---- the whole
 
+-- a namespace with its slots
 pub record Stock : Type 0 where
   pub salt : ℕ
   pub last_entity : ℕ
@@ -76,6 +83,7 @@ pub record Stock : Type 0 where
   pub spare : ℕ
   pub txns : Table
 
+-- the namespace without its slots
 abbrev pub space_of : Stock → Space
 space_of k = record {
   salt = k.salt;
@@ -87,9 +95,11 @@ space_of k = record {
   transactions = transactions_of k.txns.rows;
 }
 
+-- entries with f done to that of the entity of this number
 abbrev pub on_entry : ℕ → (Entry → Entry) → List Entry → List Entry
 on_entry n f xs = changed (has_number n) (λ x. f x ∷ []) xs
 
+-- open transactions with f done to the one of this number
 abbrev pub on_txn : ℕ → (Opened → Opened) → List Opened → List Opened
 on_txn n f rows = changed (has_txn n) (λ r. f r ∷ []) rows
 
@@ -116,6 +126,7 @@ stock_after t (Begins n deadline) k = record k {
 stock_after t (Queues n deadline operation) k = record k { txns = record k.txns { rows = on_txn n (with_queued deadline operation) k.txns.rows } }
 stock_after t (Drops n) k = record k { txns = record k.txns { rows = changed (has_txn n) (λ r. []) k.txns.rows } }
 
+-- a transaction with a slot for one operation more
 abbrev pub txn_grown : Opened → Opened
 txn_grown r = record r { spare = r.spare + 1 }
 
@@ -144,6 +155,7 @@ Promises (InTransaction n) m k = (0 < m → n ≤ k.last_txn) × Each (λ r. txn
 abbrev pub PromisesAll : List Change → Stock → Type 0
 PromisesAll cs k = (p : Place) → Promises p (asked p cs) k
 
+-- a list is of an entity or a transaction whose number has been given
 abbrev pub IsReached : Option Place → Stock → Type 0
 IsReached None k = Unit {0}
 IsReached (Some Entities) k = Unit {0}
@@ -155,6 +167,7 @@ IsReached (Some (InTransaction n)) k = n ≤ k.last_txn
 abbrev pub IsReadyAt : ℕ → EntityChange → List Entry → Type 0
 IsReadyAt n c xs = IfSome (find (has_number n) xs) (IsReady c)
 
+-- the slot that a change needs is there
 abbrev pub HasRoomFor : Change → Stock → Type 0
 HasRoomFor (InLeaf key c) k = IfSome (find (has_number key.entity) k.entries) (λ x. HasRoom (InPart key.part (k.last_lock + 1) c) x.room)
 HasRoomFor (Notes n id) k = IfSome (find (has_number n) k.entries) (λ x. HasRoom (NotesId id) x.room)

@@ -11,9 +11,11 @@ use Rattle.sb_entities.specs.declared.entity.EntityStore.{EntityStore}
 use Rattle.sb_entities.specs.declared.part.PartStore.{PartStore}
 use Rattle.sb_entities.specs.declared.space.SpaceStore.{SpaceStore}
 
+-- a part as it stands in memory
 abbrev pub leaf_in : PartStore → Leaf
 leaf_in p = record { last = p.last; copies = p.copies.copies; sessions = p.sessions.sessions }
 
+-- an entity as it stands in memory
 abbrev pub entity_in : EntityStore → Entity
 entity_in e = record {
   about = e.listing.about;
@@ -23,9 +25,11 @@ entity_in e = record {
   transfer = leaf_in e.transfer;
 }
 
+-- entities as they stand in memory
 abbrev pub entities_in : List EntityStore → List Entity
 entities_in rows = map entity_in rows
 
+-- the namespace that stands in memory
 abbrev pub space_in : SpaceStore → Space
 space_in s = record {
   salt = s.salt;
@@ -39,9 +43,11 @@ space_in s = record {
 
 -- ---- with the slots that it promises
 
+-- the slots of a part in memory
 abbrev pub part_room_in : PartStore → PartRoom
 part_room_in p = record { copies = p.copies.spare; sessions = p.sessions.spare }
 
+-- the slots of an entity in memory
 abbrev pub room_in : EntityStore → Room
 room_in e = record {
   ids = e.ids.spare;
@@ -51,12 +57,15 @@ room_in e = record {
   transfer = part_room_in e.transfer;
 }
 
+-- an entity in memory, with its slots
 abbrev pub entry_in : EntityStore → Entry
 entry_in e = record { entity = entity_in e; room = room_in e }
 
+-- entities in memory, with their slots
 abbrev pub entries_in : List EntityStore → List Entry
 entries_in rows = map entry_in rows
 
+-- the namespace that stands in memory, with its slots
 abbrev pub stock_in : SpaceStore → Stock
 stock_in s = record {
   salt = s.salt;

@@ -2,6 +2,7 @@
 use Rattle.std.specs.Prelude.{ℕ, List}
 use Rattle.sb_entities.specs.declared.entity.EntityStore.{EntityStore}
 
+-- the entities in memory, and how many more fit
 pub record Tabled : Type 0 where
   pub rows : List EntityStore
   -- so many more may be made

@@ -2,6 +2,7 @@
 use Rattle.std.specs.Prelude.{◌≡◌, ℕ, ◌&&◌, nat_le, nat_lt, Bool, true, List, [], ◌∷◌}
 use Rattle.sb_txn.specs.Txns.{Opened}
 
+-- the number of an open transaction
 abbrev pub txn_number : Opened → ℕ
 txn_number r = r.transaction.number
 

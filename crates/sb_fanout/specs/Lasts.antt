@@ -17,12 +17,15 @@ use Rattle.sb_fanout.specs.declared.lasts.Lasts.{Lasts}
 abbrev pub Given : Type 0
 Given = LeafKey → ℕ
 
+-- no number has been given
 abbrev pub none_given : Given
 none_given key = 0
 
+-- whether two keys are of the same part
 abbrev pub is_key : LeafKey → LeafKey → Bool
 is_key a b = (a.entity == b.entity) && is_same_part a.part b.part
 
+-- one number more has been given in this part
 abbrev pub raised : LeafKey → Given → Given
 raised key given k = if is_key key k then given k + 1 else given k
 
@@ -30,11 +33,13 @@ raised key given k = if is_key key k then given k + 1 else given k
 abbrev pub counted : BTreeMap ℕ ℕ → ℕ → ℕ
 counted map n = count_at (get nat_cmp map) n
 
+-- what belongs to each part
 abbrev pub of_part : {X : Type 0} → X → X → X → Part → X
 of_part main dead transfer Main = main
 of_part main dead transfer Dead = dead
 of_part main dead transfer Transfer = transfer
 
+-- how many numbers were given in each part, as memory has it
 abbrev pub given_in : Lasts → Given
 given_in lasts key = counted (of_part lasts.main lasts.dead lasts.transfer key.part) key.entity
 

@@ -17,12 +17,15 @@ use Rattle.sb_fanout.specs.Lasts.{Given, raised, is_listed, StandsFor}
 
 -- ---- a copy that stays was forwarded at most so often
 
+-- a message that stays was forwarded at most so often
 abbrev pub is_within : Visit → Bool
 is_within v = elim v.lot [ stays hops m ↦ nat_le hops max_hops | ends cause ↦ true ]
 
+-- so it is with each of these visits
 abbrev pub AreWithin : List Visit → Type 0
 AreWithin vs = list_all is_within vs ≡ true
 
+-- messages that enter, are dead-lettered or are forwarded are forwarded at most so often
 pub record HopsStayWithin : Type 0 where
   pub entering : (es : List Listed) (hops : ℕ) (e : Listed) (m : Message) → hops ≤ max_hops → AreWithin (visits es hops e m)
   pub burying : (es : List Listed) (hops : ℕ) (e : Listed) (m : Message) → hops ≤ max_hops → AreWithin (burial es hops e m)
@@ -30,9 +33,11 @@ pub record HopsStayWithin : Type 0 where
 
 -- ---- a message visits entities alone that are there
 
+-- each visit is to an entity that is there
 abbrev pub are_there : List Listed → List Visit → Bool
 are_there es vs = list_all (λ v. is_listed v.entity es) vs
 
+-- messages that enter, are dead-lettered or are forwarded from an entity that is there visit none that isn't
 pub record VisitsAreThere : Type 0 where
   pub entering : (es : List Listed) (hops : ℕ) (e : Listed) (m : Message) → is_listed e.number es ≡ true → are_there es (visits es hops e m) ≡ true
   pub burying : (es : List Listed) (hops : ℕ) (e : Listed) (m : Message) → is_listed e.number es ≡ true → are_there es (burial es hops e m) ≡ true
@@ -40,6 +45,7 @@ pub record VisitsAreThere : Type 0 where
 
 -- ---- each visit is given one number, and where the message stays one copy more lives
 
+-- how many messages a visit leaves
 abbrev pub staying : Visit → ℕ
 staying v = elim v.lot [ stays hops m ↦ 1 | ends cause ↦ 0 ]
 
@@ -49,6 +55,7 @@ pub record CountsAs (t : ℕ) (vs : List Visit) (cs : List Change) (s : Space) :
   pub made_then : made (after_all t cs s) ≡ made s + length vs
   pub live_then : live (after_all t cs s) ≡ live s + sum_by staying vs
 
+-- the changes of visits give a number for each, and leave a message for each that stays
 pub record VisitsCount : Type 0 where
   pub delivering : (t : ℕ) (seq : Option ℕ) (vs : List Visit) (s : Space) → are_there (listed s) vs ≡ true → CountsAs t vs (delivered seq vs s) s
   pub carrying : (t seq : ℕ) (vs : List Visit) (s : Space) → are_there (listed s) vs ≡ true → CountsAs t vs (carried seq vs) s
@@ -64,6 +71,7 @@ keeps_numbers (Queues n deadline operation) = true
 keeps_numbers (Drops n) = true
 keeps_numbers _ = false
 
+-- what is kept of the numbers stays right behind a change that gives one, and behind one that gives none
 pub record NumbersStand : Type 0 where
   pub raising : (es : List Listed) (last given : Given) (t : ℕ) (key : LeafKey) (c : LeafChange) (s : Space) → copies_given c ≡ 1 → StandsFor es last given s → StandsFor es last (raised key given) (after t (InLeaf key c) s)
   pub keeping : (es : List Listed) (last given : Given) (t : ℕ) (c : Change) (s : Space) → keeps_numbers c ≡ true → StandsFor es last given s → StandsFor es last given (after t c s)

@@ -14,6 +14,7 @@ pub record Told : Type 0 where
   pub seq : Option ℕ
   pub changes : List Change
 
+-- what a message under way says of itself in memory
 abbrev pub told : Tally → Told
 told y = record { given = given_in y.lasts; seq = y.seq; changes = y.changes }
 
@@ -25,6 +26,7 @@ visited last y v = record {
   changes = y.changes ++ visit_change y.seq v ∷ [];
 }
 
+-- visits more, one after another
 abbrev pub all_visited : Given → Told → List Visit → Told
 all_visited last y vs = fold (visited last) y vs
 

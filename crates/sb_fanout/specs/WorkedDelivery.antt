@@ -16,18 +16,23 @@ use Rattle.sb_machine.specs.declared.state.Standing.TheVariants.{Ready}
 use Rattle.sb_machine.specs.declared.state.StoredCopy.{StoredCopy}
 use Rattle.sb_fanout.specs.WorkedRules.{plain, selecting, five_rules, failing}
 
+-- a queue of this number and name
 abbrev pub of_queue : ℕ → List ℕ → Description → Listed
 of_queue n name description = record { number = n; kind = Queue; path = entity_path name; description = description; rules = [] }
 
+-- a topic of this number and name
 abbrev pub of_topic : ℕ → List ℕ → Description → Listed
 of_topic n name description = record { number = n; kind = Topic; path = entity_path name; description = description; rules = [] }
 
+-- a subscription of this number, of a topic
 abbrev pub of_subscription : ℕ → List ℕ → List ℕ → Description → List Rule → Listed
 of_subscription n topic name description rules = record { number = n; kind = Subscription; path = subscription_path topic name; description = description; rules = rules }
 
+-- a rule that takes everything
 abbrev pub always : List Rule
 always = selecting (codes "r") (codes "1=1") ∷ []
 
+-- an entity that forwards to this one
 abbrev pub forwarding : List ℕ → Description
 forwarding to = record default_description { forward_to = Some to }
 
@@ -35,9 +40,11 @@ forwarding to = record default_description { forward_to = Some to }
 abbrev pub starting : List Listed → Space
 starting abouts = record (empty_space 0) { entities = map new_entity abouts }
 
+-- the namespace once a plain message has entered an entity at t
 abbrev pub entered : ℕ → Listed → Space → Space
 entered t e s = after_all t (delivered None (visits (listed s) 0 e plain) s) s
 
+-- the namespace once a plain message was forwarded from an entity at t
 abbrev pub handed_on : ℕ → Listed → List ℕ → Space → Space
 handed_on t e to s = after_all t (delivered None (passage (listed s) 0 e plain to) s) s
 
@@ -45,9 +52,11 @@ handed_on t e to s = after_all t (delivered None (passage (listed s) 0 e plain t
 abbrev pub leaves : Space → List (Leaf × Leaf × Leaf)
 leaves s = map (λ e. (e.main, e.dead, e.transfer)) s.entities
 
+-- a part whose last number is this, and which has these messages
 abbrev pub leaf_with : ℕ → List StoredCopy → Leaf
 leaf_with last copies = record { last = last; copies = copies; sessions = [] }
 
+-- a message that stands ready, undelivered
 abbrev pub copy_of : ℕ → ℕ → ℕ → ℕ → Message → StoredCopy
 copy_of number seq t hops m = record { number = number; enqueued_seq = seq; enqueued = t; count = 0; hops = hops; standing = Ready; message = m }
 
@@ -56,12 +65,15 @@ copy_of number seq t hops m = record { number = number; enqueued_seq = seq; enqu
 abbrev pub topic : Listed
 topic = of_topic 1 (codes "t") default_description
 
+-- a plain message entered the topic, whose subscription has these rules
 abbrev pub with_rules : Description → List Rule → Space
 with_rules description rules = entered 7 topic (starting (topic ∷ of_subscription 2 (codes "t") (codes "s") description rules ∷ []))
 
+-- the same with five rules
 abbrev pub fan_of_five : Space
 fan_of_five = with_rules default_description five_rules
 
+-- the same with a rule that fails, which dead-letters or doesn't
 abbrev pub fan_to_failing : Bool → Space
 fan_to_failing dead_on_fault = with_rules (record default_description { dead_on_fault = dead_on_fault }) (selecting (codes "r") failing ∷ [])
 
@@ -70,6 +82,7 @@ fan_to_failing dead_on_fault = with_rules (record default_description { dead_on_
 abbrev pub first_of_six : Listed
 first_of_six = of_queue 1 (codes "q1") (forwarding (codes "q2"))
 
+-- all six, each forwarding to the next
 abbrev pub six : List Listed
 six = first_of_six ∷ of_queue 2 (codes "q2") (forwarding (codes "q3")) ∷ of_queue 3 (codes "q3") (forwarding (codes "q4")) ∷ of_queue 4 (codes "q4") (forwarding (codes "q5")) ∷ of_queue 5 (codes "q5") (forwarding (codes "q6")) ∷ of_queue 6 (codes "q6") default_description ∷ []
 
@@ -78,9 +91,11 @@ six = first_of_six ∷ of_queue 2 (codes "q2") (forwarding (codes "q3")) ∷ of_
 abbrev pub circle : Listed
 circle = of_queue 1 (codes "z") (record default_description { ttl = Some 1; dead_on_expiry = true; forward_dead_to = Some (codes "z") })
 
+-- the namespace once what has expired at t is taken up
 abbrev pub swept : ℕ → Space → Space
 swept t s = after_all t (sweep_expired t s) s
 
+-- a message has expired four times, a second apart
 abbrev pub after_4 : Space
 after_4 = swept 4000 (swept 3000 (swept 2000 (swept 1000 (entered 0 circle (starting (circle ∷ []))))))
 
@@ -96,6 +111,7 @@ minute = of_topic 1 (codes "t") (record default_description { ttl = Some 60 })
 abbrev pub queue : Listed
 queue = of_queue 5 (codes "q") default_description
 
+-- a topic, two subscriptions of it, one of another topic, and the queue
 abbrev pub two_names : List Listed
 two_names =
     minute
@@ -109,6 +125,7 @@ two_names =
 abbrev pub first_topic : Listed
 first_topic = of_topic 1 (codes "t") default_description
 
+-- both topics and both subscriptions
 abbrev pub two_topics : List Listed
 two_topics =
     first_topic

@@ -32,6 +32,7 @@ pub record IsHeadAt (bytes : List ℕ) (spans : List HeaderSpan) (r : RequestSpa
 abbrev pub NoHead : List ℕ → Type 0
 NoHead bytes = (others : List ℕ) (head : Head) (rest : List ℕ) → ReadsHead (bytes ++ others) head rest → ⊥
 
+-- each answer on a head: its spans, that more has to come, or why it is refused
 abbrev pub HeadAnswers : List ℕ → List HeaderSpan → Result (Option RequestSpans) HttpFault → Type 0
 HeadAnswers bytes spans (Ok (Some r)) = IsHeadAt bytes spans r
 HeadAnswers bytes spans (Ok None) = WaitsForHead bytes
@@ -49,6 +50,7 @@ pub record IsLineAt (bytes : List ℕ) (len size : ℕ) : Type 0 where
   pub some : 0 < len
   pub reads : ReadsLine bytes size (drop len bytes)
 
+-- each answer on a chunk's line: its length and the chunk's size, that more has to come, or that it is none
 abbrev pub LineAnswers : List ℕ → Result (Option (ℕ × ℕ)) HttpFault → Type 0
 LineAnswers bytes (Ok (Some x)) = IsLineAt bytes x.0 x.1
 LineAnswers bytes (Ok None) = (length bytes < max_line) × HasNoChunkLine bytes
@@ -60,10 +62,12 @@ LineAnswers bytes (Err BodyTooLarge) = ⊥
 abbrev pub NoTrailers : List ℕ → Type 0
 NoTrailers bytes = (others rest : List ℕ) → ReadsTrailers (bytes ++ others) rest → ⊥
 
+-- the first len bytes are trailers
 pub record AreTrailersAt (bytes : List ℕ) (len : ℕ) : Type 0 where
   pub within : len ≤ length bytes
   pub reads : ReadsTrailers bytes (drop len bytes)
 
+-- each answer on trailers: their length, that more has to come, or that they are none
 abbrev pub TrailersAnswer : List ℕ → Result (Option ℕ) HttpFault → Type 0
 TrailersAnswer bytes (Ok (Some len)) = AreTrailersAt bytes len
 TrailersAnswer bytes (Ok None) = (length bytes < max_trailers) × HasNoSection bytes

@@ -51,6 +51,7 @@ pub record ResponseMessage : Type 0 where
   pub body : List ℕ
   pub ends : Bool
 
+-- a header's name and value
 abbrev pub field_in : Header → Field
 field_in h = (h.name.items, h.value.items)
 
@@ -78,6 +79,7 @@ all_fields r = r.fields ++ length_fields r.status (length r.body) ++ end_fields 
 unfoldable pub field_line : Field → List ℕ
 field_line f = f.0 ++ codes ": " ++ f.1 ++ crlf_bytes
 
+-- the first line of a response
 unfoldable pub status_line : Status → List ℕ
 status_line s = codes "HTTP/1.1 " ++ decimal (code_of s) ++ codes " " ++ phrase_of s ++ crlf_bytes
 

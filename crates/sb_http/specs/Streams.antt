@@ -61,6 +61,7 @@ abbrev pub IsReadyAt : Option HttpFault → Left → Type 0
 IsReadyAt (Some fault) left = Unit {0}
 IsReadyAt None left = (m : RequestMessage) × (rest : List ℕ) × Reads left m rest
 
+-- a whole request stands in what is left of the stream, or a fault was met
 abbrev pub IsReady : Pending → Type 0
 IsReady pending = IsReadyAt pending.fault pending.left
 

@@ -30,6 +30,7 @@ size_by code Code.Absent Given.Bad = None
 size_by code Code.Chunked given = None
 size_by code Code.Bad given = None
 
+-- how many bytes a response's body has, by its status and its header fields
 abbrev pub body_size : ℕ → Stated → Option ℕ
 body_size code said = size_by code said.coding said.length
 

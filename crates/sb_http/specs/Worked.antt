@@ -18,6 +18,7 @@ text_of lines = flat_map (λ line. line ++ crlf_bytes) lines
 unfoldable pub send_text : List ℕ
 send_text = text_of (codes "POST /Q/messages HTTP/1.1" ∷ codes "Host: h" ∷ codes "Content-Length: 2" ∷ [] ∷ []) ++ codes "hi"
 
+-- a send
 abbrev pub send : RequestMessage
 send = record {
   head = record { method = codes "POST"; target = codes "/Q/messages"; minor = 1; fields = (codes "Host", codes "h") ∷ (codes "Content-Length", codes "2") ∷ [] };
@@ -28,6 +29,7 @@ send = record {
 unfoldable pub receive_text : List ℕ
 receive_text = text_of (codes "POST /q/messages/head?timeout=0 HTTP/1.1" ∷ codes "Host: h" ∷ [] ∷ [])
 
+-- a receive
 abbrev pub receive : RequestMessage
 receive = record { head = record { method = codes "POST"; target = codes "/q/messages/head?timeout=0"; minor = 1; fields = (codes "Host", codes "h") ∷ [] }; body = [] }
 
@@ -35,6 +37,7 @@ receive = record { head = record { method = codes "POST"; target = codes "/q/mes
 unfoldable pub chunks_text : List ℕ
 chunks_text = text_of (codes "POST /q/messages HTTP/1.1" ∷ codes "Host:h" ∷ codes "Transfer-Encoding: Chunked" ∷ [] ∷ codes "2;x=1" ∷ codes "hi" ∷ codes "0" ∷ codes "Host: g" ∷ [] ∷ [])
 
+-- a send whose body comes in chunks
 abbrev pub in_chunks : RequestMessage
 in_chunks = record {
   head = record { method = codes "POST"; target = codes "/q/messages"; minor = 1; fields = (codes "Host", codes "h") ∷ (codes "Transfer-Encoding", codes "Chunked") ∷ [] };
@@ -53,12 +56,15 @@ both_text = text_of (codes "POST /q HTTP/1.1" ∷ codes "Host: h" ∷ codes "Con
 unfoldable pub too_long_text : List ℕ
 too_long_text = text_of (codes "POST /q HTTP/1.0" ∷ codes "Content-Length: 1048577" ∷ [] ∷ [])
 
+-- a response with a body
 abbrev pub created : ResponseMessage
 created = record { status = Created; fields = (codes "Location", codes "/q") ∷ []; body = codes "hi"; ends = false }
 
+-- a response without one
 abbrev pub nothing_there : ResponseMessage
 nothing_there = record { status = NoContent; fields = []; body = []; ends = false }
 
+-- the last response of a connection
 abbrev pub bad_request : ResponseMessage
 bad_request = record { status = BadRequest; fields = []; body = []; ends = true }
 

@@ -7,6 +7,7 @@ use Rattle.sb_http.specs.WholeResponses.{WholeMessage, IsWhole}
 unfoldable pub reply_text : List ℕ
 reply_text = text_of (codes "HTTP/1.1 200 OK" ∷ codes "content-length:  14 " ∷ codes "Connection: close" ∷ [] ∷ []) ++ codes "{\"ok\":\"done\"}\n"
 
+-- a reply
 abbrev pub reply : WholeMessage
 reply = record { minor = 1; code = 200; fields = (codes "content-length", codes "14") ∷ (codes "Connection", codes "close") ∷ []; body = codes "{\"ok\":\"done\"}\n" }
 
@@ -14,6 +15,7 @@ reply = record { minor = 1; code = 200; fields = (codes "content-length", codes 
 unfoldable pub nothing_text : List ℕ
 nothing_text = text_of (codes "HTTP/1.0 204 No Content" ∷ [] ∷ [])
 
+-- a response without a body
 abbrev pub nothing : WholeMessage
 nothing = record { minor = 0; code = 204; fields = []; body = [] }
 

@@ -23,7 +23,7 @@
 //! let mut incoming = Incoming::new(alloc)?;
 //! for piece in [b"GET /a HTTP/1.1\r\nHo".as_slice(), b"st: h\r\n\r\nGET /b"] {
 //!     assert_eq!(rt; incoming.feed(piece), piece.len());
-//!     assert_eq!(rt; take_all(&mut out, &mut incoming)?, None);
+//!     assert!(rt; take_all(&mut out, &mut incoming)?.is_none());
 //! }
 //! assert_eq!(rt; out.as_slice(), b"GET /a 1.1 ;".as_slice());
 //! assert_eq!(rt; incoming.left(), 6);

@@ -31,6 +31,7 @@ TakesPart false line pending after front = NoFeed pending × (after ≡ []) × S
 abbrev pub IsNext : (all line after : List ℕ) → Bool → Type 0
 IsNext all line after ended = (all ≡ line ++ 10 ∷ after) ⊎ ((all ≡ line) × (line ≢ []) × (after ≡ []) × (ended ≡ true))
 
+-- a line was read: what was taken for it, which line it is, and what is pending behind it
 pub record ReadsLine (start : Option (List ℕ)) (input pending : List ℕ) (left : Option (List ℕ)) (r : Reader) (front : PartialLine) : Type 0 where
   pub more : List ℕ
   pub at : IsAt start (input ++ more) left r
@@ -39,6 +40,7 @@ pub record ReadsLine (start : Option (List ℕ)) (input pending : List ℕ) (lef
   pub no_feed : NoFeed line
   pub next : IsNext (pending ++ more) line (pending_of r) r.ended
 
+-- no line was left: all was taken, and nothing is pending
 pub record ReadsNone (start : Option (List ℕ)) (input pending : List ℕ) (left : Option (List ℕ)) (r : Reader) : Type 0 where
   pub at : IsAt start input left r
   pub none : pending ≡ []

@@ -84,9 +84,11 @@ MayLeave salt seen (Damaged place) bytes = bytes ≡ seen
 
 -- ---- of the bytes of both disks: disk b doesn't count yet
 
+-- the file stands whole, behind a closed gate
 abbrev pub IsShutPair : File → (a b : List ℕ) → Type 0
 IsShutPair file a b = IsShutFile file a
 
+-- what a crash may leave of the file while records are added
 abbrev pub IsTornPair : File → List (List ℕ) → (a b : List ℕ) → Type 0
 IsTornPair file payloads a b = IsTornGroup file payloads a
 

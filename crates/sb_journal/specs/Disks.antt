@@ -18,20 +18,25 @@ pub record OneDisk : Type 0 where
   pub past : List Held
   pub faults : ℕ
 
+-- both disks
 pub record Disks : Type 0 where
   pub a : OneDisk
   pub b : OneDisk
 
+-- what one disk tells, by its ghost values
 abbrev pub disk_of : {D : Type 0} (G : Ghosts D) → D → OneDisk
 disk_of G d = record { honest = G.honest d; held = G.held d; past = G.past d; faults = G.count d }
 
+-- what both disks tell, by their ghost values
 abbrev pub disks_of : {D : Type 0} (G : Ghosts D) → (a b : D) → Disks
 disks_of G a b = record { a = disk_of G a; b = disk_of G b }
 
+-- the disk of a side
 abbrev pub on_side : Side → Disks → OneDisk
 on_side A disks = disks.a
 on_side B disks = disks.b
 
+-- what both say of their content holds
 abbrev pub AreHonest : Disks → Type 0
 AreHonest disks = IsTrue disks.a.honest × IsTrue disks.b.honest
 
@@ -86,6 +91,7 @@ StaysBehind place was x y = IsSameFrom place was.a.held.seen x
 
 -- ---- counts of faults, and honesty
 
+-- no call of either disk failed
 abbrev pub AreQuiet : (was later : Disks) → Type 0
 AreQuiet was later = (later.a.faults ≡ was.a.faults) × (later.b.faults ≡ was.b.faults)
 
@@ -95,11 +101,14 @@ OneFault was later n =
     ((n ≡ later.a.faults) × RoseByOne was.a.faults later.a.faults × (later.b.faults ≡ was.b.faults))
     ⊎ ((n ≡ later.b.faults) × RoseByOne was.b.faults later.b.faults × (later.a.faults ≡ was.a.faults))
 
+-- one call of one disk failed
 abbrev pub HaveFailed : (was later : Disks) → Type 0
 HaveFailed was later = (n : ℕ) × OneFault was later n
 
+-- neither count of faults fell
 abbrev pub NoneFell : (was later : Disks) → Type 0
 NoneFell was later = (was.a.faults ≤ later.a.faults) × (was.b.faults ≤ later.b.faults)
 
+-- both are as honest as they were
 abbrev pub SameHonesty : (was later : Disks) → Type 0
 SameHonesty was later = (later.a.honest ≡ was.a.honest) × (later.b.honest ≡ was.b.honest)

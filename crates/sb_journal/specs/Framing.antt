@@ -4,6 +4,7 @@ use Rattle.std.specs.Int.{w32, w64, from_be_bytes}
 use Rattle.std.specs.Str.{bytes_eq}
 use Rattle.sb_journal.specs.Text.{File, magic, max_payload, max_count}
 
+-- what the bytes of one disk are
 pub data Framing : Type 0 where
   -- no file was made here, or not to its end
   Uncreated : Framing
@@ -23,6 +24,7 @@ first_failing (test ∷ tests) = if test.0 then first_failing tests else Some te
 abbrev pub new_length : ℕ
 new_length = 43
 
+-- a file counts here: it is as long as a new one, and its first gate is open
 abbrev pub is_created : List ℕ → Bool
 is_created bytes = nat_le new_length (length bytes) && (slice_index bytes 0 == 1)
 
@@ -30,6 +32,7 @@ is_created bytes = nat_le new_length (length bytes) && (slice_index bytes 0 == 1
 abbrev pub number_at : ℕ → List ℕ → ℕ
 number_at place bytes = from_be_bytes w64 (take 8 (drop place bytes))
 
+-- a number that a generation or a first number may be
 abbrev pub is_count : ℕ → Bool
 is_count n = nat_le 1 n && nat_le n max_count
 
@@ -51,6 +54,7 @@ payload_length rest = from_be_bytes w32 (take 4 rest)
 unfoldable pub is_record : ℕ → List ℕ → Bool
 is_record number rest = nat_le 12 (length rest) && (nat_le (payload_length rest) max_payload && (nat_le (12 + payload_length rest) (length rest) && (from_be_bytes w64 (take 8 (drop 4 rest)) == number)))
 
+-- payloads behind this one, or the place of damage
 abbrev pub with_first : List ℕ → Result (List (List ℕ)) ℕ → Result (List (List ℕ)) ℕ
 with_first payload (Ok payloads) = Ok (payload ∷ payloads)
 with_first payload (Err place) = Err place
@@ -75,10 +79,12 @@ payloads_in bytes = read (length bytes) 42 (number_at 26 bytes) (drop 42 bytes)
 abbrev pub file_with : List ℕ → List (List ℕ) → File
 file_with bytes payloads = record { salt = number_at 10 bytes; generation = number_at 18 bytes; first = number_at 26 bytes; base = []; payloads = payloads }
 
+-- a file of these payloads, or the place of its damage
 abbrev pub whole_or_damaged : List ℕ → Result (List (List ℕ)) ℕ → Framing
 whole_or_damaged bytes (Ok payloads) = Whole (file_with bytes payloads)
 whole_or_damaged bytes (Err place) = Damaged place
 
+-- a file with a sound head, or the place where its head is damaged
 abbrev pub sound_or_damaged : List ℕ → Option ℕ → Framing
 sound_or_damaged bytes None = whole_or_damaged bytes (payloads_in bytes)
 sound_or_damaged bytes (Some place) = Damaged place
@@ -87,5 +93,6 @@ sound_or_damaged bytes (Some place) = Damaged place
 abbrev pub free_or_occupied : List ℕ → Framing
 free_or_occupied bytes = if nat_le (length bytes) new_length then Uncreated else Occupied
 
+-- what these bytes stand for
 unfoldable pub framing : List ℕ → Framing
 framing bytes = if is_created bytes then sound_or_damaged bytes (head_fault bytes) else free_or_occupied bytes

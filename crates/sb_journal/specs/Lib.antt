@@ -1,3 +1,5 @@
+-- The journal, in the order to read it: Text (the bytes of a file), Framing (what bytes stand for), Opened, Unopened, Journals (what contracts
+-- see); Disks, Pieces, Moments, Crashes (what a crash may leave, and when); Laws.
 pub mod Crashes
 pub mod Disks
 pub mod Framing

@@ -14,6 +14,7 @@ use Rattle.sb_journal.specs.declared.reading.Reading.TheVariants.{NoFile, OtherF
 use Rattle.sb_journal.specs.Text.{File, new_file, file_text, with_payloads, Spells, HasText}
 use Rattle.sb_journal.specs.Framing.{Framing, Uncreated, Occupied, Whole, Damaged, framing, is_created, new_length, head_fault, number_at}
 
+-- what an opening finds
 pub data Opened : Type 0 where
   -- this disk's file counts
   Stands : Side → File → Opened
@@ -47,6 +48,7 @@ FindsEither file payload a b = FindsNoneOrAll file (payload ∷ []) a b
 abbrev pub found_file : Found → File
 found_file found = record { salt = found.salt; generation = found.generation; first = found.first; base = found.base; payloads = found.payloads.items }
 
+-- the file that was read so far
 abbrev pub stand_file : Stand → File
 stand_file s = record { salt = s.salt; generation = s.generation; first = s.first; base = []; payloads = s.payloads.items }
 
@@ -61,6 +63,7 @@ pub record IsStand (s : Stand) : Type 0 where
 abbrev pub is_shut : ℕ → List ℕ → Bool
 is_shut place bytes = nat_lt place (length bytes) && (slice_index bytes place == 0)
 
+-- a file was read to its end: which one, and whether its end gate is closed
 pub record IsWholeStand (s : Stand) (bytes : List ℕ) : Type 0 where
   pub whole : framing bytes ≡ Whole (stand_file s)
   pub spells : Spells (stand_file s) bytes

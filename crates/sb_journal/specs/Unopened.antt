@@ -8,6 +8,7 @@ use Rattle.sb_journal.specs.Disks.{Disks, disks_of}
 abbrev pub unopened_disk_a : {D : Type 0} {B : Ghosts D} → Unopened D B → D
 unopened_disk_a u = u.disk_a
 
+-- the second
 abbrev pub unopened_disk_b : {D : Type 0} {B : Ghosts D} → Unopened D B → D
 unopened_disk_b u = u.disk_b
 

@@ -12,6 +12,7 @@ use Rattle.sb_machine.specs.declared.state.Entity.{Entity}
 use Rattle.sb_machine.specs.declared.state.Space.{Space}
 use Rattle.sb_machine.specs.declared.state.State.{State}
 
+-- whether two are acceptances of one id by one entity
 abbrev pub is_same_id : Noted → Noted → Bool
 is_same_id x y = (y.entity == x.entity) && bytes_eq y.id x.id
 
@@ -28,8 +29,10 @@ Apart past (x ∷ xs) = IsClear x past × Apart (past ++ x ∷ []) xs
 abbrev pub kept_as_noted : Entity → AcceptedId → Noted
 kept_as_noted e a = record { entity = e.about.number; id = a.id; moment = a.moment; window = 0 }
 
+-- the ids that the namespace keeps
 abbrev pub kept_ids : Space → List Noted
 kept_ids s = flat_map (λ e. map (kept_as_noted e) e.ids) s.entities
 
+-- in each legal history, an entity accepts an id again only once its window has passed
 abbrev pub OnceIds : Type 0
 OnceIds = (s : State) (h : List Entry) → IsConsistent s → IsLegal s h → Apart (kept_ids s.space) (noted_ids (fresh_log s) h)

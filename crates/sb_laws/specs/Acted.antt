@@ -28,5 +28,6 @@ pub record ActOnce (s : State) (acted : List Numbered) : Type 0 where
   pub rise : (client : List ℕ) → Rise (least_next client s.clients) (numbers_of client acted)
   pub once : (client : List ℕ) (n : ℕ) → times (λ m. m == n) (numbers_of client acted) ≤ 1
 
+-- in each legal history, a client's numbered calls act once each, in rising order
 abbrev pub OnceNumbers : Type 0
 OnceNumbers = (s : State) (h : List Entry) → IsConsistent s → IsLegal s h → ActOnce s (acted_numbers (fresh_log s) h)

@@ -1,4 +1,4 @@
--- A tick's changes by what is due as it begins: its later sweeps needn't look at what the earlier ones leave.
+-- The changes of a time step by what is due as it begins: its later sweeps needn't look at what the earlier ones leave.
 use Rattle.std.specs.Prelude.{◌≡◌, ℕ, List, ◌++◌}
 use Rattle.sb_machine.specs.Changes.{after_all, in_turn}
 use Rattle.sb_machine.specs.Due.{activated, due_scheduled, due_transactions, sweep_expired, sweep_locks, tick_changes}
@@ -14,6 +14,7 @@ freed t s = sweep_locks t s ++ sweep_expired t s
 abbrev pub woken : ℕ → Space → List Change
 woken t s = in_turn activated t (due_scheduled t s) (after_all t (freed t s) s)
 
+-- the changes of a time step, each by what is due as it begins
 abbrev pub as_found : ℕ → Space → List Change
 as_found t s = (freed t s ++ woken t s) ++ due_transactions t s
 

@@ -1,4 +1,4 @@
--- A copy number ends once.
+-- The number of a message ends once.
 use Rattle.std.specs.Prelude.{◌≡◌, ℕ, ◌≤◌, ◌<◌, ◌+◌, ◌==◌, ◌&&◌, Bool, List, length, sum_by, if◌then◌else◌}
 use Rattle.sb_laws.specs.Counting.{times}
 use Rattle.sb_machine.specs.Accounts.{ends_of}
@@ -18,6 +18,7 @@ use Rattle.sb_machine.specs.declared.state.State.{State}
 abbrev pub is_leaf : LeafKey → LeafKey → Bool
 is_leaf a b = (a.entity == b.entity) && is_same_part a.part b.part
 
+-- whether this is the end of that number of that part
 abbrev pub is_end : LeafKey → ℕ → End → Bool
 is_end key x d = is_leaf d.leaf key && (d.number == x)
 
@@ -29,6 +30,7 @@ times_ended key x ends = times (is_end key x) ends
 abbrev pub live_here : LeafKey → ℕ → Entity → ℕ
 live_here key x e = if is_entity key.entity e then times (has_number x) (leaf_of key.part e).copies else 0
 
+-- how many messages of the namespace have this number in this part
 abbrev pub times_live : LeafKey → ℕ → Space → ℕ
 times_live key x s = sum_by (live_here key x) s.entities
 
@@ -38,5 +40,6 @@ pub record EndOnce (s later : Space) (ends : List End) : Type 0 where
   pub gone : (key : LeafKey) (x : ℕ) → 0 < times_ended key x ends → times_live key x later ≡ 0
   pub all : made later + live s ≡ made s + live later + length ends
 
+-- in each legal history, a message's number ends once, and none is lost from the count
 abbrev pub EndsOnce : Type 0
 EndsOnce = (s : State) (h : List Entry) → IsConsistent s → IsLegal s h → EndOnce s.space (state_after s h).space (ends_of (fresh_log s) h)

@@ -1,4 +1,4 @@
--- A receive under a session hands out the copy of least number.
+-- A receive under a session hands out the message of the least number.
 use Rattle.std.specs.Prelude.{◌≡◌, ◌&&◌, ℕ, ◌≤◌, List, [], ◌∷◌, Bool, true, Some, Ok}
 use Rattle.sb_machine.specs.Answers.{moment_of}
 use Rattle.sb_machine.specs.Consistent.{IsConsistent}
@@ -35,14 +35,17 @@ pub record IsFirst (s : Space) (t : ℕ) (from : Path) (token : Token) (n : ℕ)
   pub held : held_session s t token (leaf_of from.part entity) ≡ Some session
   pub least : Each (λ c. is_ready_of session.id c ≡ true → n ≤ c.number) (leaf_of from.part entity).copies
 
+-- if an entry is a receive under a session that handed out a message, that message was the first
 abbrev pub IsHandedInOrder : Log → Entry → Type 0
 IsHandedInOrder l (Ticked seat t) = Unit {0}
 IsHandedInOrder l (Replied seat reading call answer) =
     (from : Path) (mode : Mode) (token : Token) (shown : CopyShown) → call.act ≡ Receive from mode (Some token) → answer ≡ Ok (New (Given shown)) → IsFirst l.state.space (moment_of l.state reading) from token shown.number
 
+-- so it is at each entry
 abbrev pub AreHandedInOrder : Log → List Entry → Type 0
 AreHandedInOrder l [] = Unit {0}
 AreHandedInOrder l (e ∷ es) = IsHandedInOrder l e × AreHandedInOrder (after_entry l e) es
 
+-- in each legal history, receives under a session hand out the message of the least number
 abbrev pub InOrder : Type 0
 InOrder = (s : State) (h : List Entry) → IsConsistent s → IsLegal s h → AreHandedInOrder (fresh_log s) h

@@ -41,6 +41,7 @@ pub record AcceptsBy (key : SessionKey) (lock : ℕ) (s : Space) (call : Call) (
   pub there : entity_at from s ≡ Some entity
   pub part : key_of from.part entity ≡ key.leaf
 
+-- this entry accepted the session under this lock
 abbrev pub Accepts : SessionKey → ℕ → Space → Entry → Type 0
 Accepts key lock s (Ticked seat t) = ⊥
 Accepts key lock s (Replied seat reading call answer) = AcceptsBy key lock s call answer
@@ -49,6 +50,7 @@ Accepts key lock s (Replied seat reading call answer) = AcceptsBy key lock s cal
 abbrev pub has_ended_in : ℕ → ℕ → Entity → Bool
 has_ended_in t lock e = list_any (is_ended_holder t lock) e.main.sessions || list_any (is_ended_holder t lock) e.dead.sessions || list_any (is_ended_holder t lock) e.transfer.sessions
 
+-- the same anywhere in the namespace
 abbrev pub has_run_out : ℕ → ℕ → Space → Bool
 has_run_out t lock s = list_any (has_ended_in t lock) s.entities
 
@@ -70,5 +72,6 @@ abbrev pub AreHeldAlone : Log → List Entry → Type 0
 AreHeldAlone l [] = Unit {0}
 AreHeldAlone l (e ∷ es) = ((key : SessionKey) (lock : ℕ) → Accepts key lock l.state.space e → HeldAlone key lock (after_entry l e) es) × AreHeldAlone (after_entry l e) es
 
+-- in each legal history, nobody accepts a session before the lock of its last holder has ended
 abbrev pub OneHolder : Type 0
 OneHolder = (s : State) (h : List Entry) → IsConsistent s → IsLegal s h → AreHeldAlone (fresh_log s) h

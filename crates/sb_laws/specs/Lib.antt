@@ -1,3 +1,5 @@
+-- Laws of every legal history, in the order to read them: Laws (what was asked), Ended, Spent, Holders, Handed, Accepted, Acted, Thin;
+-- Staying, Orderly, Plain, Sweepable, Counting, AsFound (what carries them); Worked.
 pub mod Laws
 pub mod Sweepable
 pub mod Plain

@@ -25,6 +25,7 @@ use Rattle.sb_machine.specs.declared.state.Transaction.{Transaction}
 use Rattle.sb_laws.specs.Plain.{IsPlain, IsRuled}
 use Rattle.sb_laws.specs.Sweepable.{IsLasting}
 
+-- what every call keeps of a message that stands in a part
 pub record IsOrderlyCopy (now : ℕ) (c : StoredCopy) : Type 0 where
   pub enqueued : c.enqueued ≤ now
   pub count : c.count ≤ max_count
@@ -32,6 +33,7 @@ pub record IsOrderlyCopy (now : ℕ) (c : StoredCopy) : Type 0 where
   pub ttl : IsLasting c.message.ttl
   pub no_schedule : c.message.schedule ≡ None
 
+-- what every call keeps of a part
 pub record IsOrderlyLeaf (now : ℕ) (leaf : Leaf) : Type 0 where
   pub last : leaf.last ≤ max_number
   pub numbers : AreRising (λ c. c.number) 0 leaf.last leaf.copies
@@ -39,6 +41,7 @@ pub record IsOrderlyLeaf (now : ℕ) (leaf : Leaf) : Type 0 where
   pub order : IsSorted (λ a b. is_before a.id b.id) leaf.sessions
   pub sessions : Each (IsSession now) leaf.sessions
 
+-- what every call keeps of an entity
 pub record IsOrderlyEntity (now : ℕ) (e : Entity) : Type 0 where
   pub about : IsPlain e.about
   pub rules : IsRuled e.about
@@ -52,11 +55,13 @@ abbrev pub IsOrderlyOperation : Operation → Type 0
 IsOrderlyOperation (Send to messages) = Each (λ m. IsLasting m.ttl) messages
 IsOrderlyOperation (Settle from number token session how) = bad_in_how how ≡ None
 
+-- what every call keeps of an open transaction
 pub record IsOrderlyTransaction (now : ℕ) (x : Transaction) : Type 0 where
   pub deadline : x.deadline ≤ now + 300000
   pub few : sum_by weight x.operations ≤ max_operations
   pub operations : Each IsOrderlyOperation x.operations
 
+-- what every call keeps of a state
 pub record IsOrderly (st : State) : Type 0 where
   pub now : st.now ≤ max_moment
   pub made : made st.space ≤ max_number

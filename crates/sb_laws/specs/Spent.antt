@@ -24,5 +24,6 @@ abbrev pub AllLived : Log → List Entry → Type 0
 AllLived l [] = Unit {0}
 AllLived l (e ∷ es) = Each (λ lock. lives (moment_in l e) lock l.state.space ≡ true) (entry_spends l e) × AllLived (after_entry l e) es
 
+-- in each legal history, a lock that a settlement uses up lived until then
 abbrev pub SpentLived : Type 0
 SpentLived = (s : State) (h : List Entry) → IsConsistent s → IsLegal s h → AllLived (fresh_log s) h

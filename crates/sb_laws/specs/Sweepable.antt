@@ -15,16 +15,19 @@ use Rattle.sb_machine.specs.declared.state.StoredCopy.{StoredCopy}
 abbrev pub IsLasting : Option ℕ → Type 0
 IsLasting ttl = IfSome ttl (λ seconds. 1 ≤ seconds)
 
+-- what a time step asks of a message that stands in a part
 pub record IsSweepableCopy (c : StoredCopy) : Type 0 where
   pub hops : c.hops ≤ max_hops
   pub count : c.count ≤ max_count
   pub ttl : IsLasting c.message.ttl
 
+-- what a time step asks of a part
 pub record IsSweepableLeaf (leaf : Leaf) : Type 0 where
   pub numbers : AreRising (λ c. c.number) 0 leaf.last leaf.copies
   pub copies : Each IsSweepableCopy leaf.copies
   pub holders : Pairs (λ l m. l ≢ m) (flat_map holder_lock leaf.sessions)
 
+-- what a time step asks of an entity
 pub record IsSweepableEntity (e : Entity) : Type 0 where
   pub ttl : IsLasting e.about.description.ttl
   pub main : IsSweepableLeaf e.main

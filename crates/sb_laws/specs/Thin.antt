@@ -8,9 +8,11 @@ use Rattle.sb_machine.specs.declared.history.Entry.{Entry}
 use Rattle.sb_machine.specs.declared.state.Kept.{Kept}
 use Rattle.sb_machine.specs.declared.state.State.{State}
 
+-- the client and its number in what is remembered
 abbrev pub number_kept : Kept → Numbered
 number_kept k = record { client = k.client; number = k.number }
 
+-- all clients and their numbers in what is remembered
 abbrev pub numbers_kept : List Kept → List Numbered
 numbers_kept clients = map number_kept clients
 
@@ -20,5 +22,6 @@ pub record Alike (a b : State) : Type 0 where
   pub space : a.space ≡ b.space
   pub clients : numbers_kept a.clients ≡ numbers_kept b.clients
 
+-- in each legal history, the events without duplicates lead to the same state
 abbrev pub ThinSame : Type 0
 ThinSame = (s : State) (h : List Entry) → IsConsistent s → IsLegal s h → Alike (replayed s (thinned (fresh_log s) h)) (state_after s h)

@@ -25,21 +25,27 @@ use Rattle.sb_machine.specs.declared.reply.Reply.TheVariants.{Message as Given}
 use Rattle.sb_model.specs.declared.message.Message.{Message}
 use Rattle.sb_model.specs.declared.message.SystemName.TheVariants.{MessageId, SessionId}
 
+-- a call under this number of a client
 abbrev pub numbered : ℕ → ℕ → Act → TimedCall
 numbered reading n act = record { reading = reading; call = record { by = Some (record { client = codes "c"; number = n }); act = act } }
 
+-- the queue of the scripts
 abbrev pub q : Path
 q = entity_path (codes "q")
 
+-- a message without an id
 abbrev pub bare : Message
 bare = record { body = codes "hi"; sys = []; props = []; ttl = None; schedule = None }
 
+-- a message with an id
 abbrev pub with_id : Message
 with_id = record bare { sys = record { name = MessageId; text = codes "m" } ∷ [] }
 
+-- a message of a session
 abbrev pub in_session : Message
 in_session = record bare { sys = record { name = SessionId; text = codes "s" } ∷ [] }
 
+-- the token of a lock
 abbrev pub token : ℕ → Token
 token lock = record { salt = empty.space.salt; lock = lock }
 
@@ -71,18 +77,23 @@ second_script =
     ∷ at 60000 (Receive q Lock (Some (token 3)))
     ∷ []
 
+-- the history that calls make on an empty namespace
 abbrev pub history : List TimedCall → List Entry
 history calls = entries_of 0 empty calls
 
+-- a history that begins with an empty namespace
 abbrev pub start : Log
 start = fresh_log empty
 
+-- the queue's message 1 was completed
 abbrev pub end_one : End
 end_one = record { leaf = record { entity = 1; part = Main }; number = 1; cause = Completed }
 
+-- the queue accepted the id at this moment
 abbrev pub noted_at : ℕ → Noted
 noted_at t = record { entity = 1; id = codes "m"; moment = t; window = 20 }
 
+-- the client's call 7
 abbrev pub seven : Numbered
 seven = record { client = codes "c"; number = 7 }
 

@@ -19,6 +19,7 @@ use Rattle.sb_lines.specs.Tokens.{token_in}
 
 -- ---- values
 
+-- the text at a key
 abbrev pub text_at : List ℕ → Data → Option (List ℕ)
 text_at key d = option_and_then as_str (get key d)
 
@@ -26,9 +27,11 @@ text_at key d = option_and_then as_str (get key d)
 abbrev pub whole_in : Data → Option ℕ
 whole_in d = option_and_then as_u64 (as_number d)
 
+-- the same at a key
 abbrev pub whole_at : List ℕ → Data → Option ℕ
 whole_at key d = option_and_then whole_in (get key d)
 
+-- a number, if the namespace may give it
 abbrev pub if_number : ℕ → Option ℕ
 if_number n = if is_number n then Some n else None
 
@@ -36,6 +39,7 @@ if_number n = if is_number n then Some n else None
 abbrev pub number_in : Data → Option ℕ
 number_in d = option_and_then if_number (whole_in d)
 
+-- the same at a key
 abbrev pub number_at : List ℕ → Data → Option ℕ
 number_at key d = option_and_then number_in (get key d)
 
@@ -47,9 +51,11 @@ name_at key d = option_map str_to_ascii_lowercase (text_at key d)
 unfoldable pub path_of : List ℕ → Path
 path_of text = address_of text
 
+-- the address at a key
 abbrev pub path_at : List ℕ → Data → Option Path
 path_at key d = option_map path_of (text_at key d)
 
+-- an address, if it names no part
 abbrev pub if_main : Path → Option Path
 if_main path = if is_main path.part then Some path else None
 
@@ -61,9 +67,11 @@ entity_at key d = option_and_then (λ text. if_main (path_of text)) (text_at key
 abbrev pub token_at : List ℕ → Data → Option Token
 token_at key d = option_and_then token_in (text_at key d)
 
+-- the mode of receiving that a word names
 abbrev pub mode_named : List ℕ → Option Mode
 mode_named word = if bytes_eq word (codes "lock") then Some Lock else if bytes_eq word (codes "delete") then Some Delete else None
 
+-- the mode of receiving that a text names
 abbrev pub mode_in : Data → Option Mode
 mode_in d = option_and_then mode_named (as_str d)
 
@@ -90,5 +98,6 @@ abbrev pub unknown_in : (List ℕ → Bool) → Members → Option (List ℕ)
 unknown_in known no_members = None
 unknown_in known (member k d ms) = if known k then unknown_in known ms else Some k
 
+-- the same of an object
 abbrev pub unknown_key : (List ℕ → Bool) → Data → Option (List ℕ)
 unknown_key known d = option_and_then (unknown_in known) (as_object d)

@@ -27,6 +27,7 @@ use Rattle.sb_lines.specs.Tables.{Field, address, entity, name, text, token, who
 
 -- ---- fields that several acts have
 
+-- a number, or an id
 abbrev pub which_of : Either ℕ (List ℕ) → Which
 which_of (First n) = Number n
 which_of (Second id) = Id id
@@ -35,19 +36,24 @@ which_of (Second id) = Id id
 unfoldable pub which : Field Which
 which = made which_of (one_of (codes "seq") (number (codes "seq")) (codes "id") (text (codes "id")))
 
+-- a text of SQL, or conditions
 abbrev pub filter_of : Either (List ℕ) Conditions → FilterText
 filter_of (First text) = Sql text
 filter_of (Second c) = Correlation c
 
+-- an SQL filter or a correlation filter, and exactly one of them
 unfoldable pub filter : Field FilterText
 filter = made filter_of (one_of (codes "filter") (text (codes "filter")) (codes "correlation") (conditions (codes "correlation")))
 
+-- the token of a session, or none
 abbrev pub session_if : Field (Option Token)
 session_if = optional (codes "session") (token (codes "session"))
 
+-- the number of a transaction, or none
 abbrev pub txn_if : Field (Option ℕ)
 txn_if = optional (codes "txn") (number (codes "txn"))
 
+-- a text, or none
 abbrev pub text_if : List ℕ → Field (Option (List ℕ))
 text_if key = optional key (text key)
 
@@ -66,33 +72,43 @@ shown f = record { knows = λ k. f.knows k || bytes_eq k (codes "form"); reads =
 abbrev pub row : {P : Type 0} → Field P → (P → Act) → Data → Result Act (List ℕ)
 row f make d = then_by (object_of (in_line f) d) (λ x. Ok (make x))
 
+-- a queue is made
 unfoldable pub create_queue : Data → Result Act (List ℕ)
 create_queue = row (name (codes "name") and queue_fields) (λ x. act.CreateQueue x.0 x.1)
 
+-- a topic is made
 unfoldable pub create_topic : Data → Result Act (List ℕ)
 create_topic = row (name (codes "name") and topic_fields) (λ x. act.CreateTopic x.0 x.1)
 
+-- a subscription is made
 unfoldable pub create_subscription : Data → Result Act (List ℕ)
 create_subscription = row (name (codes "topic") and name (codes "name") and subscription_fields) (λ x. act.CreateSubscription x.0 x.1.0 x.1.1)
 
+-- a rule is added
 unfoldable pub create_rule : Data → Result Act (List ℕ)
 create_rule = row (name (codes "topic") and name (codes "subscription") and name (codes "name") and filter and text_if (codes "action")) (λ x. act.CreateRule x.0 x.1.0 x.1.1.0 x.1.1.1.0 x.1.1.1.1)
 
+-- an entity is removed
 unfoldable pub delete : Data → Result Act (List ℕ)
 delete = row (entity (codes "entity")) (λ x. act.Delete x)
 
+-- a rule is dropped
 unfoldable pub delete_rule : Data → Result Act (List ℕ)
 delete_rule = row (name (codes "topic") and name (codes "subscription") and name (codes "name")) (λ x. act.DeleteRule x.0 x.1.0 x.1.1)
 
+-- messages are sent
 unfoldable pub send : Data → Result Act (List ℕ)
 send = row (address (codes "to") and messages (codes "messages") and txn_if) (λ x. act.Send x.0 x.1.0 x.1.1)
 
+-- a scheduled message is cancelled
 unfoldable pub cancel : Data → Result Act (List ℕ)
 cancel = row (address (codes "from") and number (codes "seq")) (λ x. act.Cancel x.0 x.1)
 
+-- a message is received
 unfoldable pub receive : Data → Result Act (List ℕ)
 receive = row (shown (address (codes "from") and mode (codes "mode") and session_if)) (λ x. act.Receive x.0 x.1.0 x.1.1)
 
+-- a deferred message is received
 unfoldable pub receive_deferred : Data → Result Act (List ℕ)
 receive_deferred = row (shown (address (codes "from") and number (codes "seq") and mode (codes "mode") and session_if)) (λ x. act.ReceiveDeferred x.0 x.1.0 x.1.1.0 x.1.1.1)
 
@@ -100,41 +116,53 @@ receive_deferred = row (shown (address (codes "from") and number (codes "seq") a
 unfoldable pub settle : How → Data → Result Act (List ℕ)
 settle how = row (address (codes "from") and which and token (codes "token") and session_if and txn_if) (λ x. act.Settle x.0 x.1.0 x.1.1.0 x.1.1.1.0 how x.1.1.1.1)
 
+-- a message is dead-lettered, with a reason and a description or without
 unfoldable pub dead_letter : Data → Result Act (List ℕ)
 dead_letter =
     row (address (codes "from") and which and token (codes "token") and session_if and txn_if and text_if (codes "reason") and text_if (codes "description"))
     (λ x. act.Settle x.0 x.1.0 x.1.1.0 x.1.1.1.0 (DeadLetter x.1.1.1.1.1.0 x.1.1.1.1.1.1) x.1.1.1.1.0)
 
+-- a message's lock is renewed
 unfoldable pub renew : Data → Result Act (List ℕ)
 renew = row (address (codes "from") and which and token (codes "token")) (λ x. act.Renew x.0 x.1.0 x.1.1)
 
+-- a session is accepted, by its id or the next one
 unfoldable pub accept : Data → Result Act (List ℕ)
 accept = row (address (codes "from") and text_if (codes "id")) (λ x. act.Accept x.0 x.1)
 
+-- a session's lock is renewed
 unfoldable pub session_renew : Data → Result Act (List ℕ)
 session_renew = row (address (codes "from") and token (codes "session")) (λ x. act.SessionRenew x.0 x.1)
 
+-- a session is closed
 unfoldable pub session_close : Data → Result Act (List ℕ)
 session_close = row (address (codes "from") and token (codes "session")) (λ x. act.SessionClose x.0 x.1)
 
+-- a session's state is written, or removed where neither key stands
 unfoldable pub session_set : Data → Result Act (List ℕ)
 session_set = row (address (codes "from") and token (codes "session") and bytes (codes "state") (codes "state_hex")) (λ x. act.SessionSet x.0 x.1.0 x.1.1)
 
+-- a session's state is read
 unfoldable pub session_state : Data → Result Act (List ℕ)
 session_state = row (address (codes "from") and token (codes "session")) (λ x. act.SessionState x.0 x.1)
 
+-- a transaction is begun
 unfoldable pub begin : Data → Result Act (List ℕ)
 begin = row (entity (codes "entity")) (λ x. act.Begin x)
 
+-- a transaction is committed
 unfoldable pub commit : Data → Result Act (List ℕ)
 commit = row (number (codes "txn")) (λ x. act.Commit x)
 
+-- a transaction is dropped
 unfoldable pub rollback : Data → Result Act (List ℕ)
 rollback = row (number (codes "txn")) (λ x. act.Rollback x)
 
+-- messages are looked at, from a number on
 unfoldable pub peek : Data → Result Act (List ℕ)
 peek = row (shown (address (codes "from") and number (codes "start") and whole (codes "count"))) (λ x. act.Peek x.0 x.1.0 x.1.1)
 
+-- messages are counted
 unfoldable pub counts : Data → Result Act (List ℕ)
 counts = row (entity (codes "entity")) (λ x. act.Counts x)
 
@@ -196,6 +224,7 @@ act_named word d =
 unfoldable pub reading_of : Data → Result ℕ (List ℕ)
 reading_of d = or_default (codes "at") 0 whole_in (get (codes "at") d)
 
+-- a client's name and its call's number, the name's fault first
 abbrev pub named_by : Data → Option Data → Result By (List ℕ)
 named_by client number =
     then_by (or_key (codes "client") (as_str client)) (λ name.
@@ -208,6 +237,7 @@ by_from takes None (Some n) = Err (codes "client")
 by_from false (Some c) n = Err (codes "client")
 by_from true (Some c) n = then_by (named_by c n) (λ by. Ok (Some by))
 
+-- the same of an object's keys
 abbrev pub by_of : Bool → Data → Result (Option By) (List ℕ)
 by_of takes d = by_from takes (get (codes "client") d) (get (codes "number") d)
 

@@ -46,10 +46,12 @@ abbrev pub with_text : SystemName → List ℕ → List SystemText → List Syst
 with_text name [] sys = sys
 with_text name (b ∷ bs) sys = sys ++ record { name = name; text = b ∷ bs } ∷ []
 
+-- the texts with the one that stands here, if any
 abbrev pub text_from : SystemName → Option Data → List SystemText → Result (List SystemText) (List ℕ)
 text_from name None sys = Ok sys
 text_from name (Some d) sys = then_by (or_key (system_name name) (as_str d)) (λ text. Ok (with_text name text sys))
 
+-- the texts with the one of this name, where it stands in the object
 abbrev pub text_with : Nulls → SystemName → Data → List SystemText → Result (List SystemText) (List ℕ)
 text_with nulls name d sys = text_from name (member_at nulls (system_name name) d) sys
 
@@ -64,6 +66,7 @@ broker_texts nulls d =
     then_by (text_with nulls ReplyTo d sys5) (λ sys6.
     text_with nulls ReplyToSessionId d sys6))))))
 
+-- the seven, and then ContentType
 abbrev pub all_texts : Data → Result (List SystemText) (List ℕ)
 all_texts d = then_by (broker_texts Wrong d) (λ sys. text_with Wrong ContentType d sys)
 
@@ -73,6 +76,7 @@ is_system_key k =
     bytes_eq k (codes "MessageId") || bytes_eq k (codes "Label") || bytes_eq k (codes "CorrelationId") || bytes_eq k (codes "SessionId")
     || bytes_eq k (codes "To") || bytes_eq k (codes "ReplyTo") || bytes_eq k (codes "ReplyToSessionId") || bytes_eq k (codes "ContentType")
 
+-- the keys of an object that is all system texts
 abbrev pub eight_texts : Field (List SystemText)
 eight_texts = record { knows = is_system_key; reads = all_texts }
 
@@ -81,6 +85,7 @@ abbrev pub texts_from : List ℕ → Option Data → Result (List SystemText) (L
 texts_from key None = Ok []
 texts_from key (Some d) = then_by (or_key key (as_object d)) (λ _. object_of eight_texts d)
 
+-- the system texts at a key
 abbrev pub system_texts : List ℕ → Field (List SystemText)
 system_texts key = record { knows = λ k. bytes_eq k key; reads = λ d. texts_from key (get key d) }
 
@@ -109,6 +114,7 @@ abbrev pub properties_from : List ℕ → Option Data → Result (List Property)
 properties_from key None = Ok []
 properties_from key (Some d) = then_by (or_key key (as_object d)) (λ ms. with_members ms [])
 
+-- the user properties at a key
 abbrev pub user_properties : List ℕ → Field (List Property)
 user_properties key = record { knows = λ k. bytes_eq k key; reads = λ d. properties_from key (get key d) }
 
@@ -118,21 +124,26 @@ user_properties key = record { knows = λ k. bytes_eq k key; reads = λ d. prope
 abbrev pub capped : ℕ → Option ℕ
 capped n = if nat_le n max_ttl then Some n else None
 
+-- a time to live of a second or more, cut to the longest
 abbrev pub if_positive : ℕ → Option (Option ℕ)
 if_positive n = if nat_le 1 n then Some (capped n) else None
 
+-- the time to live that stands here; left out is none
 abbrev pub lifetime_from : List ℕ → Option Data → Result (Option ℕ) (List ℕ)
 lifetime_from key None = Ok None
 lifetime_from key (Some d) = or_key key (option_and_then if_positive (whole_in d))
 
+-- the same at a key
 abbrev pub lifetime_at : Nulls → List ℕ → Data → Result (Option ℕ) (List ℕ)
 lifetime_at nulls key d = lifetime_from key (member_at nulls key d)
 
+-- a time to live, as a field
 abbrev pub lifetime : List ℕ → Field (Option ℕ)
 lifetime key = record { knows = λ k. bytes_eq k key; reads = lifetime_at Wrong key }
 
 -- ---- bytes
 
+-- bytes, given in either way or not at all
 abbrev pub bytes_or_none : Option (Either (List ℕ) (List ℕ)) → Option (List ℕ)
 bytes_or_none said = option_map either said
 
@@ -140,6 +151,7 @@ bytes_or_none said = option_map either said
 unfoldable pub bytes : List ℕ → List ℕ → Field (Option (List ℕ))
 bytes key hex_key = made bytes_or_none (at_most_one key (text key) hex_key (digits hex_key))
 
+-- bytes, none of them where they are left out
 abbrev pub or_empty : Option (List ℕ) → List ℕ
 or_empty None = []
 or_empty (Some b) = b
@@ -178,6 +190,7 @@ sent_fields = record { knows = λ k. bytes_eq k amqp_key || message_fields.knows
 abbrev pub message_of : Data → Result Message (List ℕ)
 message_of d = then_by (or_key (codes "messages") (as_object d)) (λ _. object_of sent_fields d)
 
+-- messages before others, unless those have a fault
 abbrev pub before_those : List Message → Result (List Message) (List ℕ) → Result (List Message) (List ℕ)
 before_those first (Err key) = Err key
 before_those first (Ok ms) = Ok (first ++ ms)
@@ -187,12 +200,15 @@ abbrev pub messages_of : Items → Result (List Message) (List ℕ)
 messages_of no_items = Ok []
 messages_of (item d ds) = then_by (message_of d) (λ m. before_those (m ∷ []) (messages_of ds))
 
+-- the messages of a send
 unfoldable pub messages : List ℕ → Field (List Message)
 messages key = record { knows = λ k. bytes_eq k key; reads = λ d. then_by (or_key key (option_and_then as_array (get key d))) messages_of }
 
+-- the conditions of a correlation filter
 unfoldable pub condition_fields : Field Conditions
 condition_fields = made (λ x. record { sys = x.0; props = x.1 }) (system_texts (codes "sys") and user_properties (codes "props"))
 
+-- the conditions that stand here; left out is a fault
 abbrev pub conditions_from : List ℕ → Option Data → Result Conditions (List ℕ)
 conditions_from key None = Err key
 conditions_from key (Some d) = then_by (or_key key (as_object d)) (λ _. object_of condition_fields d)

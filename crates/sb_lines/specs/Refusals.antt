@@ -8,18 +8,23 @@ use Rattle.sb_machine.specs.declared.reply.Refusal.TheVariants.{BadCall, EntityN
 abbrev pub refused_before : List ℕ → Members → Members
 refused_before name rest = member (codes "refused") (string name) rest
 
+-- a refusal's name alone
 abbrev pub refused : List ℕ → Members
 refused name = refused_before name no_members
 
+-- a refusal without fields
 abbrev pub plain : List ℕ → Data
 plain name = object (refused name)
 
+-- a number before other members
 abbrev pub with_number : List ℕ → ℕ → Members → Members
 with_number key n rest = member key (number (unsigned n)) rest
 
+-- a text before other members
 abbrev pub with_string : List ℕ → List ℕ → Members → Members
 with_string key text rest = member key (string text) rest
 
+-- each refusal, with its fields
 abbrev pub refusal_data : Refusal → Data
 refusal_data (BadCall key) = object (with_string (codes "key") key (refused (codes "BadCall")))
 refusal_data EntityNotFound = plain (codes "EntityNotFound")

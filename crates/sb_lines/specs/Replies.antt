@@ -23,6 +23,7 @@ use Rattle.sb_lines.specs.Tokens.{token_text}
 abbrev pub said_before : List ℕ → Members → Members
 said_before word rest = with_string (codes "ok") word rest
 
+-- a reply's word alone
 abbrev pub said : List ℕ → Members
 said word = said_before word no_members
 
@@ -31,6 +32,7 @@ abbrev pub receipt_data : Receipt → Data
 receipt_data (Number n) = number (unsigned n)
 receipt_data Duplicate = null
 
+-- how each part is named
 abbrev pub part_name : Part → List ℕ
 part_name Main = codes "main"
 part_name Dead = codes "dead"
@@ -41,6 +43,7 @@ abbrev pub with_state : Option (List ℕ) → Members → Members
 with_state None ms = put (codes "state") null ms
 with_state (Some bytes) ms = with_bytes (codes "state") (codes "state_hex") bytes ms
 
+-- the counts of the three parts
 abbrev pub count_data : ℕ → ℕ → ℕ → Data
 count_data main dead transfer = object (with_number (codes "dead") dead (with_number (codes "main") main (with_number (codes "transfer") transfer no_members)))
 

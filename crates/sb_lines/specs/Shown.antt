@@ -34,6 +34,7 @@ abbrev pub with_properties : Members → List Property → Members
 with_properties ms [] = ms
 with_properties ms (p ∷ ps) = with_properties (put p.name (property_data p.value) ms) ps
 
+-- members with the system texts of a message
 abbrev pub with_texts : Members → List SystemText → Members
 with_texts ms [] = ms
 with_texts ms (t ∷ ts) = with_texts (put (system_name t.name) (string t.text) ms) ts
@@ -61,6 +62,7 @@ abbrev pub with_ttl : Option ℕ → Members → Members
 with_ttl None ms = ms
 with_ttl (Some ttl) ms = put (codes "ttl") (number (unsigned ttl)) ms
 
+-- how a message that is looked at stands
 abbrev pub state_name : CopyState → List ℕ
 state_name Ready = codes "ready"
 state_name Deferred = codes "deferred"

@@ -13,6 +13,7 @@ use Rattle.sb_lines.specs.declared.table.Either.TheVariants.{First, Second}
 use Rattle.sb_lines.specs.Faults.{or_key, none_or_key, then_by}
 use Rattle.sb_lines.specs.Fields.{text_at, whole_in, whole_at, number_at, name_at, path_at, entity_at, token_at, mode_in, form_in, hex_at, or_default, unknown_key}
 
+-- which keys a field takes, and what it reads
 pub record Field (A : Type 0) : Type 0 where
   pub knows : List ℕ → Bool
   pub reads : Data → Result A (List ℕ)
@@ -23,27 +24,35 @@ pub record Field (A : Type 0) : Type 0 where
 abbrev pub at_key : {A : Type 0} → List ℕ → (List ℕ → Data → Option A) → Field A
 at_key key finds = record { knows = λ k. bytes_eq k key; reads = λ d. or_key key (finds key d) }
 
+-- a text at a key
 abbrev pub text : List ℕ → Field (List ℕ)
 text key = at_key key text_at
 
+-- a name at a key
 abbrev pub name : List ℕ → Field (List ℕ)
 name key = at_key key name_at
 
+-- an address at a key
 abbrev pub address : List ℕ → Field Path
 address key = at_key key path_at
 
+-- an address at a key that names no part
 abbrev pub entity : List ℕ → Field Path
 entity key = at_key key entity_at
 
+-- a lock token at a key
 abbrev pub token : List ℕ → Field Token
 token key = at_key key token_at
 
+-- a whole number at a key
 abbrev pub whole : List ℕ → Field ℕ
 whole key = at_key key whole_at
 
+-- a number at a key that the namespace may give
 abbrev pub number : List ℕ → Field ℕ
 number key = at_key key number_at
 
+-- bytes at a key, as hexadecimal digits
 abbrev pub digits : List ℕ → Field (List ℕ)
 digits key = at_key key hex_at
 
@@ -51,12 +60,15 @@ digits key = at_key key hex_at
 abbrev pub with_default : {A : Type 0} → List ℕ → A → (Data → Option A) → Field A
 with_default key default reads = record { knows = λ k. bytes_eq k key; reads = λ d. or_default key default reads (get key d) }
 
+-- a whole number at a key, else this one
 abbrev pub whole_or : List ℕ → ℕ → Field ℕ
 whole_or key default = with_default key default whole_in
 
+-- true or false at a key, else this one
 abbrev pub truth_or : List ℕ → Bool → Field Bool
 truth_or key default = with_default key default as_bool
 
+-- the mode of receiving at a key, else under a lock
 abbrev pub mode : List ℕ → Field Mode
 mode key = with_default key Lock mode_in
 
@@ -70,6 +82,7 @@ infixr 6 ◌and◌
 abbrev pub ◌and◌ : {A B : Type 0} → Field A → Field B → Field (A × B)
 f and g = record { knows = λ k. f.knows k || g.knows k; reads = λ d. then_by (f.reads d) (λ x. then_by (g.reads d) (λ y. Ok (x, y))) }
 
+-- what was read, where the key stands
 abbrev pub where_there : {A : Type 0} → Option Data → Result A (List ℕ) → Result (Option A) (List ℕ)
 where_there None said = Ok None
 where_there (Some d) said = then_by said (λ x. Ok (Some x))
@@ -78,10 +91,12 @@ where_there (Some d) said = then_by said (λ x. Ok (Some x))
 abbrev pub optional : {A : Type 0} → List ℕ → Field A → Field (Option A)
 optional key f = record { knows = f.knows; reads = λ d. where_there (get key d) (f.reads d) }
 
+-- what was read, unless the other key stands too
 abbrev pub alone : {A : Type 0} → List ℕ → Option Data → A → Result A (List ℕ)
 alone other None x = Ok x
 alone other (Some d) x = Err other
 
+-- whichever of two keys stands; the second is at fault where both do
 abbrev pub first_or_second : {A B : Type 0} → List ℕ → Option Data → Option Data → Result A (List ℕ) → Result B (List ℕ) → Result (Option (Either A B)) (List ℕ)
 first_or_second other None None a b = Ok None
 first_or_second other (Some d) o a b = then_by a (λ x. alone other o (Some (First x)))

@@ -1,4 +1,4 @@
--- Lists over a history.
+-- What is read off a history, call by call: numbers that ended, locks that were used up, ids, numbered calls, events.
 use Rattle.std.specs.Prelude.{ℕ, List, [], ◌∷◌, ◌++◌, Bool, ◌&&◌, not, if◌then◌else◌, Option, Some, None, Result}
 use Rattle.sb_machine.specs.Answers.{changes_of, is_change, moment_of}
 use Rattle.sb_machine.specs.Changes.{along}
@@ -19,6 +19,7 @@ use Rattle.sb_machine.specs.Repeats.{refused, repeated, acted, Outcome, outcome_
 
 -- ---- along a history
 
+-- the moment at which an entry acted
 abbrev pub moment_in : Log → Entry → ℕ
 moment_in l (Ticked seat t) = t
 moment_in l (Replied seat reading call answer) = moment_of l.state reading
@@ -27,20 +28,25 @@ moment_in l (Replied seat reading call answer) = moment_of l.state reading
 abbrev pub is_machine : Log → ℕ → Result Answered Refusal → Bool
 is_machine l reading answer = not (is_fault answer) && not (is_due (moment_of l.state reading) l.state.space)
 
+-- the changes that an entry made: those of its time step, or those of its call where the machine answered it
 abbrev pub entry_changes : Log → Entry → List Change
 entry_changes l (Ticked seat t) = tick_changes t l.state.space
 entry_changes l (Replied seat reading call answer) = if is_machine l reading answer then changes_of (outcome_of l.state (moment_of l.state reading) call) else []
 
+-- what f reads off each change of a history, in order, with the moment and the namespace before that change
 abbrev pub over : {X : Type 0} → (ℕ → Change → Space → List X) → Log → List Entry → List X
 over f l [] = []
 over f l (e ∷ es) = along f (moment_in l e) (entry_changes l e) l.state.space ++ over f (after_entry l e) es
 
+-- the numbers that ended in a history, each with its place and cause
 abbrev pub ends_of : Log → List Entry → List End
 ends_of l h = over ends_in l h
 
+-- the locks that settlements used up in a history
 abbrev pub spent_locks : Log → List Entry → List ℕ
 spent_locks l h = over spends_in l h
 
+-- the message ids that were accepted in a history
 abbrev pub noted_ids : Log → List Entry → List Noted
 noted_ids l h = over notes_in l h
 
@@ -59,12 +65,14 @@ pub record Numbered : Type 0 where
   pub client : List ℕ
   pub number : ℕ
 
+-- the client and number of a call that acted, where it has them
 abbrev pub acted_by : Option By → Outcome → List Numbered
 acted_by (Some by) (acted reply cs) = record { client = by.client; number = by.number } ∷ []
 acted_by (Some by) (refused r) = []
 acted_by (Some by) (repeated reply) = []
 acted_by None o = []
 
+-- the numbered calls of a history that acted, in order
 abbrev pub acted_numbers : Log → List Entry → List Numbered
 acted_numbers l h = each_outcome (λ t call answer o. acted_by (client_of call) o) (λ t. []) l h
 
@@ -72,5 +80,6 @@ acted_numbers l h = each_outcome (λ t call answer o. acted_by (client_of call) 
 abbrev pub event_of : ℕ → Call → Outcome → List Event
 event_of t call o = if is_change (client_of call) o then Called t call ∷ [] else []
 
+-- the events of a history that changed the state: time steps, and calls that did
 abbrev pub changing : Log → List Entry → List Event
 changing l h = each_outcome (λ t call answer o. event_of t call o) (λ t. Tick t ∷ []) l h

@@ -1,4 +1,4 @@
--- What each act comes to, its fields judged first and the numbers that it gives last.
+-- What each act (an operation that a caller asks for) comes to, its fields judged first and the numbers that it gives last.
 use Rattle.std.specs.Prelude.{ℕ, Bool, false, Option, Some, None}
 use Rattle.sb_machine.specs.Administration.{create_row, create_subscription_row, create_rule_row, delete_row, delete_rule_row, counts_row}
 use Rattle.sb_machine.specs.Fields.{Key, bad_field}
@@ -20,6 +20,7 @@ use Rattle.sb_machine.specs.SettleRow.{settle_row}
 
 -- ---- an act
 
+-- what each operation comes to at t in the namespace s, its fields taken for sound
 abbrev pub act_row : Space → ℕ → Act → Row
 act_row s t (CreateQueue name d) = create_row s Queue name d
 act_row s t (CreateTopic name d) = create_row s Topic name d
@@ -44,10 +45,12 @@ act_row s t (Rollback txn) = rollback_row s txn
 act_row s t (Peek from start count) = peek_row s from start count
 act_row s t (Counts entity) = counts_row s entity
 
+-- the refusal of a call for a field that is outside its range
 abbrev pub bad_call : Key → Option Refusal
 bad_call None = None
 bad_call (Some key) = Some (BadCall key)
 
+-- whether an operation is a send by way of another entity, in a transaction that is open
 abbrev pub is_via_in : Space → Act → Bool
 is_via_in s (Send to messages txn) = is_via s to (open_in txn s)
 is_via_in s _ = false

@@ -25,17 +25,21 @@ moment_of s reading = max (min reading max_moment) s.now
 
 -- ---- what is answered, and the state after it
 
+-- the answer that an outcome is told as
 abbrev pub answer_in : Outcome → Result Answered Refusal
 answer_in (refused r) = Err r
 answer_in (repeated reply) = Ok (Repeated reply)
 answer_in (acted reply cs) = Ok (New reply)
 
+-- what is remembered of a client: the number of its last call, that call and its reply
 abbrev pub kept_as : By → Act → Reply → Kept
 kept_as by act reply = record { client = by.client; number = by.number; act = act; reply = reply }
 
+-- the clients with this one remembered anew, in the order of their names
 abbrev pub with_kept : Kept → List Kept → List Kept
 with_kept k clients = if is_some (kept_for k.client clients) then changed (is_client k.client) (λ x. k ∷ []) clients else with_sorted (λ x. is_before x.client k.client) k clients
 
+-- the clients behind a call: with its client's number and reply where it has one
 abbrev pub keeping : Option By → Act → Reply → List Kept → List Kept
 keeping None act reply clients = clients
 keeping (Some by) act reply clients = with_kept (kept_as by act reply) clients
@@ -48,11 +52,13 @@ is_change (Some by) (acted reply cs) = true
 is_change None (acted reply []) = false
 is_change None (acted reply (c ∷ cs)) = true
 
+-- the changes of an outcome; only one that acted has any
 abbrev pub changes_of : Outcome → List Change
 changes_of (refused r) = []
 changes_of (repeated reply) = []
 changes_of (acted reply cs) = cs
 
+-- the state behind an outcome: the changes carried out and the reply remembered, where the call changed anything
 abbrev pub state_in : State → ℕ → Call → Outcome → State
 state_in s t call (refused r) = s
 state_in s t call (repeated reply) = s
@@ -61,8 +67,10 @@ state_in s t call (acted reply cs) =
     then record { now = t; clients = keeping (client_of call) call.act reply s.clients; space = after_all t cs s.space }
     else s
 
+-- what a call is answered in a state, at t
 abbrev pub answer_of : State → ℕ → Call → Result Answered Refusal
 answer_of s t call = answer_in (outcome_of s t call)
 
+-- the state that a call leaves
 abbrev pub state_of : State → ℕ → Call → State
 state_of s t call = state_in s t call (outcome_of s t call)

@@ -20,6 +20,7 @@ use Rattle.sb_machine.specs.declared.state.Transaction.{Transaction}
 abbrev pub is_recent : ℕ → ℕ → AcceptedId → Bool
 is_recent window t a = nat_lt t (a.moment + 1000 * window)
 
+-- whether this id was accepted so recently at t that a message with it is a duplicate
 abbrev pub is_known : ℕ → List ℕ → ℕ → List AcceptedId → Bool
 is_known window id t ids = list_any (λ a. bytes_eq a.id id && is_recent window t a) ids
 
@@ -34,28 +35,35 @@ noted (Some window) id t ids = if is_known window id t ids then ids else with_so
 
 -- ---- entities
 
+-- the entities, with f done to the one of this number
 abbrev pub on_entity : ℕ → (Entity → Entity) → Space → List Entity
 on_entity n f s = changed (is_entity n) (λ e. f e ∷ []) s.entities
 
+-- an entity with f done to its rules
 abbrev pub with_rules : (List Rule → List Rule) → Entity → Entity
 with_rules f e = record e { about = record e.about { rules = f e.about.rules } }
 
+-- rules with one more, in the order of their names
 abbrev pub rule_added : Rule → List Rule → List Rule
 rule_added r rules = with_sorted (λ x. is_before x.name r.name) r rules
 
+-- rules without those of this name
 abbrev pub rule_dropped : List ℕ → List Rule → List Rule
 rule_dropped name rules = filter (λ x. not (bytes_eq x.name name)) rules
 
 -- ---- transactions
 
+-- whether a transaction has this number
 abbrev pub is_transaction : ℕ → Transaction → Bool
 is_transaction n x = x.number == n
 
+-- a transaction with one more operation behind the others, and with this deadline
 abbrev pub with_operation : ℕ → Operation → Transaction → Transaction
 with_operation deadline operation x = record x { deadline = deadline; operations = x.operations ++ operation ∷ [] }
 
 -- ---- the namespace after a change at a moment
 
+-- the namespace after one change, made at t
 abbrev pub after : ℕ → Change → Space → Space
 after t (InLeaf key c) s = record s {
   last_lock = s.last_lock + locks_given c;
@@ -80,6 +88,7 @@ after t (Begins n deadline) s = record s {
 after t (Queues n deadline operation) s = record s { transactions = changed (is_transaction n) (λ x. with_operation deadline operation x ∷ []) s.transactions }
 after t (Drops n) s = record s { transactions = changed (is_transaction n) (λ x. []) s.transactions }
 
+-- the namespace after changes, made in order at t
 abbrev pub after_all : ℕ → List Change → Space → Space
 after_all t [] s = s
 after_all t (c ∷ cs) s = after_all t cs (after t c s)
@@ -96,10 +105,12 @@ in_turn f t (x ∷ xs) s = f x s ++ in_turn f t xs (after_all t (f x s) s)
 
 -- ---- numbers
 
+-- how many numbers of messages a change gives
 abbrev pub numbers_in : Change → ℕ
 numbers_in (InLeaf key c) = copies_given c
 numbers_in _ = 0
 
+-- how many numbers of messages these changes give
 abbrev pub numbers_given : List Change → ℕ
 numbers_given cs = sum_by numbers_in cs
 

@@ -1,4 +1,4 @@
--- What holds of a state between entries.
+-- What holds of a state between two entries of its history, point by point.
 use Rattle.std.specs.Prelude.{◌≡◌, ◌≢◌, ℕ, ◌+◌, ◌++◌, ◌≤◌, ◌<◌, List, [], ◌∷◌, length, map, filter, true, false, is_none, sum_by, Some, None}
 use Rattle.std.specs.List.{flat_map}
 use Rattle.sb_machine.specs.Answers.{max_moment}
@@ -30,9 +30,11 @@ use Rattle.sb_machine.specs.Repeats.{max_clients}
 
 -- ---- locks
 
+-- the lock of a session's holder, if it has one
 abbrev pub holder_lock : Session → List ℕ
 holder_lock x = elim x.holder [ Some h ↦ h.lock ∷ [] | None ↦ [] ]
 
+-- the locks of one part: on its messages, and of its sessions' holders
 abbrev pub locks_in : Leaf → List ℕ
 locks_in leaf = flat_map (λ c. lock_in c.standing) leaf.copies ++ flat_map holder_lock leaf.sessions
 
@@ -40,15 +42,18 @@ locks_in leaf = flat_map (λ c. lock_in c.standing) leaf.copies ++ flat_map hold
 abbrev pub locks_of : Space → List ℕ
 locks_of s = flat_map (λ e. locks_in e.main ++ locks_in e.dead ++ locks_in e.transfer) s.entities
 
+-- the locks of all sessions' holders in the namespace
 abbrev pub holder_locks : Space → List ℕ
 holder_locks s = flat_map (λ e. flat_map holder_lock e.main.sessions ++ flat_map holder_lock e.dead.sessions ++ flat_map holder_lock e.transfer.sessions) s.entities
 
 -- ---- transactions
 
+-- the lock under which a queued operation settles, if it settles
 abbrev pub queued_lock : Operation → List ℕ
 queued_lock (Send to messages) = []
 queued_lock (Settle from number token session how) = token.lock ∷ []
 
+-- the locks under which the open transactions settle
 abbrev pub queued_locks : Space → List ℕ
 queued_locks s = flat_map (λ x. flat_map queued_lock x.operations) s.transactions
 
@@ -56,6 +61,7 @@ queued_locks s = flat_map (λ x. flat_map queued_lock x.operations) s.transactio
 abbrev pub locked_in : ℕ → Entity → Part → List (LeafKey × ℕ)
 locked_in lock e part = map (λ c. (key_of part e, c.number)) (filter (λ c. has_lock lock c.standing) (leaf_of part e).copies)
 
+-- where a lock stands in the namespace: the key of the part, and the message's number
 abbrev pub locked_at : ℕ → Space → List (LeafKey × ℕ)
 locked_at lock s = flat_map (λ e. locked_in lock e Main ++ locked_in lock e Dead ++ locked_in lock e Transfer) s.entities
 
@@ -63,6 +69,7 @@ locked_at lock s = flat_map (λ e. locked_in lock e Main ++ locked_in lock e Dea
 abbrev pub IsOwn : Space → LeafKey → ℕ → ℕ → Type 0
 IsOwn s key number lock = Each (λ x. x ≡ (key, number)) (locked_at lock s)
 
+-- what holds of an operation that is queued in a transaction of the entity e
 abbrev pub IsOperation : Space → Entity → Operation → Type 0
 IsOperation s e (Send to messages) =
     (is_address to ≡ true) × (is_main to.part ≡ true) × (is_none to.subscription ≡ true) × (is_between 1 max_messages (length messages) ≡ true)
@@ -70,6 +77,7 @@ IsOperation s e (Send to messages) =
 IsOperation s e (Settle from number token session how) =
     (is_same_entity from e.about.path ≡ true) × (is_number number ≡ true) × (bad_in_how how ≡ None) × IsOwn s (key_of from.part e) number token.lock
 
+-- what holds of an open transaction
 pub record IsTransaction (now : ℕ) (s : Space) (x : Transaction) : Type 0 where
   pub entity : Entity
   pub there : entity_of x.entity s ≡ Some entity
@@ -79,6 +87,7 @@ pub record IsTransaction (now : ℕ) (s : Space) (x : Transaction) : Type 0 wher
 
 -- ---- clients
 
+-- what holds of a reply that is remembered for a client: it is never one of a call that only looks
 abbrev pub IsReply : Reply → Type 0
 IsReply (Sent receipts) = length receipts ≤ max_messages
 IsReply (Given shown) = shown.message.schedule ≡ None
@@ -87,6 +96,7 @@ IsReply (Remembers state) = ⊥
 IsReply (Counts main dead transfer) = ⊥
 IsReply _ = Unit {0}
 
+-- what holds of what is remembered for a client
 pub record IsKept (k : Kept) : Type 0 where
   pub client : is_between 1 50 (length k.client) ≡ true
   pub number : is_number k.number ≡ true
@@ -96,6 +106,7 @@ pub record IsKept (k : Kept) : Type 0 where
 
 -- ---- the whole
 
+-- what holds of a state between entries: limits, the order of its lists, and that numbers, paths and locks differ
 pub record IsConsistent (st : State) : Type 0 where
   pub now : st.now ≤ max_moment
   pub made : made st.space ≤ max_number

@@ -1,4 +1,5 @@
--- How copies move: delivery, dead-lettering, expiring and releasing, each as a list of changes.
+-- How messages move: delivery, dead-lettering, expiring and releasing, each as a list of changes.
+-- A copy is a message as it stands in one part of an entity, under a number of its own.
 use Rattle.std.specs.Prelude.{ℕ, ◌+◌, ◌*◌, ◌&&◌, not, Bool, false, nat_le, min, List, [], ◌∷◌, map, if◌then◌else◌, Option, Some, None}
 use Rattle.sb_machine.specs.Leaves.{seq_or}
 use Rattle.sb_machine.specs.Leases.{was_deferred}
@@ -24,18 +25,22 @@ use Rattle.sb_machine.specs.declared.state.Standing.{Standing}
 use Rattle.sb_machine.specs.declared.state.Standing.TheVariants.{Ready, Deferred}
 use Rattle.sb_machine.specs.declared.state.StoredCopy.{StoredCopy}
 
+-- a change in one part of an entity
 abbrev pub in_part : Part → Entity → LeafChange → Change
 in_part part e c = InLeaf (key_of part e) c
 
 -- ---- delivery: visits, and the numbers that they take
 
+-- what a visit does to its part: the message stays there, or its number ends at once
 abbrev pub landing : Option ℕ → Lot → LeafChange
 landing seq (stays hops m) = Enters (record { seq = seq; hops = hops; standing = Ready; message = m })
 landing seq (ends cause) = Passes cause
 
+-- the part that a visit is to
 abbrev pub visit_key : Visit → LeafKey
 visit_key v = record { entity = v.entity; part = v.part }
 
+-- the change that a visit is
 abbrev pub visit_change : Option ℕ → Visit → Change
 visit_change seq v = InLeaf (visit_key v) (landing seq v.lot)
 
@@ -51,14 +56,17 @@ carried seq vs = map (visit_change (Some seq)) vs
 
 -- ---- a copy of a main part is dead-lettered; `settled` where a settlement did it
 
+-- a message leaves the main part, and goes where the entity's dead letters go
 abbrev pub dead_lettered : List Listed → Entity → StoredCopy → Bool → Message → List Change
 dead_lettered es e c settled m = in_part Main e (Ends c.number settled DeadLettered) ∷ carried c.enqueued_seq (burial es c.hops e.about m)
 
+-- the same, with the reason that the broker writes into the message
 abbrev pub dead_for : List Listed → Entity → StoredCopy → Bool → DeadReason → List Change
 dead_for es e c settled reason = dead_lettered es e c settled (for_reason reason c.message)
 
 -- ---- time to live
 
+-- whether a message's time to live has passed at t
 abbrev pub is_expired : ℕ → StoredCopy → Bool
 is_expired t c = elim c.message.ttl [ Some seconds ↦ nat_le (c.enqueued + 1000 * seconds) t | None ↦ false ]
 
@@ -75,12 +83,15 @@ expired es e c settled =
 abbrev pub max_count : ℕ
 max_count = 4294967294
 
+-- a delivery count, counted up if that is asked for, and at most the greatest
 abbrev pub raised : Bool → ℕ → ℕ
 raised raise count = if raise then min (count + 1) max_count else count
 
+-- where a message stands once its lock is released: deferred again if it was
 abbrev pub back_to : Standing → Standing
 back_to standing = if was_deferred standing then Deferred else Ready
 
+-- what releasing a lock does: dead-letters what was delivered too often, ends what has expired, or puts the message back
 abbrev pub released : List Listed → ℕ → Entity → Part → StoredCopy → Bool → Bool → List Change
 released es t e part c raise settled =
     if is_main part && raise && nat_le e.about.description.max_delivery (raised raise c.count)

@@ -18,11 +18,13 @@ is_sent_to Queue = true
 is_sent_to Topic = true
 is_sent_to Subscription = false
 
+-- whether an entity of this kind has rules
 abbrev pub has_rules : EntityKind → Bool
 has_rules Queue = false
 has_rules Topic = false
 has_rules Subscription = true
 
+-- whether a destination is left out, or is a name
 abbrev pub is_name_or_none : Option (List ℕ) → Bool
 is_name_or_none None = true
 is_name_or_none (Some name) = is_name name

@@ -20,15 +20,19 @@ use Rattle.sb_model.specs.declared.message.Message.{Message}
 use Rattle.sb_model.specs.declared.message.Property.{Property}
 use Rattle.sb_model.specs.declared.message.SystemText.{SystemText}
 
+-- the most messages of one send
 abbrev pub max_messages : ℕ
 max_messages = 100
 
+-- the most messages that are looked at by one call
 abbrev pub max_peeked : ℕ
 max_peeked = 100
 
+-- the greatest time to live, in seconds
 abbrev pub max_ttl : ℕ
 max_ttl = 922337203685
 
+-- the name of a field that is wrong, or none
 abbrev pub Key : Type 0
 Key = Option (List ℕ)
 
@@ -41,9 +45,11 @@ first_some (Some key) other = Some key
 abbrev pub unless : Bool → List ℕ → Key
 unless passes key = if passes then None else Some key
 
+-- whether low ≤ n ≤ high
 abbrev pub is_between : ℕ → ℕ → ℕ → Bool
 is_between low high n = nat_le low n && nat_le n high
 
+-- the same, of a number that may be left out
 abbrev pub is_between_or_none : ℕ → ℕ → Option ℕ → Bool
 is_between_or_none low high None = true
 is_between_or_none low high (Some n) = is_between low high n
@@ -54,19 +60,24 @@ is_number n = is_between 1 max_number n
 
 -- ---- messages
 
+-- the first system text that is longer than it may be
 abbrev pub bad_in_texts : List SystemText → Key
 bad_in_texts [] = None
 bad_in_texts (x ∷ xs) = first_some (unless (is_within (text_limit x.name) (length (chars x.text))) (system_name x.name)) (bad_in_texts xs)
 
+-- whether a byte is an ASCII capital
 abbrev pub is_capital : ℕ → Bool
 is_capital b = nat_le 65 b && nat_le b 90
 
+-- whether a user property may be named so
 abbrev pub is_property_name : List ℕ → Bool
 is_property_name name = is_between 1 128 (length name) && not (list_any is_capital name)
 
+-- whether these user properties are named soundly, and not too many
 abbrev pub are_properties : List Property → Bool
 are_properties props = list_all (λ p. is_property_name p.name) props && nat_le (length props) max_user_properties
 
+-- the first bad field of a correlation filter's conditions
 abbrev pub bad_in_conditions : List SystemText → List Property → Key
 bad_in_conditions sys props = first_some (bad_in_texts sys) (unless (are_properties props) (codes "props"))
 
@@ -76,10 +87,12 @@ bad_in_message is_via m =
     first_some (bad_in_conditions m.sys m.props)
     (first_some (unless (is_between_or_none 1 max_ttl m.ttl) (codes "ttl")) (unless (not is_via || is_none m.schedule) (codes "schedule")))
 
+-- the first bad field of a send's messages, in their order
 abbrev pub bad_in_messages : Bool → List Message → Key
 bad_in_messages is_via [] = None
 bad_in_messages is_via (m ∷ ms) = first_some (bad_in_message is_via m) (bad_in_messages is_via ms)
 
+-- the first bad field of a send
 abbrev pub bad_in_send : Bool → List Message → Option ℕ → Key
 bad_in_send is_via messages txn =
     first_some (unless (nat_le (length messages) max_messages) (codes "messages"))
@@ -87,10 +100,12 @@ bad_in_send is_via messages txn =
 
 -- ---- other acts
 
+-- the first bad field of a filter; the text of an SQL filter is judged when it is read
 abbrev pub bad_in_filter : FilterText → Key
 bad_in_filter (Sql text) = None
 bad_in_filter (Correlation conditions) = bad_in_conditions conditions.sys conditions.props
 
+-- the number by which a message is named, where it is out of its range
 abbrev pub bad_in_which : Which → Key
 bad_in_which (Number n) = unless (is_number n) (codes "seq")
 bad_in_which (Id id) = None
@@ -100,15 +115,18 @@ abbrev pub is_short : ℕ → Option (List ℕ) → Bool
 is_short most None = true
 is_short most (Some text) = nat_le (length (chars text)) most
 
+-- the first bad field of a settlement
 abbrev pub bad_in_how : How → Key
 bad_in_how Complete = None
 bad_in_how Abandon = None
 bad_in_how Defer = None
 bad_in_how (DeadLetter reason description) = first_some (unless (is_short 4096 reason) (codes "reason")) (unless (is_short 4096 description) (codes "description"))
 
+-- the field that names an entity, where it names a part of it
 abbrev pub bad_in_entity : Path → Key
 bad_in_entity path = unless (is_main path.part) (codes "entity")
 
+-- the first bad field of each operation
 abbrev pub bad_in_act : Bool → Act → Key
 bad_in_act is_via (CreateRule topic subscription name asked action) = bad_in_filter asked
 bad_in_act is_via (Delete entity) = bad_in_entity entity
@@ -132,6 +150,7 @@ takes_number (SessionState from session) = false
 takes_number (Counts entity) = false
 takes_number _ = true
 
+-- the first bad field of a repeatable call's client and number
 abbrev pub bad_in_by : Act → Option By → Key
 bad_in_by act None = None
 bad_in_by act (Some by) = first_some (unless (takes_number act && is_between 1 50 (length by.client)) (codes "client")) (unless (is_number by.number) (codes "number"))

@@ -1,4 +1,4 @@
--- Messages, copies, rules and entities as a state may hold them.
+-- Messages, entities, sessions and rules as a state may hold them.
 use Rattle.std.specs.Prelude.{◌≡◌, ◌≢◌, ℕ, ◌+◌, ◌*◌, ◌≤◌, ◌<◌, nat_lt, ◌&&◌, ◌||◌, not, Bool, List, [], length, filter, bytes_eq, codes, true, false, is_some, is_none, Option, Some, None}
 use Rattle.std.specs.List.{list_any}
 use Rattle.sb_machine.specs.Changes.{max_number, is_earlier}
@@ -42,9 +42,11 @@ use Rattle.sb_machine.specs.Each.{Each, Pairs, IsSorted, IfSome, is_text_of, is_
 abbrev pub is_set_aside : Property → Bool
 is_set_aside p = bytes_eq p.name (codes "rulename") || bytes_eq p.name (codes "deadletterreason") || bytes_eq p.name (codes "deadlettererrordescription")
 
+-- a message without the properties that the broker writes
 abbrev pub without_own : Message → Message
 without_own m = record m { props = filter (λ p. not (is_set_aside p)) m.props }
 
+-- what holds of a message that is kept: its lists in order, its sizes within the limits
 pub record IsMessage (m : Message) : Type 0 where
   pub sys : IsSorted (λ a b. nat_lt (system_code a.name) (system_code b.name)) m.sys
   pub texts : Each (λ s. 0 < length s.text) m.sys
@@ -66,6 +68,7 @@ IsHold now sessions c Ready = Unit {0}
 IsHold now sessions c Deferred = Unit {0}
 IsHold now sessions c (Scheduled at) = Unit {0}
 
+-- what holds of a message that stands in a part
 pub record IsCopy (now : ℕ) (sessions : List Session) (c : StoredCopy) : Type 0 where
   pub enqueued : c.enqueued ≤ now
   pub seq : is_number c.enqueued_seq ≡ true
@@ -75,6 +78,7 @@ pub record IsCopy (now : ℕ) (sessions : List Session) (c : StoredCopy) : Type 
   pub message : IsMessage c.message
   pub no_schedule : c.message.schedule ≡ None
 
+-- what holds of a session
 pub record IsSession (now : ℕ) (x : Session) : Type 0 where
   pub state : size_of x.state ≤ max_state
   pub until : IfSome x.holder (λ h. h.until ≤ now + 300000)
@@ -94,16 +98,19 @@ abbrev pub IsFilter : RuleFilter → Type 0
 IsFilter (Sql text) = is_read (filter_in text) ≡ true
 IsFilter (Correlation c) = (length c.sys + length c.props ≢ 0) × IsMessage (record { body = []; sys = c.sys; props = c.props; ttl = None; schedule = None })
 
+-- what holds of a rule: its name, its filter and its action are sound
 pub record IsRule (r : Rule) : Type 0 where
   pub name : is_rule_name r.name ≡ true
   pub asked : IsFilter r.filter
   pub action : IfSome r.action (λ text. is_read (action_in text) ≡ true)
 
+-- whether an address suits the kind: subscriptions alone have one of two names
 abbrev pub is_kind : EntityKind → Path → Bool
 is_kind Queue path = is_none path.subscription
 is_kind Topic path = is_none path.subscription
 is_kind Subscription path = is_some path.subscription
 
+-- what holds of an entity's address, description and rules
 pub record IsListed (about : Listed) : Type 0 where
   pub address : is_address about.path ≡ true
   pub whole : is_main about.path.part ≡ true
@@ -119,6 +126,7 @@ AreIds now None ids = ids ≡ []
 AreIds now (Some window) ids =
     IsSorted (λ a b. is_earlier b.moment b.id a) ids × Each (λ a. a.moment ≤ now) ids × Pairs (λ a b. b.moment < a.moment + 1000 * window) ids
 
+-- what holds of an entity
 pub record IsEntity (now : ℕ) (e : Entity) : Type 0 where
   pub about : IsListed e.about
   pub ids : AreIds now e.about.description.window e.ids

@@ -20,6 +20,7 @@ is_fault (Err (Stopped n)) = true
 is_fault (Err OutOfMemory) = true
 is_fault _ = false
 
+-- whether a call was refused since the namespace has stopped
 abbrev pub is_stopped : Result Answered Refusal → Bool
 is_stopped (Err (Stopped n)) = true
 is_stopped _ = false
@@ -49,6 +50,7 @@ pub record Log : Type 0 where
   pub stopped : Bool
   pub tick : Option (ℕ × ℕ)
 
+-- a history without entries yet, which begins at this state
 abbrev pub fresh_log : State → Log
 fresh_log s = record { state = s; stopped = false; tick = None }
 
@@ -56,14 +58,17 @@ fresh_log s = record { state = s; stopped = false; tick = None }
 abbrev pub after_call : State → ℕ → Call → Result Answered Refusal → State
 after_call s reading call answer = if is_fault answer then s else (if is_due (moment_of s reading) s.space then s else state_of s (moment_of s reading) call)
 
+-- the history's end after one entry more
 abbrev pub after_entry : Log → Entry → Log
 after_entry l (Ticked seat t) = record l { state = advanced l.state t; tick = Some (seat, t) }
 after_entry l (Replied seat reading call answer) = record { state = after_call l.state reading call answer; stopped = (if l.stopped then true else stops answer); tick = None }
 
+-- the history's end after entries
 abbrev pub after_entries : Log → List Entry → Log
 after_entries l [] = l
 after_entries l (e ∷ es) = after_entries (after_entry l e) es
 
+-- the state that entries lead to
 abbrev pub state_after : State → List Entry → State
 state_after s entries = (after_entries (fresh_log s) entries).state
 
@@ -99,6 +104,7 @@ IsLegal s entries = IsLegalFrom (fresh_log s) entries
 
 -- ---- the entries of one seat's calls: a tick where something is due and time can go on, then the machine's answer
 
+-- the entries that a call makes where nothing else is in the way: a time step first, where something is due
 abbrev pub entries_at : ℕ → State → ℕ → Call → List Entry
 entries_at seat s reading call =
     let t = moment_of s reading in
@@ -106,6 +112,7 @@ entries_at seat s reading call =
     then (if is_spent s t then Replied seat reading call (Err Exhausted) ∷ [] else Ticked seat t ∷ Replied seat reading call (answer_of (advanced s t) t call) ∷ [])
     else Replied seat reading call (answer_of s t call) ∷ []
 
+-- the entries that calls make one after another
 abbrev pub entries_of : ℕ → State → List TimedCall → List Entry
 entries_of seat s [] = []
 entries_of seat s (a ∷ as') = entries_at seat s a.reading a.call ++ entries_of seat (state_after s (entries_at seat s a.reading a.call)) as'

@@ -1,4 +1,4 @@
--- Locks: who holds a copy or a session, and which lock lives.
+-- Locks: who holds a message or a session, and which lock lives.
 use Rattle.std.specs.Prelude.{ℕ, ◌==◌, ◌&&◌, ◌||◌, nat_lt, nat_le, Bool, true, false, List, bytes_eq, find, if◌then◌else◌, Option, Some, None}
 use Rattle.std.specs.List.{list_any}
 use Rattle.std.specs.Fmt.{decimal}
@@ -16,12 +16,14 @@ use Rattle.sb_machine.specs.declared.state.Standing.{Standing}
 use Rattle.sb_machine.specs.declared.state.Standing.TheVariants.{Ready, Deferred, Held, Scheduled}
 use Rattle.sb_machine.specs.declared.state.StoredCopy.{StoredCopy}
 
+-- whether a message stands ready to be received
 abbrev pub is_ready : Standing → Bool
 is_ready Ready = true
 is_ready Deferred = false
 is_ready (Held lock hold deferred) = false
 is_ready (Scheduled at) = false
 
+-- whether a message waits for its moment
 abbrev pub is_scheduled : Standing → Bool
 is_scheduled Ready = false
 is_scheduled Deferred = false
@@ -104,8 +106,10 @@ leased s t token which leaf =
 
 -- ---- whether a lock lives, whatever it holds
 
+-- whether a lock lives in one part at t, on a message or of a session's holder
 abbrev pub lives_in_leaf : ℕ → ℕ → Leaf → Bool
 lives_in_leaf t lock leaf = list_any (λ c. is_living t leaf.sessions lock c.standing) leaf.copies || list_any (is_living_holder t lock) leaf.sessions
 
+-- whether a lock lives anywhere at t
 abbrev pub lives : ℕ → ℕ → Space → Bool
 lives t lock s = list_any (λ e. lives_in_leaf t lock e.main || lives_in_leaf t lock e.dead || lives_in_leaf t lock e.transfer) s.entities

@@ -10,6 +10,7 @@ use Rattle.sb_model.specs.declared.message.SystemName.{SystemName}
 abbrev pub text_of : SystemName → Message → Option (List ℕ)
 text_of name m = option_map (λ x. x.text) (find (λ x. system_code x.name == system_code name) m.sys)
 
+-- whether a message has this system property, with this text
 abbrev pub has_text_of : SystemName → List ℕ → Message → Bool
 has_text_of name text m = elim (text_of name m) [ Some own ↦ bytes_eq own text | None ↦ false ]
 
@@ -19,9 +20,11 @@ has_text_of name text m = elim (text_of name m) [ Some own ↦ bytes_eq own text
 abbrev pub max_body : ℕ
 max_body = 262144
 
+-- the size, where it is above the most
 abbrev pub above : ℕ → ℕ → Option ℕ
 above most size = if nat_le size most then None else Some size
 
+-- the first size that is told
 abbrev pub first_size : Option ℕ → Option ℕ → Option ℕ
 first_size (Some size) other = Some size
 first_size None other = other
@@ -30,10 +33,12 @@ first_size None other = other
 abbrev pub large_in : Message → Option ℕ
 large_in m = first_size (above max_body (length m.body)) (above max_property_bytes (property_bytes m))
 
+-- the first size that is too large in the first of these messages which has one
 abbrev pub large_one : List Message → Option ℕ
 large_one [] = None
 large_one (m ∷ ms) = first_size (large_in m) (large_one ms)
 
+-- the bytes of bodies and properties of all these messages
 abbrev pub all_bytes : List Message → ℕ
 all_bytes messages = sum_by (λ m. length m.body + property_bytes m) messages
 

@@ -19,14 +19,17 @@ is_name_within most name = nat_le 1 (length name) && nat_le (length name) most &
 abbrev pub is_name : List ℕ → Bool
 is_name = is_name_within 260
 
+-- whether a subscription may be named so
 abbrev pub is_short_name : List ℕ → Bool
 is_short_name = is_name_within 50
 
+-- whether a part is the main one, neither dead letters nor transfers
 abbrev pub is_main : Part → Bool
 is_main Main = true
 is_main Dead = false
 is_main Transfer = false
 
+-- whether the second name of an address is left out, or may name a subscription
 abbrev pub is_subscription : Option (List ℕ) → Bool
 is_subscription None = true
 is_subscription (Some name) = is_short_name name
@@ -35,6 +38,7 @@ is_subscription (Some name) = is_short_name name
 abbrev pub is_address : Path → Bool
 is_address path = is_name path.name && is_subscription path.subscription
 
+-- whether two texts that may be left out are equal
 abbrev pub is_same_option : Option (List ℕ) → Option (List ℕ) → Bool
 is_same_option None None = true
 is_same_option (Some a) (Some b) = bytes_eq a b
@@ -48,6 +52,7 @@ is_same_entity a b = bytes_eq a.name b.name && is_same_option a.subscription b.s
 abbrev pub is_rule_name : List ℕ → Bool
 is_rule_name name = bytes_eq name (codes "$default") || is_short_name name
 
+-- whether two parts are the same
 abbrev pub is_same_part : Part → Part → Bool
 is_same_part Main Main = true
 is_same_part Dead Dead = true

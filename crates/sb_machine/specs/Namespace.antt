@@ -12,9 +12,11 @@ use Rattle.sb_machine.specs.declared.state.Listed.{Listed}
 use Rattle.sb_machine.specs.declared.state.Space.{Space}
 use Rattle.sb_machine.specs.declared.state.State.{State}
 
+-- a part without messages and sessions, which has given no number
 abbrev pub empty_leaf : Leaf
 empty_leaf = record { last = 0; copies = []; sessions = [] }
 
+-- what holds of an entity where nothing else is asked for
 abbrev pub default_description : Description
 default_description = record { lock = 60; ttl = None; max_delivery = 10; window = None; requires_session = false; dead_on_expiry = false; dead_on_fault = true; forward_to = None; forward_dead_to = None }
 
@@ -22,9 +24,11 @@ default_description = record { lock = 60; ttl = None; max_delivery = 10; window 
 abbrev pub part_path : Part → List ℕ → Path
 part_path part name = record { name = name; subscription = None; part = part }
 
+-- the address of a queue or a topic
 abbrev pub entity_path : List ℕ → Path
 entity_path = part_path Main
 
+-- the address of a subscription
 abbrev pub subscription_path : List ℕ → List ℕ → Path
 subscription_path topic name = record { name = topic; subscription = Some name; part = Main }
 
@@ -36,6 +40,7 @@ new_entity about = record { about = about; ids = []; main = empty_leaf; dead = e
 abbrev pub empty_space : ℕ → Space
 empty_space salt = record { salt = salt; last_entity = 0; last_lock = 0; last_txn = 0; removed = 0; entities = []; transactions = [] }
 
+-- a state that no call has changed
 abbrev pub empty_state : ℕ → State
 empty_state salt = record { now = 0; clients = []; space = empty_space salt }
 
@@ -49,17 +54,21 @@ listed s = map (λ e. e.about) s.entities
 abbrev pub entity_at : Path → Space → Option Entity
 entity_at path s = find (λ e. is_same_entity e.about.path path) s.entities
 
+-- whether an entity has this number
 abbrev pub is_entity : ℕ → Entity → Bool
 is_entity n e = e.about.number == n
 
+-- the entity of this number, if it is there
 abbrev pub entity_of : ℕ → Space → Option Entity
 entity_of n s = find (is_entity n) s.entities
 
+-- a part of an entity
 abbrev pub leaf_of : Part → Entity → Leaf
 leaf_of Main e = e.main
 leaf_of Dead e = e.dead
 leaf_of Transfer e = e.transfer
 
+-- the key of an entity's part
 abbrev pub key_of : Part → Entity → LeafKey
 key_of part e = record { entity = e.about.number; part = part }
 
@@ -74,6 +83,7 @@ abbrev pub last_in : Part → Option Entity → ℕ
 last_in part None = 0
 last_in part (Some e) = (leaf_of part e).last
 
+-- the last number that was given in the part of this key
 abbrev pub last_at : LeafKey → Space → ℕ
 last_at key s = last_in key.part (entity_of key.entity s)
 
@@ -91,5 +101,6 @@ made s = s.removed + sum_by made_in s.entities
 abbrev pub live_in : Entity → ℕ
 live_in e = length e.main.copies + length e.dead.copies + length e.transfer.copies
 
+-- how many messages stand in the namespace
 abbrev pub live : Space → ℕ
 live s = sum_by live_in s.entities

@@ -13,6 +13,7 @@ use Rattle.sb_machine.specs.declared.rule.Conditions.{Conditions}
 abbrev pub asked_of : Conditions → Message
 asked_of c = record { body = []; sys = c.sys; props = c.props; ttl = None; schedule = None }
 
+-- a correlation filter's conditions stand in order
 abbrev pub IsFilterInOrder : FilterText → Type 0
 IsFilterInOrder (Sql text) = Unit {0}
 IsFilterInOrder (Correlation c) = IsInOrder (asked_of c)

@@ -8,6 +8,7 @@ use Rattle.sb_machine.specs.declared.state.Operation.TheVariants.{Send, Settle}
 use Rattle.sb_machine.specs.declared.state.Space.{Space}
 use Rattle.sb_machine.specs.declared.state.Transaction.{Transaction}
 
+-- the transaction of this number, if it is open
 abbrev pub transaction_of : ℕ → Space → Option Transaction
 transaction_of n s = find (is_transaction n) s.transactions
 
@@ -30,6 +31,7 @@ txn_life = 120000
 abbrev pub deadline_with : ℕ → Transaction → ℕ
 deadline_with t x = elim x.operations [ o ∷ os ↦ x.deadline | [] ↦ t + txn_life ]
 
+-- queues an operation in a transaction
 abbrev pub queueing : ℕ → Transaction → Operation → List Change
 queueing t x o = Queues x.number (deadline_with t x) o ∷ []
 
@@ -38,12 +40,15 @@ abbrev pub weight : Operation → ℕ
 weight (Send to messages) = length messages
 weight (Settle from number token session how) = 1
 
+-- the greatest weight of a transaction's operations together
 abbrev pub max_operations : ℕ
 max_operations = 100
 
+-- whether a transaction takes so many more
 abbrev pub has_room : Transaction → ℕ → Bool
 has_room x more = nat_le (sum_by weight x.operations + more) max_operations
 
+-- the same; what is in no transaction always has room
 abbrev pub has_room_in : Option Transaction → ℕ → Bool
 has_room_in None more = true
 has_room_in (Some x) more = has_room x more

@@ -22,16 +22,20 @@ pub data Outcome : Type 0 where
   repeated : Reply → Outcome
   acted : Reply → List Change → Outcome
 
+-- the outcome that a row is
 abbrev pub of_row : Row → Outcome
 of_row (refuses r) = refused r
 of_row (answers reply cs) = acted reply cs
 
+-- whether this is remembered for that client
 abbrev pub is_client : List ℕ → Kept → Bool
 is_client client k = bytes_eq k.client client
 
+-- what is remembered for a client, if anything
 abbrev pub kept_for : List ℕ → List Kept → Option Kept
 kept_for client clients = find (is_client client) clients
 
+-- the most clients that are remembered
 abbrev pub max_clients : ℕ
 max_clients = 10000
 
@@ -42,6 +46,7 @@ against by act k next =
     else (if by.number == k.number then (if same_act k.act act then repeated k.reply else refused NumberReused)
     else next)
 
+-- a numbered call: against what is remembered for its client, or as the first of a new client if there is room
 abbrev pub by_number : By → Act → List Kept → Option Kept → Outcome → Outcome
 by_number by act clients (Some k) next = against by act k next
 by_number by act clients None next = if nat_lt (length clients) max_clients then next else refused ClientsFull
@@ -50,9 +55,11 @@ by_number by act clients None next = if nat_lt (length clients) max_clients then
 abbrev pub client_of : Call → Option By
 client_of call = if takes_number call.act then call.by else None
 
+-- a call without a number acts; one with a number is judged by it first
 abbrev pub for_client : Option By → Act → List Kept → Outcome → Outcome
 for_client None act clients next = next
 for_client (Some by) act clients next = by_number by act clients (kept_for by.client clients) next
 
+-- what a call comes to in a state at t
 abbrev pub outcome_of : State → ℕ → Call → Outcome
 outcome_of s t call = for_client (client_of call) call.act s.clients (of_row (row_of s.space t call.by call.act))

@@ -1,4 +1,5 @@
--- What an act comes to: it is refused, or it is answered and these are its changes.
+-- A row is what an operation comes to: it is refused, or it is answered and these are its changes. Here are the tests
+-- that rows are made of, each with its refusal.
 use Rattle.std.specs.Prelude.{ℕ, ◌-◌, ◌&&◌, ◌||◌, not, nat_lt, Bool, if◌then◌else◌, List, Option, Some, None, true, false}
 use Rattle.sb_machine.specs.Changes.{after_all, is_numbered}
 use Rattle.sb_machine.specs.Names.{is_address}
@@ -34,6 +35,7 @@ abbrev pub found_or : {X : Type 0} → Option X → Refusal → (X → Row) → 
 found_or (Some x) refusal next = next x
 found_or None refusal next = refuses refusal
 
+-- refuses where there is something already
 abbrev pub absent_or : {X : Type 0} → Option X → Refusal → Row → Row
 absent_or (Some x) refusal row = refuses refusal
 absent_or None refusal row = row
@@ -42,11 +44,13 @@ absent_or None refusal row = row
 abbrev pub at_entity : Space → Path → (Entity → Row) → Row
 at_entity s path next = asks (is_address path) BadName (found_or (entity_at path s) EntityNotFound next)
 
+-- whether a kind is topic
 abbrev pub is_topic : EntityKind → Bool
 is_topic Topic = true
 is_topic Queue = false
 is_topic Subscription = false
 
+-- whether a part is that of transfers
 abbrev pub is_transfer : Part → Bool
 is_transfer Transfer = true
 is_transfer Main = false
@@ -69,6 +73,7 @@ max_copies = 1000000
 abbrev pub is_beyond : ℕ → ℕ → Bool
 is_beyond before later = nat_lt before later && nat_lt max_copies later
 
+-- refuses changes that would have more messages stand in the namespace than may
 abbrev pub within_quota : ℕ → Space → List Change → Row → Row
 within_quota t s cs row = if is_beyond (live s) (live (after_all t cs s)) then refuses (QuotaExceeded (live s) (live (after_all t cs s) - live s)) else row
 

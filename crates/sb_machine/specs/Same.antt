@@ -21,61 +21,76 @@ use Rattle.sb_model.specs.declared.message.Property.{Property}
 use Rattle.sb_model.specs.declared.message.SystemText.{SystemText}
 use Rattle.sb_machine.specs.declared.rule.Conditions.{Conditions}
 
+-- whether two lists are equal, element by element
 abbrev pub same_list : {X : Type 0} → (X → X → Bool) → List X → List X → Bool
 same_list same [] [] = true
 same_list same (x ∷ xs) (y ∷ ys) = same x y && same_list same xs ys
 same_list same _ _ = false
 
+-- whether both are left out, or are equal
 abbrev pub same_option : {X : Type 0} → (X → X → Bool) → Option X → Option X → Bool
 same_option same None None = true
 same_option same (Some x) (Some y) = same x y
 same_option same _ _ = false
 
+-- whether two numbers are equal
 abbrev pub same_nat : ℕ → ℕ → Bool
 same_nat a b = a == b
 
+-- whether two truth values are equal
 abbrev pub same_bool : Bool → Bool → Bool
 same_bool true b = b
 same_bool false b = not b
 
+-- whether two addresses are equal
 abbrev pub same_path : Path → Path → Bool
 same_path a b = is_same_entity a b && is_same_part a.part b.part
 
+-- whether two lock tokens are equal
 abbrev pub same_token : Token → Token → Bool
 same_token a b = (a.salt == b.salt) && (a.lock == b.lock)
 
+-- whether two system texts are equal
 abbrev pub same_text : SystemText → SystemText → Bool
 same_text a b = (system_code a.name == system_code b.name) && bytes_eq a.text b.text
 
+-- whether two user properties are equal
 abbrev pub same_property : Property → Property → Bool
 same_property a b = bytes_eq a.name b.name && same_value a.value b.value
 
+-- whether two messages are equal
 abbrev pub same_message : Message → Message → Bool
 same_message a b = bytes_eq a.body b.body && same_list same_text a.sys b.sys && same_list same_property a.props b.props && same_option same_nat a.ttl b.ttl && same_option same_nat a.schedule b.schedule
 
+-- whether two descriptions are equal
 abbrev pub same_description : Description → Description → Bool
 same_description a b =
     (a.lock == b.lock) && same_option same_nat a.ttl b.ttl && (a.max_delivery == b.max_delivery) && same_option same_nat a.window b.window && same_bool a.requires_session b.requires_session
     && same_bool a.dead_on_expiry b.dead_on_expiry && same_bool a.dead_on_fault b.dead_on_fault && is_same_option a.forward_to b.forward_to && is_same_option a.forward_dead_to b.forward_dead_to
 
+-- whether two correlation filters ask for the same
 abbrev pub same_conditions : Conditions → Conditions → Bool
 same_conditions a b = same_list same_text a.sys b.sys && same_list same_property a.props b.props
 
+-- whether two filters are equal, SQL ones by their texts
 abbrev pub same_filter : FilterText → FilterText → Bool
 same_filter (Sql a) (Sql b) = bytes_eq a b
 same_filter (Correlation a) (Correlation b) = same_conditions a b
 same_filter _ _ = false
 
+-- whether two calls name a message alike
 abbrev pub same_which : Which → Which → Bool
 same_which (Number a) (Number b) = a == b
 same_which (Id a) (Id b) = bytes_eq a b
 same_which _ _ = false
 
+-- whether two modes of receiving are the same
 abbrev pub same_mode : Mode → Mode → Bool
 same_mode Lock Lock = true
 same_mode WithDeletion WithDeletion = true
 same_mode _ _ = false
 
+-- whether two settlements are the same
 abbrev pub same_how : How → How → Bool
 same_how Complete Complete = true
 same_how Abandon Abandon = true
@@ -83,6 +98,7 @@ same_how Defer Defer = true
 same_how (DeadLetter r d) (DeadLetter s e) = is_same_option r s && is_same_option d e
 same_how _ _ = false
 
+-- whether two operations are equal, in all their fields
 abbrev pub same_act : Act → Act → Bool
 same_act (CreateQueue n d) (CreateQueue m e) = bytes_eq n m && same_description d e
 same_act (CreateTopic n d) (CreateTopic m e) = bytes_eq n m && same_description d e

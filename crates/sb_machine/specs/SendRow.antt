@@ -17,6 +17,7 @@ use Rattle.sb_machine.specs.Queueing.{open_in, is_open, queueing, has_room_in}
 
 -- ---- sends
 
+-- whether a transaction's entity is there, and is another one than the send's
 abbrev pub is_other : Path → Option Entity → Bool
 is_other to None = false
 is_other to (Some e) = not (is_same_entity to e.about.path)
@@ -26,9 +27,11 @@ abbrev pub is_via : Space → Path → Option Transaction → Bool
 is_via s to None = false
 is_via s to (Some x) = is_other to (entity_of x.entity s)
 
+-- a send that acts at once: its messages are taken, within the quota
 abbrev pub sent : Space → ℕ → Entity → List Message → Row
 sent s t e messages = within_quota t s (send_changes t e messages s) (answers (Sent (receipts t e messages s)) (send_changes t e messages s))
 
+-- queues a send in a transaction; one without messages isn't queued
 abbrev pub queued_send : ℕ → Path → List Message → Transaction → List Change
 queued_send t to [] x = []
 queued_send t to (m ∷ ms) x = queueing t x (Send to (m ∷ ms))
@@ -43,6 +46,7 @@ sent_or_queued s t to messages None None = refuses EntityNotFound
 abbrev pub is_destination : Path → Bool
 is_destination to = is_none to.subscription && is_main to.part
 
+-- whether these messages have the sessions that this entity asks for, where there is one
 abbrev pub have_sessions_at : Option Entity → List Message → Bool
 have_sessions_at None messages = true
 have_sessions_at (Some e) messages = have_sessions e messages

@@ -27,6 +27,7 @@ use Rattle.sb_machine.specs.declared.state.Standing.TheVariants.{Scheduled}
 abbrev pub knows : List ℕ → ℕ → Entity → Bool
 knows id t e = elim e.about.description.window [ Some window ↦ is_known window id t e.ids | None ↦ false ]
 
+-- whether a message is a duplicate of one that its entity has accepted
 abbrev pub is_repeat : ℕ → Entity → Message → Space → Bool
 is_repeat t e m s = elim (text_of MessageId m) [ Some id ↦ elim (entity_of e.about.number s) [ Some now ↦ knows id t now | None ↦ false ] | None ↦ false ]
 
@@ -36,6 +37,7 @@ noting e m = elim e.about.description.window [ Some window ↦ elim (text_of Mes
 
 -- ---- one message of a send
 
+-- a message without the moment from which on it may be received
 abbrev pub unscheduled : Message → Message
 unscheduled m = record m { schedule = None }
 
@@ -43,17 +45,21 @@ unscheduled m = record m { schedule = None }
 abbrev pub waiting : Entity → Message → ℕ → List Change
 waiting e m at = in_part Main e (Enters (record { seq = None; hops = 0; standing = Scheduled at; message = unscheduled m })) ∷ []
 
+-- the changes by which a message enters now
 abbrev pub entering : Entity → Message → Space → List Change
 entering e m s = delivered None (visits (listed s) 0 e.about (unscheduled m)) s
 
+-- the changes by which a message enters now, or waits for its moment
 abbrev pub coming : ℕ → Entity → Message → Space → List Change
 coming t e m s = elim m.schedule [ Some at ↦ (if nat_lt t at then waiting e m at else entering e m s) | None ↦ entering e m s ]
 
+-- the changes for one message of a send; a duplicate makes none
 abbrev pub message_changes : ℕ → Entity → Message → Space → List Change
 message_changes t e m s = if is_repeat t e m s then [] else noting e m ++ coming t e m s
 
 -- ---- all of them
 
+-- the changes for the messages of a send, each in the namespace that those before it left
 abbrev pub send_changes : ℕ → Entity → List Message → Space → List Change
 send_changes t e ms s = in_turn (message_changes t e) t ms s
 
@@ -61,12 +67,14 @@ send_changes t e ms s = in_turn (message_changes t e) t ms s
 abbrev pub receipt : ℕ → Entity → Message → Space → Receipt
 receipt t e m s = if is_repeat t e m s then Duplicate else Number (last_at (key_of Main e) s + 1)
 
+-- the receipt of each message: its number, or that it was a duplicate
 abbrev pub receipts : ℕ → Entity → List Message → Space → List Receipt
 receipts t e [] s = []
 receipts t e (m ∷ ms) s = receipt t e m s ∷ receipts t e ms (after_all t (message_changes t e m s) s)
 
 -- ---- tests on messages
 
+-- the refusal of messages that are too large, which tells the size
 abbrev pub too_large : List Message → Option Refusal
 too_large messages = option_map (λ size. TooLarge size) (large_size messages)
 

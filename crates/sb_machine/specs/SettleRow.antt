@@ -32,23 +32,28 @@ settles lock (Settle from number token session how) = token.lock == lock
 abbrev pub pending_in : ℕ → Space → Option Transaction
 pending_in lock s = find (λ x. list_any (settles lock) x.operations) s.transactions
 
+-- the refusal where another settlement under the same lock is queued already
 abbrev pub pending : Option Transaction → Option Refusal
 pending None = None
 pending (Some x) = Some (TxnPending x.number)
 
+-- whether a transaction is one of this entity; no transaction suits each
 abbrev pub is_on : Entity → Option Transaction → Bool
 is_on e None = true
 is_on e (Some x) = x.entity == e.about.number
 
+-- settles at once, or queues that in the transaction
 abbrev pub settled_or_queued : Space → ℕ → Entity → Path → Token → Option Token → How → StoredCopy → Option Transaction → Row
 settled_or_queued s t e from token session how c None = answers Done (settled (listed s) t e from.part c how)
 settled_or_queued s t e from token session how c (Some x) = answers Queued (queueing t x (Settle from c.number token session how))
 
+-- the same of the message that the lock holds; where there is none, the lock is lost
 abbrev pub settle_found : Space → ℕ → Entity → Path → Token → Option Token → How → Option Transaction → Option StoredCopy → Row
 settle_found s t e from token session how x None = refuses LockLost
 settle_found s t e from token session how x (Some c) =
     refused_by (pending (pending_in token.lock s)) (asks (has_room_in x 1) TxnFull (settled_or_queued s t e from token session how c x))
 
+-- completing, abandoning, deferring or dead-lettering a message that is held under a lock
 abbrev pub settle_row : Space → ℕ → Path → Which → Token → Option Token → How → Option ℕ → Row
 settle_row s t from which token session how txn =
     let x = open_in txn s in

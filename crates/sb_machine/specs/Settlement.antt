@@ -1,4 +1,4 @@
--- Settling a copy that is held under a lock, and renewing the lock.
+-- Settling a message that is held under a lock, and renewing the lock.
 use Rattle.std.specs.Prelude.{ℕ, ◌==◌, not, Bool, true, false, List, [], ◌∷◌, if◌then◌else◌, Option, Some, None}
 use Rattle.sb_machine.specs.Delivery.{in_part, dead_lettered, released}
 use Rattle.sb_machine.specs.Leases.{leased}
@@ -51,10 +51,12 @@ is_until end Ready = false
 is_until end Deferred = false
 is_until end (Scheduled at) = false
 
+-- renews the lock of the message that was found; where there is none, the lock is lost
 abbrev pub renewed : Entity → Part → ℕ → Option StoredCopy → Row
 renewed e part end None = refuses LockLost
 renewed e part end (Some c) = answers (Renewed end) (if is_until end c.standing then [] else in_part part e (Renews c.number end) ∷ [])
 
+-- renewing the lock of a message
 abbrev pub renew_row : Space → ℕ → Path → Which → Token → Row
 renew_row s t from which token = at_entity s from (λ e.
     asks (not (has_sessions e from.part)) SessionRequired (renewed e from.part (lock_end e t) (leased s t token which (leaf_of from.part e))))

@@ -99,7 +99,7 @@ pub enum Answered {
     Kept(Reply),
 }
 
-/// Why a call is refused. The numbered order of the tests is in `docs/DEFINITIONS.md`.
+/// Why a call is refused. The order of the tests is in `docs/ACTS.md`.
 #[derive(Drop)]
 pub enum Refusal {
     /// A field is outside its written form or range.

@@ -21,6 +21,7 @@ use Rattle.sb_model.specs.Meaning.{and_then, value_of}
 
 -- ---- user properties: by name in byte order, none twice
 
+-- properties without the one of this name
 abbrev pub without_user : List ℕ → List Property → List Property
 without_user name = filter (λ p. not (bytes_eq p.name name))
 
@@ -35,9 +36,11 @@ with_user name (Some value) props = with_one_more (record { name = name; value =
 
 -- ---- system texts: by code of the name, none twice, none empty
 
+-- system texts without the one of this name
 abbrev pub without_system : SystemName → List SystemText → List SystemText
 without_system name = filter (λ s. not (system_code s.name == system_code name))
 
+-- behind those whose codes come before its own
 abbrev pub with_text_more : SystemText → List SystemText → List SystemText
 with_text_more s others = insert others (prefix_len (λ q. nat_lt (system_code q.name) (system_code s.name)) others) s
 
@@ -57,6 +60,7 @@ text_limit To = None
 text_limit ReplyTo = None
 text_limit ContentType = None
 
+-- whether a count is within a limit, if there is one
 abbrev pub is_within : Option ℕ → ℕ → Bool
 is_within None count = true
 is_within (Some limit) count = nat_le count limit
@@ -70,6 +74,7 @@ text_set name (Some (Truth b)) = Err BadSystemValue
 
 -- ---- statements
 
+-- goes on with a system name that is known, else it is a fault
 abbrev pub on_known : {A : Type 0} → Option SystemName → (SystemName → Result A EvalFault) → Result A EvalFault
 on_known None next = Err NoSystemProperty
 on_known (Some name) next = next name
@@ -78,6 +83,7 @@ on_known (Some name) next = next name
 abbrev pub on_system : {A : Type 0} → List ℕ → (SystemName → Result A EvalFault) → Result A EvalFault
 on_system text next = on_known (system_named text) next
 
+-- a message once a system property is set to what a term comes to on it
 abbrev pub system_set : Message → SystemName → Term → Result Message EvalFault
 system_set m name t = and_then (value_of m t) (λ x. and_then (text_set name x) (λ text. Ok (record m { sys = with_system name text m.sys })))
 
@@ -86,10 +92,12 @@ abbrev pub after_set : Message → PropertyName → Term → Result Message Eval
 after_set m (User name) t = and_then (value_of m t) (λ x. Ok (record m { props = with_user name x m.props }))
 after_set m (System text) t = on_system text (λ name. system_set m name t)
 
+-- a message once a property is removed
 abbrev pub after_remove : Message → PropertyName → Result Message EvalFault
 after_remove m (User name) = Ok (record m { props = without_user name m.props })
 after_remove m (System text) = on_system text (λ name. Ok (record m { sys = without_system name m.sys }))
 
+-- a message after one statement
 abbrev pub after_change : Message → Change → Result Message EvalFault
 after_change m (setting name t) = after_set m name t
 after_change m (removing name) = after_remove m name
@@ -101,33 +109,42 @@ after_changes m (c ∷ cs) = and_then (after_change m c) (λ next. after_changes
 
 -- ---- the test behind the last statement
 
+-- the bytes that a value counts for
 abbrev pub value_size : PropertyValue → ℕ
 value_size (Int n) = 8
 value_size (Text text) = length text
 value_size (Truth b) = 8
 
+-- the bytes that a user property counts for
 abbrev pub property_size : Property → ℕ
 property_size p = length p.name + value_size p.value
 
+-- the bytes that a system text counts for
 abbrev pub text_size : SystemText → ℕ
 text_size s = length s.text
 
+-- the bytes of all properties of a message
 abbrev pub property_bytes : Message → ℕ
 property_bytes m = sum_by property_size m.props + sum_by text_size m.sys
 
+-- the most bytes of a message's properties
 abbrev pub max_property_bytes : ℕ
 max_property_bytes = 65536
 
+-- the most user properties of a message
 abbrev pub max_user_properties : ℕ
 max_user_properties = 256
 
+-- whether a message has more properties than it may
 abbrev pub is_too_large : Message → Bool
 is_too_large m = nat_lt max_property_bytes (property_bytes m) || nat_lt max_user_properties (length m.props)
 
+-- the message, unless its properties are too large
 abbrev pub if_small_enough : Message → Result Message EvalFault
 if_small_enough m = if is_too_large m then Err TooLarge else Ok m
 
 -- ---- actions
 
+-- a message after an action: after all its statements, if its properties are small enough then
 abbrev pub after_action : Message → List Change → Result Message EvalFault
 after_action m changes = and_then (after_changes m changes) if_small_enough

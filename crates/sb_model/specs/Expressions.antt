@@ -10,6 +10,7 @@ use Rattle.sb_model.specs.declared.expression.Statement.{Statement}
 use Rattle.sb_model.specs.declared.expression.Statement.TheVariants.{Set, Remove}
 
 mutual
+  -- an expression of a filter or of an action
   pub data Term : Type 0 where
     constant : PropertyValue → Term
     property : PropertyName → Term
@@ -20,6 +21,7 @@ mutual
     like : Bool → Term → Term → Term
     like_escape : Bool → Term → Term → Term → Term
 
+  -- the list behind IN, of one expression or more
   pub data Terms : Type 0 where
     first : Term → Terms
     later : Terms → Term → Terms
@@ -44,9 +46,11 @@ pub data Change : Type 0 where
   setting : PropertyName → Term → Change
   removing : PropertyName → Change
 
+-- what a statement asks for
 abbrev pub change_of : Statement → Change
 change_of (Set n x) = setting n (term_of x)
 change_of (Remove n) = removing n
 
+-- what the statements of an action ask for, in order
 abbrev pub changes_of : List Statement → List Change
 changes_of = map change_of

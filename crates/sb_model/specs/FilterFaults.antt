@@ -6,6 +6,7 @@ use Rattle.sb_model.specs.declared.evaluation.EvalFault.TheVariants.{Overflow, D
 use Rattle.sb_model.specs.Expressions.{Term}
 use Rattle.sb_model.specs.Meaning.{truth_on}
 
+-- a fault that the evaluation of a filter may have
 abbrev pub IsFilterFault : EvalFault → Type 0
 IsFilterFault Overflow = Unit {0}
 IsFilterFault DivideByZero = Unit {0}
@@ -14,6 +15,7 @@ IsFilterFault BadSystemValue = ⊥
 IsFilterFault TooLarge = ⊥
 IsFilterFault OutOfMemory = ⊥
 
+-- an evaluation that, if it fails, fails by a fault of a filter
 abbrev pub FailsOnlySo : {A : Type 0} → Result A EvalFault → Type 0
 FailsOnlySo (Ok x) = Unit {0}
 FailsOnlySo (Err fault) = IsFilterFault fault

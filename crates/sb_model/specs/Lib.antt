@@ -1,3 +1,5 @@
+-- The language of filters and actions, in the order to read it: Truth, Expressions, Likes, SystemNames, Meaning (what a filter comes to);
+-- Effects, Orders (what an action does); Readers, Language, Reading (grammar); TokenBytes, Tokens, Texts (from characters to trees).
 pub mod Truth
 pub mod Expressions
 pub mod Likes

@@ -12,10 +12,12 @@ pub data PatternPart : Type 0 where
 abbrev pub part_of : ℕ → PatternPart
 part_of c = if c == 37 then run else (if c == 95 then any else this c)
 
+-- whether a character is the escape, if there is one
 abbrev pub is_escape : Option ℕ → ℕ → Bool
 is_escape None c = false
 is_escape (Some e) c = c == e
 
+-- a pattern with one part more in front, unless it is none
 abbrev pub with_part : PatternPart → Option (List PatternPart) → Option (List PatternPart)
 with_part part None = None
 with_part part (Some parts) = Some (part ∷ parts)
@@ -41,10 +43,12 @@ has_form (any ∷ parts) (c ∷ cs) = has_form parts cs
 has_form (this d ∷ parts) [] = false
 has_form (this d ∷ parts) (c ∷ cs) = c == d && has_form parts cs
 
+-- whether characters are of the form of a pattern; none are where it is none
 abbrev pub has_some_form : Option (List PatternPart) → List ℕ → Bool
 has_some_form None cs = false
 has_some_form (Some parts) cs = has_form parts cs
 
+-- the first character, if there is one
 abbrev pub first_of : List ℕ → Option ℕ
 first_of [] = None
 first_of (c ∷ cs) = Some c
@@ -54,6 +58,7 @@ abbrev pub escape_of : Option (List ℕ) → Option ℕ
 escape_of None = None
 escape_of (Some bytes) = first_of (chars bytes)
 
+-- whether a text is one character
 unfoldable pub is_one_character : List ℕ → Bool
 is_one_character bytes = length (chars bytes) == 1
 

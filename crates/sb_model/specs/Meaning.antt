@@ -39,6 +39,7 @@ truth_of (Some (Int n)) = Unknown
 truth_of (Some (Text s)) = Unknown
 truth_of None = Unknown
 
+-- the value of a truth; unknown has none
 abbrev pub as_value : ThreeValued → Option PropertyValue
 as_value True = Some (Truth true)
 as_value False = Some (Truth false)
@@ -51,9 +52,11 @@ affirmed_or_denied false t = truth_not t
 
 -- ---- properties
 
+-- the value of a user property, if the message has it
 abbrev pub user_value : Message → List ℕ → Option PropertyValue
 user_value m name = option_map (λ p. p.value) (find (λ p. bytes_eq p.name name) m.props)
 
+-- the value of a system property, if the message has it
 abbrev pub system_text : Message → SystemName → Option PropertyValue
 system_text m name = option_map (λ s. Text s.text) (find (λ s. system_code s.name == system_code name) m.sys)
 
@@ -61,14 +64,17 @@ system_text m name = option_map (λ s. Text s.text) (find (λ s. system_code s.n
 abbrev pub max_seconds : ℕ
 max_seconds = 922337203685
 
+-- a time to live as a value; one that is too long has none
 abbrev pub time_to_live : Option ℕ → Option PropertyValue
 time_to_live (Some seconds) = if nat_le seconds max_seconds then Some (Int (pos seconds)) else None
 time_to_live None = None
 
+-- the value of a system property that is known; another name is a fault
 abbrev pub known_text : Message → Option SystemName → Result (Option PropertyValue) EvalFault
 known_text m (Some name) = Ok (system_text m name)
 known_text m None = Err NoSystemProperty
 
+-- the value of what is named behind `sys.`: the time to live, or a system property
 abbrev pub system_value : Message → List ℕ → Result (Option PropertyValue) EvalFault
 system_value m name = if str_eq_ignore_ascii_case name (codes "TimeToLive") then Ok (time_to_live m.ttl) else known_text m (system_named name)
 
@@ -91,6 +97,7 @@ abbrev pub is_64_bits : ℤ → Bool
 is_64_bits (pos n) = nat_lt n 9223372036854775808
 is_64_bits (negsuc n) = nat_lt n 9223372036854775808
 
+-- a number as a value, unless it is outside 64 bits
 abbrev pub number_of : ℤ → Result (Option PropertyValue) EvalFault
 number_of z = if is_64_bits z then Ok (Some (Int z)) else Err Overflow
 
@@ -112,12 +119,14 @@ abbrev pub sum_of : Option PropertyValue → Option PropertyValue → Result (Op
 sum_of (Some (Text a)) (Some (Text b)) = Ok (Some (Text (a ++ b)))
 sum_of x y = on_numbers (λ a b. number_of (a +ℤ b)) x y
 
+-- what minus makes of a value; of anything but a number, unknown
 abbrev pub negative : Option PropertyValue → Result (Option PropertyValue) EvalFault
 negative (Some (Int a)) = number_of (neg_ℤ a)
 negative (Some (Text s)) = Ok None
 negative (Some (Truth b)) = Ok None
 negative None = Ok None
 
+-- what plus makes of a value; of anything but a number, unknown
 abbrev pub positive : Option PropertyValue → Option PropertyValue
 positive (Some (Int a)) = Some (Int a)
 positive (Some (Text s)) = None
@@ -132,10 +141,12 @@ order_of (Some (Int a)) (Some (Int b)) = Some (int_cmp a b)
 order_of (Some (Text a)) (Some (Text b)) = Some (slice_cmp nat_cmp a b)
 order_of _ _ = None
 
+-- the test of an order; unknown where there is no order
 abbrev pub where_ordered : (Ordering → Bool) → Option Ordering → ThreeValued
 where_ordered test (Some o) = known (test o)
 where_ordered test None = Unknown
 
+-- what a comparison of two values comes to
 abbrev pub comparison : (Ordering → Bool) → Option PropertyValue → Option PropertyValue → ThreeValued
 comparison test x y = where_ordered test (order_of x y)
 
@@ -145,11 +156,13 @@ equality (Some (Truth true)) (Some (Truth b)) = known b
 equality (Some (Truth false)) (Some (Truth b)) = known (not b)
 equality x y = comparison is_eq x y
 
+-- whether a truth is true
 abbrev pub is_true : ThreeValued → Bool
 is_true True = true
 is_true False = false
 is_true Unknown = false
 
+-- whether a truth is unknown
 abbrev pub is_unknown : ThreeValued → Bool
 is_unknown True = false
 is_unknown False = false
@@ -170,12 +183,14 @@ likeness _ _ = Unknown
 unfoldable pub like_by : List ℕ → List ℕ → List ℕ → ThreeValued
 like_by text pattern escape = if is_one_character escape then known (is_like text pattern (Some escape)) else Unknown
 
+-- what LIKE with ESCAPE comes to; unknown, unless all three are texts
 abbrev pub likeness_by : Option PropertyValue → Option PropertyValue → Option PropertyValue → ThreeValued
 likeness_by (Some (Text text)) (Some (Text pattern)) (Some (Text escape)) = like_by text pattern escape
 likeness_by _ _ _ = Unknown
 
 -- ---- operators
 
+-- what each operator of one operand comes to
 abbrev pub of_one : Message → UnaryOperator → Option PropertyValue → Result (Option PropertyValue) EvalFault
 of_one m Plus x = Ok (positive x)
 of_one m Minus x = negative x
@@ -184,6 +199,7 @@ of_one m IsNull x = Ok (Some (Truth (is_none x)))
 of_one m IsNotNull x = Ok (Some (Truth (is_some x)))
 of_one m PropertyNamed x = Ok (value_named m x)
 
+-- what each operator of two operands comes to
 abbrev pub of_two : BinaryOperator → Option PropertyValue → Option PropertyValue → Result (Option PropertyValue) EvalFault
 of_two Or x y = Ok (as_value (truth_or (truth_of x) (truth_of y)))
 of_two And x y = Ok (as_value (truth_and (truth_of x) (truth_of y)))

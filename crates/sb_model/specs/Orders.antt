@@ -15,12 +15,15 @@ abbrev pub AreRising : {X : Type 0} → (X → X → Bool) → List X → Type 0
 AreRising before [] = Unit {0}
 AreRising before (x ∷ xs) = (list_all (before x) xs ≡ true) × AreRising before xs
 
+-- whether a property's name comes before another's, in byte order
 abbrev pub name_before : Property → Property → Bool
 name_before p q = is_lt (slice_cmp nat_cmp p.name q.name)
 
+-- whether a system text's code comes before another's
 abbrev pub code_before : SystemText → SystemText → Bool
 code_before s t = nat_lt (system_code s.name) (system_code t.name)
 
+-- whether a system text isn't empty
 abbrev pub is_set : SystemText → Bool
 is_set s = nat_lt 0 (length s.text)
 

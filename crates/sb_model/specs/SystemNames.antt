@@ -4,9 +4,11 @@ use Rattle.std.specs.Str.{str_eq_ignore_ascii_case}
 use Rattle.sb_model.specs.declared.message.SystemName.{SystemName}
 use Rattle.sb_model.specs.declared.message.SystemName.TheVariants.{MessageId, Label, CorrelationId, SessionId, To, ReplyTo, ReplyToSessionId, ContentType}
 
+-- all of them, in the order of their codes
 abbrev pub system_names : List SystemName
 system_names = MessageId ∷ Label ∷ CorrelationId ∷ SessionId ∷ To ∷ ReplyTo ∷ ReplyToSessionId ∷ ContentType ∷ []
 
+-- how each is written
 abbrev pub system_name : SystemName → List ℕ
 system_name MessageId = codes "MessageId"
 system_name Label = codes "Label"

@@ -3,10 +3,12 @@ use Rattle.std.specs.Prelude.{Bool, true, false}
 use Rattle.sb_model.specs.declared.truth.Truth.{Truth}
 use Rattle.sb_model.specs.declared.truth.Truth.TheVariants.{True, False, Unknown}
 
+-- true or false, and not unknown
 abbrev pub known : Bool → Truth
 known true = True
 known false = False
 
+-- what NOT makes of each
 abbrev pub truth_not : Truth → Truth
 truth_not True = False
 truth_not False = True

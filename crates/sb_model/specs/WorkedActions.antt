@@ -11,12 +11,15 @@ use Rattle.sb_model.specs.Expressions.{Term, Change, constant, binary, setting, 
 use Rattle.sb_model.specs.Effects.{after_action}
 use Rattle.sb_model.specs.WorkedFilters.{with_props, number, user}
 
+-- a property that is a number
 abbrev pub int : List ℕ → ℕ → Property
 int name n = record { name = name; value = Int (pos n) }
 
+-- a property that is a text
 abbrev pub text : List ℕ → List ℕ → Property
 text name value = record { name = name; value = Text value }
 
+-- what an action makes of a message with these properties
 abbrev pub on_props : List Property → List Change → Result Message EvalFault
 on_props props changes = after_action (with_props props) changes
 
@@ -28,6 +31,7 @@ three_statements = setting (User (codes "a")) (number 1) ∷ removing (User (cod
 abbrev pub set_system : List ℕ → Term → List Change
 set_system name t = setting (System name) t ∷ []
 
+-- a division by zero
 abbrev pub by_nothing : Term
 by_nothing = binary Divide (number 1) (number 0)
 
@@ -35,11 +39,14 @@ by_nothing = binary Divide (number 1) (number 0)
 abbrev pub copied : List Change
 copied = setting (User (codes "a")) (user (codes "b")) ∷ setting (User (codes "b")) (user (codes "c")) ∷ setting (User (codes "c")) (user (codes "a")) ∷ []
 
+-- a message of a session, with a label
 abbrev pub labelled : Message
 labelled = record { body = []; sys = record { name = Label; text = codes "l" } ∷ record { name = SessionId; text = codes "s" } ∷ []; props = []; ttl = None; schedule = None }
 
+-- a message of a session
 abbrev pub in_session : Message
 in_session = record { body = []; sys = record { name = SessionId; text = codes "s" } ∷ []; props = []; ttl = None; schedule = None }
 
+-- so many properties of one name
 abbrev pub flags : ℕ → List Property
 flags count = replicate count (record { name = codes "f"; value = Truth true })

@@ -10,18 +10,23 @@ use Rattle.sb_model.specs.declared.evaluation.EvalFault.{EvalFault}
 use Rattle.sb_model.specs.Expressions.{Term, constant, property, binary, within, first, later}
 use Rattle.sb_model.specs.Meaning.{truth_on}
 
+-- a message with these properties alone
 abbrev pub with_props : List Property → Message
 with_props props = record { body = []; sys = []; props = props; ttl = None; schedule = None }
 
+-- what a filter comes to on a message without properties
 abbrev pub on_plain : Term → Result ThreeValued EvalFault
 on_plain t = truth_on (with_props []) t
 
+-- a constant
 abbrev pub number : ℕ → Term
 number n = constant (Int (pos n))
 
+-- a user property
 abbrev pub user : List ℕ → Term
 user name = property (User name)
 
+-- two expressions with `=` between them
 abbrev pub equals : Term → Term → Term
 equals t s = binary Equal t s
 
@@ -33,6 +38,7 @@ less_than_zero n = binary Subtract (number 0) (number n)
 abbrev pub one_or_b : Term
 one_or_b = within true (user (codes "a")) (later (first (number 1)) (user (codes "b")))
 
+-- a message whose one property a is this number
 abbrev pub with_a : ℕ → Message
 with_a n = with_props (record { name = codes "a"; value = Int (pos n) } ∷ [])
 

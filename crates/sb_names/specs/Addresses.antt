@@ -10,9 +10,11 @@ use Rattle.sb_machine.specs.declared.call.Path.{Path}
 
 -- ---- pieces between slashes
 
+-- whether a byte is a slash
 abbrev pub is_slash : ℕ → Bool
 is_slash b = b == 47
 
+-- what is before the first slash, or all where there is none
 abbrev pub up_to_slash : List ℕ → List ℕ
 up_to_slash text = before_first is_slash text
 
@@ -39,10 +41,12 @@ abbrev pub named_under : List ℕ → Option (List ℕ) → Option Path
 named_under topic None = None
 named_under topic (Some text) = option_map (λ part. record { name = topic; subscription = Some (up_to_slash text); part = part }) (part_behind (behind_slash text))
 
+-- a subscription, where `subscriptions` stands behind the topic's name
 abbrev pub under : List ℕ → Option (List ℕ) → Option Path
 under topic None = None
 under topic (Some text) = if bytes_eq (up_to_slash text) (codes "subscriptions") then named_under topic (behind_slash text) else None
 
+-- an entity, or else a subscription, by the shape of its address alone
 abbrev pub shape_of : List ℕ → Option Path
 shape_of text = elim (entity_shape text) [ Some path ↦ Some path | None ↦ under (up_to_slash text) (behind_slash text) ]
 

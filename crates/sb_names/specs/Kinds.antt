@@ -4,6 +4,7 @@ use Rattle.sb_machine.specs.Names.{is_name, is_short_name, is_rule_name}
 use Rattle.sb_names.specs.declared.name.NameKind.{NameKind}
 use Rattle.sb_names.specs.declared.name.NameKind.TheVariants.{Entity, Subscription, Rule}
 
+-- what each kind may be named
 abbrev pub is_name_of : NameKind → List ℕ → Bool
 is_name_of Entity name = is_name name
 is_name_of Subscription name = is_short_name name

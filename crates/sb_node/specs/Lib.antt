@@ -1,3 +1,5 @@
+-- A node: the namespace over its journal. In the order to read it: Recovery (what a journal stands for), Nodes, Steps (what a call does to both),
+-- Serving (a node as a desk has it), Laws, Worked.
 pub mod Recovery
 pub mod Steps
 pub mod Nodes

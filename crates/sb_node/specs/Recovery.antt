@@ -44,16 +44,19 @@ abbrev pub replay : State → ℕ → List (List ℕ) → Replayed
 replay s place [] = reaches s
 replay s place (p ∷ ps) = elim (next_state s (read_event p)) [ Some next ↦ replay next (next_gate place p) ps | None ↦ breaks place ]
 
+-- what an opening recovers
 pub data Recovered : Type 0 where
   -- this state, and the number of the last journal record
   recovers : State → ℕ → Recovered
   -- this disk can't be trusted from this place on
   damaged : Side → ℕ → Recovered
 
+-- a file whose payloads are all events in order leads to a state; otherwise it is damaged
 abbrev pub reached : Side → File → Replayed → Recovered
 reached side file (reaches s) = recovers s (file.first - 1 + length file.payloads)
 reached side file (breaks place) = damaged side place
 
+-- what is recovered from what was found
 abbrev pub recovered_from : Opened → Recovered
 recovered_from (Stands side file) = reached side file (replay (empty_state file.salt) (first_gate file) file.payloads)
 recovered_from (Damage side place) = damaged side place

@@ -40,6 +40,7 @@ raised n (suc k) = counted (n + suc k)
 abbrev pub with_events : Report → List Event → Report
 with_events r events = record r { changing = raised r.changing (length events) }
 
+-- 1 for a refusal, else 0
 abbrev pub refusals : Result Answered Refusal → ℕ
 refusals (Ok reply) = 0
 refusals (Err refusal) = 1
@@ -62,12 +63,15 @@ opened_disks n = journal_disks n.opened.value
 abbrev pub disk_moment : Held → DiskMoment
 disk_moment held = record { seen = held.seen; synced = held.synced; ranges = held.ranges; least = held.least; greatest = held.greatest }
 
+-- what a disk told as the node was opened
 abbrev pub disk_origin : OneDisk → DiskOrigin
 disk_origin disk = record { faults = disk.faults; honest = disk.honest; held = disk_moment disk.held; past = map disk_moment disk.past }
 
+-- what both disks told as the node was opened
 abbrev pub origin_of : Disks → Origin
 origin_of disks = record { disk_a = disk_origin disks.a; disk_b = disk_origin disks.b }
 
+-- the same of a node
 abbrev pub node_origin : {D : Type 0} {B : Ghosts D} → Node D B → Origin
 node_origin n = origin_of (opened_disks n)
 

@@ -75,9 +75,11 @@ pub record IsAnswered (t : ℕ) (call : Call) (old : State) (answer : Result Ans
 
 -- ---- the events of the parts
 
+-- the event of a time step, if there was one
 abbrev pub tick_events : Option ℕ → List Event
 tick_events None = []
 tick_events (Some t) = Tick t ∷ []
 
+-- the event of a call, if it changed the state
 abbrev pub call_events : ℕ → Call → State → Result Answered Refusal → List Event
 call_events t call s answer = if not (is_fault answer) && is_change (client_of call) (outcome_of s t call) then Called t call ∷ [] else []

@@ -28,6 +28,7 @@ ticked_file = take 86 worked_file ++ 1 ∷ 0 ∷ 0 ∷ 0 ∷ 9 ∷ 0 ∷ 0 ∷ 0
 abbrev pub with_byte : ℕ → ℕ → List ℕ
 with_byte place byte = take place worked_file ++ byte ∷ drop (place + 1) worked_file
 
+-- a namespace with one queue
 abbrev pub with_queue : State
 with_queue = record (empty_state worked_salt) {
   space = record (empty_state worked_salt).space {

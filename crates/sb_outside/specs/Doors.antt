@@ -1,4 +1,4 @@
--- What a door gives, where it tells the connections that it has left.
+-- What a door (a listening socket) gives, where it tells the connections that it has left.
 use Rattle.std.specs.Prelude.{◌≡◌, ◌+◌, ℕ, List, [], ◌∷◌, Option, Some, None, Bool, true, false}
 
 -- `accept` answered a connection, or none: a door that has ended gives none, and it ends with its first none

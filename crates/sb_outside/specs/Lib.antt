@@ -1,3 +1,5 @@
+-- What contracts see of disks, streams and connections, in the order to read it: Causes (how faults are counted), Held, Images (a disk);
+-- Streams, Links, Doors (connections); Kept, Memory (those in memory).
 pub mod Causes
 pub mod Clocks
 pub mod Doors

@@ -22,6 +22,7 @@ pub record IsNext (before after : CallFaults) : Type 0 where
 abbrev pub source_left : MemSource → List ℕ
 source_left s = drop s.inner.at s.inner.bytes.items
 
+-- its calls
 abbrev pub source_calls : MemSource → CallFaults
 source_calls s = s.faults
 
@@ -29,9 +30,11 @@ source_calls s = s.faults
 abbrev pub sink_given : MemSink → List ℕ
 sink_given s = s.given.items
 
+-- its calls
 abbrev pub sink_calls : MemSink → CallFaults
 sink_calls s = s.faults
 
+-- how many bytes more it takes in its room
 abbrev pub sink_room : MemSink → ℕ
 sink_room s = vec_capacity s.given - vec_len s.given
 
@@ -39,6 +42,7 @@ sink_room s = vec_capacity s.given - vec_len s.given
 abbrev pub link_told : MemLink → List Exchange
 link_told l = map (λ e. record { request = e.request; reply = e.reply }) l.made.items
 
+-- its calls
 abbrev pub link_calls : MemLink → CallFaults
 link_calls l = l.faults
 
@@ -46,15 +50,19 @@ link_calls l = l.faults
 abbrev pub disk_held : MemDisk → Held
 disk_held d = held_after (at_rest d.first.items) d.calls.items d.written.items
 
+-- what it held before each call
 abbrev pub disk_past : MemDisk → List Held
 disk_past d = past_of (at_rest d.first.items) d.calls.items d.written.items
 
+-- its calls
 abbrev pub disk_calls : MemDisk → CallFaults
 disk_calls d = d.faults
 
+-- how many bytes more it keeps in its room
 abbrev pub disk_room : MemDisk → ℕ
 disk_room d = min (vec_capacity d.bytes - vec_len d.bytes) (vec_capacity d.written - vec_len d.written)
 
+-- how many calls more it keeps in its room
 abbrev pub calls_room : MemDisk → ℕ
 calls_room d = vec_capacity d.calls - vec_len d.calls
 

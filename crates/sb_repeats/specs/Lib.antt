@@ -1,2 +1,3 @@
+-- Repeats: Windows (the ids that an entity accepted, for duplicate detection) and Clients (the last numbered call of each client).
 pub mod Windows
 pub mod Clients

@@ -34,6 +34,7 @@ is_batch_word v = same_word batch_type (take (length batch_type) v) && list_all 
 unfoldable pub is_batch_type : List ℕ → Bool
 is_batch_type v = is_batch_word (split_once 59 v).0
 
+-- whether the type is that of a batch, by this field or by those before
 abbrev pub or_type : Bool → Field → Bool
 or_type so_far f = if same_word type_name f.0 then is_batch_type f.1 else so_far
 
@@ -41,15 +42,18 @@ or_type so_far f = if same_word type_name f.0 then is_batch_type f.1 else so_far
 abbrev pub is_batch_from : Bool → List Field → Bool
 is_batch_from so_far fields = fold or_type so_far fields
 
+-- whether a request's last Content-Type is that of a batch
 abbrev pub is_batch : List Field → Bool
 is_batch fields = is_batch_from false fields
 
 -- ---- one message
 
+-- the body that stands here; left out is empty
 abbrev pub body_from : Option Data → Result (List ℕ) (List ℕ)
 body_from None = Ok []
 body_from (Some d) = or_key (codes "Body") (as_str d)
 
+-- the BrokerProperties that stand here; left out say nothing
 abbrev pub broker_from : Option Data → Result Broker (List ℕ)
 broker_from None = Ok no_broker
 broker_from (Some d) = then_by (or_key (codes "BrokerProperties") (object_itself d)) broker_of
@@ -64,6 +68,7 @@ abbrev pub with_members : Members → List Property → Result (List Property) (
 with_members no_members props = Ok props
 with_members (member name d ms) props = then_by (property_from name (unless_null d) props) (with_members ms)
 
+-- the user properties that stand here; left out are none
 abbrev pub properties_from : Option Data → Result (List Property) (List ℕ)
 properties_from None = Ok []
 properties_from (Some d) = then_by (or_key (codes "UserProperties") (as_object d)) (λ ms. with_members ms [])
@@ -88,5 +93,6 @@ messages_of (item d ds) = then_by (message_of d) (λ m. before_those (m ∷ []) 
 abbrev pub array_in : List ℕ → Option Items
 array_in bytes = option_and_then as_array (option_and_then read (as_text bytes))
 
+-- the messages of a batch, or the key at fault
 abbrev pub messages_in : List ℕ → Result (List Message) (List ℕ)
 messages_in body = then_by (or_key (codes "Body") (array_in body)) messages_of

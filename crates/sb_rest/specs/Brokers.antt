@@ -19,6 +19,7 @@ no_broker = record { texts = []; ttl = None; schedule = None }
 abbrev pub moment_of : List ℕ → Option ℕ
 moment_of text = option_map (λ secs. secs * 1000) (parse_secs text)
 
+-- the moment that stands here; left out is none
 abbrev pub schedule_from : List ℕ → Option Data → Result (Option ℕ) (List ℕ)
 schedule_from key None = Ok None
 schedule_from key (Some d) = then_by (or_key key (option_and_then moment_of (as_str d))) (λ ms. Ok (Some ms))

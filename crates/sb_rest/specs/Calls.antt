@@ -44,9 +44,11 @@ use Rattle.sb_rest.specs.Timeouts.{timeout_in}
 abbrev pub if_post : List ℕ → Asked → Option Asked
 if_post method a = if bytes_eq method (codes "POST") then Some a else None
 
+-- what the head of an entity is asked for, by the method
 abbrev pub at_head : Address → List ℕ → Option Asked
 at_head a method = if bytes_eq method (codes "DELETE") then Some (asked.Take a Delete) else if_post method (asked.Take a Lock)
 
+-- what a message under a lock is asked for, by the method
 abbrev pub at_locked : Address → List ℕ → Option Asked
 at_locked a method =
     if bytes_eq method (codes "PUT") then Some (asked.Abandon a)
@@ -80,6 +82,7 @@ text_in n path = or_key (codes "path") (as_text (percent_decode (segment n path)
 abbrev pub name_in : ℕ → List ℕ → Result (List ℕ) (List ℕ)
 name_in n path = then_by (text_in n path) (λ text. Ok (str_to_ascii_lowercase text))
 
+-- the address in the path of a route
 unfoldable pub address_in : Address → List ℕ → Result Path (List ℕ)
 address_in (Entity part) path = then_by (name_in 1 path) (λ name. Ok (record { name = name; subscription = None; part = part }))
 address_in (Subscription part) path =
@@ -96,6 +99,7 @@ abbrev pub id_place : Address → ℕ
 id_place (Entity part) = behind_part part 3
 id_place (Subscription part) = behind_part part 5
 
+-- the lock token in a path
 abbrev pub token_at : ℕ → List ℕ → Result Token (List ℕ)
 token_at n path = then_by (text_in n path) (λ text. or_key (codes "token") (token_in text))
 
@@ -108,15 +112,19 @@ with_locked a path make =
     then_by (text_in (id_place a) path) (λ id.
     then_by (token_at (suc (id_place a)) path) (λ token. Ok (make from id token))))
 
+-- the settlement of a message that is held under a lock
 abbrev pub settled : How → Path → List ℕ → Token → Act
 settled how from id token = Settle from (Id id) token None how None
 
+-- the renewal of a message's lock
 abbrev pub renewed : Path → List ℕ → Token → Act
 renewed from id token = Renew from (Id id) token
 
+-- a receive of each mode
 abbrev pub taken : Address → Mode → List ℕ → Result Act (List ℕ)
 taken a mode path = then_by (address_in a path) (λ from. Ok (Receive from mode None))
 
+-- a call that may wait so many seconds
 abbrev pub in_time : Option By → Act → ℕ → Wanted
 in_time by act timeout = record { call = record { by = by; act = act }; timeout = timeout }
 
@@ -155,6 +163,7 @@ wanted_by (asked.Abandon a) path query fields body = asked_with query fields (wi
 wanted_by (asked.Complete a) path query fields body = asked_with query fields (with_locked a path (settled Complete))
 wanted_by (asked.Renew a) path query fields body = asked_with query fields (with_locked a path renewed)
 
+-- the call of a route, unless its method is another
 abbrev pub on_asked : Route → Option Asked → RequestMessage → Result Wanted RestFault
 on_asked r None m = Err (BadMethod r)
 on_asked r (Some asked) m = or_bad (wanted_by asked (path_of m.head.target) (query_of m.head.target) m.head.fields m.body)
@@ -163,6 +172,7 @@ on_asked r (Some asked) m = or_bad (wanted_by asked (path_of m.head.target) (que
 abbrev pub on_script : List ℕ → Result Wanted RestFault
 on_script method = if bytes_eq method (codes "POST") then Err Script else Err (BadMethod route.Script)
 
+-- the call of each route
 abbrev pub on_route : Option Route → RequestMessage → Result Wanted RestFault
 on_route None m = Err NoRoute
 on_route (Some route.Messages) m = on_asked route.Messages (if_post m.head.method asked.Send) m

@@ -20,9 +20,11 @@ use Rattle.sb_routes.specs.Paths.{as_text}
 abbrev pub stands_in : List Field → List ℕ → Bool
 stands_in fields word = list_any (λ f. same_word word f.0) fields
 
+-- the name of the header field of BrokerProperties
 abbrev pub broker_name : List ℕ
 broker_name = codes "brokerproperties"
 
+-- the name of the header field of the body's type
 abbrev pub type_name : List ℕ
 type_name = codes "content-type"
 
@@ -31,13 +33,16 @@ abbrev pub with_property : List ℕ → Option (List ℕ) → Draft → Result D
 with_property name None d = Err (str_to_ascii_lowercase name)
 with_property name (Some v) d = Ok (record d { props = with_user (str_to_ascii_lowercase name) (Some (header_value v)) d.props })
 
+-- a user property by the name of its header field, if that is one
 abbrev pub on_name : Option (List ℕ) → List ℕ → Draft → Result Draft (List ℕ)
 on_name None value d = Ok d
 on_name (Some name) value d = with_property name (as_text value) d
 
+-- a draft with the body's type
 abbrev pub with_type : List ℕ → Draft → Result Draft (List ℕ)
 with_type value d = then_by (or_key type_name (as_text value)) (λ text. Ok (record d { content_type = text }))
 
+-- a draft with BrokerProperties
 abbrev pub with_broker : List ℕ → Draft → Result Draft (List ℕ)
 with_broker value d = then_by (broker_in value) (λ broker. Ok (record d { broker = broker }))
 

@@ -1,3 +1,5 @@
+-- REST, in the order to read it: Timeouts, Values, Lifetimes, Brokers, Reserved, Headers, Batches, Repeats, Foreign (the parts of a request); Lines,
+-- Calls (which request asks for which call); Moments, Escapes, Shown, Responses (what answers it); Worked.
 pub mod Timeouts
 pub mod Values
 pub mod Lifetimes

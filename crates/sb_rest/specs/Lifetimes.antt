@@ -19,6 +19,7 @@ abbrev pub whole_float : Float → Option ℕ
 whole_float x =
     if nat_lt (float_to_unsigned w64 x) (2 ^ 64 - 1) && eq (of_int binary64 (pos (float_to_unsigned w64 x))) x then Some (float_to_unsigned w64 x) else None
 
+-- the number, or a whole one that is written with a point
 abbrev pub or_float : Option ℕ → Option Num → Option ℕ
 or_float (Some n) number = Some n
 or_float None number = option_and_then whole_float (option_map to_float number)
@@ -42,11 +43,13 @@ minutes_in text =
 unfoldable pub hours_in : List ℕ → Option ℕ
 hours_in text = option_and_then (λ hours. option_map (λ rest. hours * 3600 + rest) (minutes_in (split_once 58 text).1)) (two_digits 24 (split_once 58 text).0)
 
+-- days, hours, minutes and seconds as seconds
 unfoldable pub span_in : List ℕ → Option ℕ
 span_in text = option_and_then (λ days. option_map (λ rest. days * 86400 + rest) (hours_in (split_once 46 text).1)) (number_in (split_once 46 text).0)
 
 -- ---- the time to live
 
+-- the time to live in seconds that stands here
 abbrev pub of_seconds : Option Data → Result (Option ℕ) (List ℕ)
 of_seconds None = Ok None
 of_seconds (Some d) = or_key (codes "TimeToLive") (option_and_then if_positive (seconds_in d))
@@ -56,6 +59,7 @@ abbrev pub of_span : Bool → Data → Result (Option ℕ) (List ℕ)
 of_span beside d =
     if beside then Err (codes "TimeToLiveTimeSpan") else or_key (codes "TimeToLiveTimeSpan") (option_and_then if_positive (option_and_then span_in (as_str d)))
 
+-- the time to live by either field; of both, the span is at fault
 abbrev pub lifetime_from : Option Data → Option Data → Result (Option ℕ) (List ℕ)
 lifetime_from seconds None = of_seconds seconds
 lifetime_from seconds (Some span) = of_span (is_some seconds) span

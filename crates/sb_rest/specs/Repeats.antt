@@ -6,17 +6,21 @@ use Rattle.sb_http.specs.Fields.{Field, same_word, is_number as are_digits, numb
 use Rattle.sb_lines.specs.Faults.{or_key, then_by}
 use Rattle.sb_routes.specs.Paths.{as_text}
 
+-- the header field of the client's name
 abbrev pub client_name : List ℕ
 client_name = codes "Repeat-Client"
 
+-- the header field of the call's number
 abbrev pub number_name : List ℕ
 number_name = codes "Repeat-Number"
 
 -- ---- the fields
 
+-- the value of this field, or that of those before
 abbrev pub or_value : List ℕ → Option (List ℕ) → Field → Option (List ℕ)
 or_value name so_far f = if same_word name f.0 then Some f.1 else so_far
 
+-- the last value of a header field
 abbrev pub last_from : List ℕ → Option (List ℕ) → List Field → Option (List ℕ)
 last_from name so_far fields = fold (or_value name) so_far fields
 
@@ -34,6 +38,7 @@ client_in value = if is_between 1 50 (length value) then as_text value else None
 abbrev pub number_in : List ℕ → Option ℕ
 number_in value = if are_digits value && is_number (number_of value) then Some (number_of value) else None
 
+-- client and number, or the field at fault
 abbrev pub numbered : List ℕ → List ℕ → Result (Option By) (List ℕ)
 numbered client number =
     then_by (or_key client_name (client_in client)) (λ c.

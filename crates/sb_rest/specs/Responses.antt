@@ -61,6 +61,7 @@ refusal_ends refusal.DiskFault = true
 refusal_ends (refusal.Stopped faults) = true
 refusal_ends _ = false
 
+-- the response to a refused call
 abbrev pub refusal_response : Refusal → ResponseMessage
 refusal_response r = record { status = refusal_status r; fields = (codes "Content-Type", codes "application/json") ∷ []; body = refusal_text r; ends = refusal_ends r }
 
@@ -69,6 +70,7 @@ abbrev pub and_later : List (List ℕ) → List ℕ
 and_later [] = []
 and_later (word ∷ words) = codes ", " ++ word ++ and_later words
 
+-- words with commas between them
 abbrev pub listed : List (List ℕ) → List ℕ
 listed [] = []
 listed (word ∷ words) = word ++ and_later words
@@ -93,18 +95,22 @@ fault_response OutOfMemory = refusal_response refusal.OutOfMemory
 
 -- ---- replies; one that no call of a route is answered is an error of the server's own
 
+-- the status of a send
 abbrev pub sent_status : Reply → Status
 sent_status (Sent receipts) = status.Created
 sent_status _ = status.InternalServerError
 
+-- the status of a settlement
 abbrev pub settled_status : Reply → Status
 settled_status Done = status.Ok
 settled_status _ = status.InternalServerError
 
+-- the status of a renewal
 abbrev pub renewed_status : Reply → Status
 renewed_status (Renewed until) = status.Ok
 renewed_status _ = status.InternalServerError
 
+-- the status of a receive that gave a message
 abbrev pub taken_status : Mode → Status
 taken_status Lock = status.Created
 taken_status Delete = status.Ok
@@ -164,6 +170,7 @@ abbrev pub host_from : Option Field → List ℕ
 host_from None = codes "localhost"
 host_from (Some f) = f.1
 
+-- the host in a request's header fields; where there is none, localhost
 abbrev pub host_in : List Field → List ℕ
 host_in fields = host_from (find (λ f. same_word (codes "host") f.0) fields)
 

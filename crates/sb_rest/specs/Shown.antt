@@ -35,17 +35,21 @@ is_printable text = list_all (λ b. (nat_le 32 b && not (b == 127)) || (b == 9))
 abbrev pub is_shown : SystemText → Bool
 is_shown t = not (system_code t.name == 8)
 
+-- members with a system text, if it is one that is shown
 abbrev pub with_shown : SystemText → Members → Members
 with_shown t ms = if is_shown t then put (system_name t.name) (string t.text) ms else ms
 
+-- members with the system texts that are shown
 abbrev pub with_texts : List SystemText → Members → Members
 with_texts [] ms = ms
 with_texts (t ∷ ts) ms = with_texts ts (with_shown t ms)
 
+-- members with the time to live, if there is one
 abbrev pub with_ttl : Option ℕ → Members → Members
 with_ttl None ms = ms
 with_ttl (Some ttl) ms = put (codes "TimeToLive") (number (unsigned ttl)) ms
 
+-- members with the lock under which the message was received, if it was
 abbrev pub with_lock : List ℕ → Showing → Members → Members
 with_lock until (Locked token moment) ms = put (codes "LockToken") (string (token_text token)) (put (codes "LockedUntilUtc") (string until) ms)
 with_lock until Removed ms = ms
@@ -65,10 +69,12 @@ broker_text texts enqueued until c = ascii_json (compact_text (object (broker_me
 
 -- ---- Location
 
+-- the address of an entity
 abbrev pub base_text : Path → Option (List ℕ) → List ℕ
 base_text path None = path.name
 base_text path (Some name) = path.name ++ codes "/subscriptions/" ++ name
 
+-- how each part is named in an address
 abbrev pub part_text : Part → List ℕ
 part_text Main = []
 part_text Dead = codes "/$deadletterqueue"
@@ -78,6 +84,7 @@ part_text Transfer = codes "/$transfer/$deadletterqueue"
 abbrev pub address_text : Path → List ℕ
 address_text path = base_text path path.subscription ++ part_text path.part
 
+-- where a message under a lock is renewed and settled
 unfoldable pub location_text : List ℕ → Path → ℕ → Token → List ℕ
 location_text host from n token = codes "http://" ++ host ++ codes "/" ++ address_text from ++ codes "/messages/" ++ decimal n ++ codes "/" ++ token_text token
 
@@ -89,9 +96,11 @@ location_under (Browsed state) host from n = []
 
 -- ---- Content-Type
 
+-- the text that is shown as the body's type
 unfoldable pub is_type : SystemText → Bool
 is_type t = system_code t.name == 8 && is_printable t.text
 
+-- the header field of the body's type, if this is it
 abbrev pub type_fields : SystemText → List Field
 type_fields t = if is_type t then (codes "Content-Type", t.text) ∷ [] else []
 
@@ -108,6 +117,7 @@ value_text (Truth false) = codes "false"
 unfoldable pub stands : Property → Bool
 stands p = is_token p.name && not (is_hidden p.name)
 
+-- the header field of a user property, if it can stand there
 abbrev pub property_fields : Property → List Field
 property_fields p = if stands p then (p.name, value_text p.value) ∷ [] else []
 

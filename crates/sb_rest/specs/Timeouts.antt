@@ -9,6 +9,7 @@ use Rattle.sb_lines.specs.Faults.{or_key}
 abbrev pub decoded : List ℕ → List ℕ
 decoded bytes = utf8_lossy (decode bytes)
 
+-- whether a pair of the query is named timeout
 abbrev pub is_timeout : List ℕ × List ℕ → Bool
 is_timeout pair = bytes_eq (decoded pair.0) (codes "timeout")
 
@@ -16,6 +17,7 @@ is_timeout pair = bytes_eq (decoded pair.0) (codes "timeout")
 abbrev pub seconds_in : List ℕ → Option ℕ
 seconds_in text = if is_number text && nat_le (number_of text) 3600 then Some (number_of text) else None
 
+-- the seconds that stand here; left out are 60
 abbrev pub timeout_from : Option (List ℕ × List ℕ) → Result ℕ (List ℕ)
 timeout_from None = Ok 60
 timeout_from (Some pair) = or_key (codes "timeout") (seconds_in (decoded pair.1))
@@ -24,5 +26,6 @@ timeout_from (Some pair) = or_key (codes "timeout") (seconds_in (decoded pair.1)
 abbrev pub timeout_among : List (List ℕ × List ℕ) → Result ℕ (List ℕ)
 timeout_among pairs = timeout_from (find is_timeout pairs)
 
+-- the seconds that a query says, or that it is at fault
 abbrev pub timeout_in : List ℕ → Result ℕ (List ℕ)
 timeout_in query = timeout_among (raw_pairs query)

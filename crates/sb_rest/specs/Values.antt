@@ -28,9 +28,11 @@ unquoted v = or_that (between_quotes v) (option_and_then as_str (read v))
 abbrev pub number_in : List ℕ → Option ℕ
 number_in v = if is_number v then Some (number_of v) else None
 
+-- a number from zero on, if it has 64 bits
 abbrev pub positive : ℕ → Option ℤ
 positive n = if nat_lt n (2 ^ 63) then Some (pos n) else None
 
+-- a number below zero, if it has 64 bits
 abbrev pub negative : ℕ → Option ℤ
 negative n = if nat_le n (2 ^ 63) then Some (neg_ℤ (pos n)) else None
 
@@ -38,9 +40,11 @@ negative n = if nat_le n (2 ^ 63) then Some (neg_ℤ (pos n)) else None
 abbrev pub whole_in : List ℕ → Option ℤ
 whole_in v = if slice_index v 0 == 45 then option_and_then negative (number_in (drop 1 v)) else option_and_then positive (number_in v)
 
+-- true, false, or else a text
 abbrev pub truth_or_text : List ℕ → PropertyValue
 truth_or_text v = if bytes_eq v (codes "true") then Truth true else (if bytes_eq v (codes "false") then Truth false else Text v)
 
+-- the number, if it is one, else a truth value or a text
 abbrev pub number_or_text : List ℕ → Option ℤ → PropertyValue
 number_or_text v None = truth_or_text v
 number_or_text v (Some z) = Int z

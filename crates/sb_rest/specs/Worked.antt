@@ -43,6 +43,7 @@ smile = 240 ∷ 159 ∷ 152 ∷ 128 ∷ []
 abbrev pub sends : List Message → Result Wanted RestFault
 sends messages = Ok (in_time None (Send q messages None) 60)
 
+-- a receive that waits so long
 abbrev pub takes : ℕ → Result Wanted RestFault
 takes timeout = Ok (in_time None (Receive q Lock None) timeout)
 

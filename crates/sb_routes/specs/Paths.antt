@@ -23,6 +23,7 @@ looked_up path = map to_ascii_lowercase (undollared path)
 abbrev pub path_of : List ℕ → List ℕ
 path_of target = (split_once 63 target).0
 
+-- what stands behind the question mark
 abbrev pub query_of : List ℕ → List ℕ
 query_of target = (split_once 63 target).1
 

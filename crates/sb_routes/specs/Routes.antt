@@ -48,9 +48,11 @@ abbrev pub with_scan : Result Scan InsertError → Route → Table → Table
 with_scan (Ok s) route rows = placed (s.pattern, route_from s route) rows
 with_scan (Err e) route rows = rows
 
+-- one more route, by its text
 unfoldable pub with_route : List ℕ → Route → Table → Table
 with_route text route rows = with_scan (parse_route text) route rows
 
+-- one more row of the table
 abbrev pub with_row : Table → List ℕ × Route → Table
 with_row rows row = with_route row.0 row.1 rows
 
@@ -62,6 +64,7 @@ with_rows new rows = fold with_row rows new
 unfoldable pub scripts : List (List ℕ × Route)
 scripts = (codes "/$script", Script) ∷ (codes "/script", Script) ∷ []
 
+-- all routes
 unfoldable pub table : Table
 table = with_rows scripts (with_rows subscriptions (with_rows entities []))
 

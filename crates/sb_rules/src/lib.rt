@@ -3,7 +3,7 @@
 //! It stands on `sb_sqleval`, which evaluates filters and carries actions out. Rules stand in order
 //! of name. All true rules without action give one copy, each true rule with an action gives one of
 //! its own; a rule that fails decides for all. Its one contract: `copies` answers what the
-//! definitions of `sb_model` select (`selected`), or memory was wanting.
+//! definitions of `sb_machine` select (`selected`), or memory was wanting.
 //!
 //! ```text
 //! match copies(alloc, subscription, &message)? {

@@ -39,6 +39,7 @@ unindented word = drop (position_or_len (λ b. not (is_blank b)) word) word
 abbrev pub begins_close : List ℕ → Bool
 begins_close word = same_word close (take (length close) word) && list_all is_blank (drop (length close) word)
 
+-- a word that asks for the connection's end
 abbrev pub is_close_word : List ℕ → Bool
 is_close_word word = begins_close (unindented word)
 
@@ -46,6 +47,7 @@ is_close_word word = begins_close (unindented word)
 unfoldable pub lists_close : List ℕ → Bool
 lists_close list = list_any is_close_word (split 44 list)
 
+-- a header field that asks for the connection's end
 abbrev pub is_close : Field → Bool
 is_close f = same_word (codes "connection") f.0 && lists_close f.1
 
@@ -55,6 +57,7 @@ asks_close m = (m.head.minor == 0) || list_any is_close m.head.fields
 
 -- ---- what it asks for
 
+-- whether an operation is a receive, which may wait
 abbrev pub is_receive : Act → Bool
 is_receive (Receive from mode session) = true
 is_receive _ = false

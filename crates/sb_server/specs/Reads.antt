@@ -70,6 +70,7 @@ abbrev pub FillsWith : Option (List ℕ) → Option (List ℕ) → Type 0
 FillsWith None after = Unit {0}
 FillsWith (Some before) after = after ≡ Some before
 
+-- bytes came in, and none were fed
 pub record Fills (old new : Stand) : Type 0 where
   pub left : new.left ≡ old.left
   pub fed : new.fed ≡ old.fed

@@ -49,6 +49,7 @@ AnswersCall call answer asker closes out = (said : ResponseMessage) × Gives cal
 abbrev pub line_bytes : Form → Result Answered Refusal → Bool → List ℕ
 line_bytes form answer closes = response_bytes (closed (closes || stops answer) (line_response (answer_line form answer)))
 
+-- the response to a request that is no call
 abbrev pub fault_bytes : RestFault → Bool → List ℕ
 fault_bytes fault closes = response_bytes (closed closes (fault_response fault))
 

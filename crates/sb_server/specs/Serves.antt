@@ -1,4 +1,4 @@
--- Workers at several doors.
+-- Workers at several doors (listening sockets).
 use Rattle.std.specs.Prelude.{◌≡◌, ◌⊎◌, ℕ, List, [], ◌∷◌, ◌++◌, map, Bool, true, false, Option, Some, None, if◌then◌else◌}
 use Rattle.std.specs.List.{list_any}
 use Rattle.sb_desk.specs.Desks.{Open, Sitting, IsOf}
@@ -47,6 +47,7 @@ pub record Did {D : Type 0} (Works : Worker D → Type 0) (old new : Job D) : Ty
 
 -- ---- all jobs, which stand the last door first
 
+-- a worker is at the door
 abbrev pub IsManned : {D : Type 0} → Job D → Type 0
 IsManned job = (pass : Sitting) × (job.pass ≡ Some pass)
 
@@ -65,15 +66,18 @@ abbrev pub doors_in : {D : Type 0} → List (Job D) → List D
 doors_in [] = []
 doors_in (job ∷ jobs) = doors_in jobs ++ job.door ∷ []
 
+-- how each worker ended
 abbrev pub stops_in : {D : Type 0} → List (Job D) → List Stop
 stops_in jobs = map (λ job. job.stop) jobs
 
 -- ---- how serving ended
 
+-- a worker ended since a call failed
 abbrev pub is_fault : Stop → Bool
 is_fault Fault = true
 is_fault _ = false
 
+-- a worker ended for want of memory
 abbrev pub is_lost : Stop → Bool
 is_lost NoMemory = true
 is_lost _ = false

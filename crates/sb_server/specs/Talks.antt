@@ -58,6 +58,7 @@ pub record Talks (IsReading : ℕ → Type 0) (s : Start) (h : Here) (turn : Tur
 
 -- ---- what is refused
 
+-- the status of the response to a faulty request
 abbrev pub refusal_status : HttpFault → Status
 refusal_status HeadBad = BadRequest
 refusal_status HeadLarge = HeaderFieldsTooLarge
@@ -67,9 +68,11 @@ refusal_status BodyLarge = PayloadTooLarge
 abbrev pub refusal_said : HttpFault → ResponseMessage
 refusal_said fault = record { status = refusal_status fault; fields = []; body = []; ends = true }
 
+-- the response to a faulty request
 abbrev pub refusal_bytes : HttpFault → List ℕ
 refusal_bytes fault = response_bytes (refusal_said fault)
 
+-- how a connection ends behind it
 abbrev pub refusal_ending : HttpFault → Ending
 refusal_ending HeadBad = BadHead
 refusal_ending HeadLarge = HeadTooLarge

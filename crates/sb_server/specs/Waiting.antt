@@ -33,9 +33,11 @@ pub record Round : Type 0 where
   pub reading : ℕ
   pub answer : Result Answered Refusal
 
+-- the entries of one round
 abbrev pub round_made : ℕ → Call → Round → List Entry
 round_made seat call r = made_by seat r.tick r.reading call r.answer
 
+-- the entries of rounds, one after another
 abbrev pub rounds_made : ℕ → Call → List Round → List Entry
 rounds_made seat call [] = []
 rounds_made seat call (r ∷ rs) = round_made seat call r ++ rounds_made seat call rs

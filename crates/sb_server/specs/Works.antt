@@ -27,14 +27,17 @@ ServesBy IsReading access there given reads writes p v q = (stand : Stand)
     × Ends IsReading (record { access = access; pass = p; there = there v.before; given = given v.before; reads = reads v.before; writes = writes v.before })
     (record { pass = q; stand = stand; written = given v.after; reads = reads v.after; writes = writes v.after }) v.ending
 
+-- connections were served one after the other, from pass to pass
 abbrev pub Worked : {X : Type 0} → (Sitting → Visit X → Sitting → Type 0) → Sitting → List (Visit X) → Sitting → Type 0
 Worked Serves p [] q = q ≡ p
 Worked Serves p (v ∷ vs) q = (mid : Sitting) × Serves p v mid × Worked Serves mid vs q
 
+-- what each was before
 abbrev pub befores : {X : Type 0} → List (Visit X) → List X
 befores [] = []
 befores (v ∷ vs) = v.before ∷ befores vs
 
+-- what was left of each
 abbrev pub afters : {X : Type 0} → List (Visit X) → List X
 afters [] = []
 afters (v ∷ vs) = v.after ∷ afters vs

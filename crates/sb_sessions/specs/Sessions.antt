@@ -3,6 +3,7 @@ use Rattle.std.specs.Prelude.{ℕ, List, []}
 use Rattle.sb_machine.specs.declared.state.Leaf.{Leaf}
 use Rattle.sb_machine.specs.declared.state.Session.{Session}
 
+-- the sessions of a part, and how many more fit
 pub record Seated : Type 0 where
   -- by id, as far as they were opened so
   pub sessions : List Session

@@ -31,6 +31,7 @@ abbrev mutual
   NoneTakesMemory (first t) = TakesNoMemory t
   NoneTakesMemory (later ts t) = NoneTakesMemory ts × TakesNoMemory t
 
+-- a statement that removes a property
 abbrev pub IsRemoval : Change → Type 0
 IsRemoval (setting name t) = ⊥
 IsRemoval (removing name) = Unit {0}

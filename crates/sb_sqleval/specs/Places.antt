@@ -16,6 +16,7 @@ abbrev pub one_part : Option ℕ → PatternPart
 one_part None = any
 one_part (Some c) = this c
 
+-- whether a character is the one that is wanted, or any is
 abbrev pub is_wanted : Option ℕ → ℕ → Bool
 is_wanted None c = true
 is_wanted (Some d) c = c == d
@@ -25,6 +26,7 @@ pub record Begins (escape : Option ℕ) (pattern rest : List ℕ) (part : Patter
   pub parts : parts_of escape (chars pattern) ≡ with_part part (parts_of escape (chars rest))
   pub shorter : length (chars rest) < length (chars pattern)
 
+-- what a place in the pattern says: its end, a lone escape, `%`, or one character
 abbrev pub IsAhead : Option ℕ → List ℕ → Ahead → Type 0
 IsAhead escape pattern End = parts_of escape (chars pattern) ≡ Some []
 IsAhead escape pattern Lone = parts_of escape (chars pattern) ≡ None
@@ -43,6 +45,7 @@ pub record Passes (escape : Option ℕ) (ahead left onward rest : List ℕ) : Ty
   pub fewer : length (chars rest) < length (chars left)
   pub shorter : length (chars onward) < length (chars ahead)
 
+-- what one step came to: all fits, a `%` is ahead, one character was passed, or it can't fit so
 abbrev pub IsStep : Option ℕ → List ℕ → List ℕ → Step → Type 0
 IsStep escape ahead left Matched = fits escape ahead (chars left) ≡ true
 IsStep escape ahead left (Starred rest) = Begins escape ahead rest.now run
@@ -69,6 +72,7 @@ pub record IsReached (escape : Option ℕ) (behind tried ahead left : List ℕ) 
   pub place : chars left ≡ drop passed (chars tried)
   pub fitting : (s : List ℕ) → fits escape behind s ≡ true → fits escape ahead (drop passed s) ≡ true
 
+-- the mark, if there is one, was reached so
 abbrev pub IsMarked : Option ℕ → List ℕ → List ℕ → Option Mark → Type 0
 IsMarked escape ahead left None = Unit {0}
 IsMarked escape ahead left (Some m) = IsReached escape m.behind.now m.tried.now ahead left
@@ -78,6 +82,7 @@ abbrev pub tries : ℕ → Option Mark → ℕ
 tries most None = most + 1
 tries most (Some m) = length (chars m.tried.now)
 
+-- the text that is left and the pattern behind the mark are no longer than the whole ones
 abbrev pub IsBounded : ℕ → ℕ → List ℕ → Option Mark → Type 0
 IsBounded most size left None = length (chars left) ≤ most
 IsBounded most size left (Some m) = (length (chars left) ≤ length (chars m.tried.now)) × (length (chars m.behind.now) ≤ size)
@@ -98,6 +103,7 @@ pub record Turns (escape : Option ℕ) (most size : ℕ) (before after : Places)
   pub within : IsWithin most size after
   pub fewer : turns_left most size after < turns_left most size before
 
+-- a turn answers what was open, or leaves the same open
 abbrev pub IsTurn : Option ℕ → ℕ → ℕ → Places → Turn → Type 0
 IsTurn escape most size before (Ended answer) = answer ≡ is_open escape before
 IsTurn escape most size before (Goes after) = Turns escape most size before after

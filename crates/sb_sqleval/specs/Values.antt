@@ -8,6 +8,7 @@ use Rattle.sb_model.specs.declared.evaluation.EvalFault.TheVariants.{OutOfMemory
 use Rattle.sb_sqleval.specs.declared.value.Value.{Value}
 use Rattle.sb_sqleval.specs.declared.value.Value.TheVariants.{Unknown, Int, Text, Bool}
 
+-- what a value of the code means
 abbrev pub value_in : Value → Option PropertyValue
 value_in Unknown = None
 value_in (Int n) = Some (property.Int n)

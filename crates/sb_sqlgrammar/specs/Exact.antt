@@ -27,11 +27,13 @@ pub record Fault {K T : Type 0} (R : List K → Result (T × List K) (List K)) (
   pub completed : S (front ++ more) tree
   pub again : (tail : List K) → R (front ++ other_tail rest tail) ≡ Err (other_tail rest tail)
 
+-- a reader finds what the grammar spells, only that, and tells of the first token that can't be completed
 pub record Exact {K T : Type 0} (R : List K → Result (T × List K) (List K)) (S : List K → T → Type 0) (goes : K → Bool) : Type 0 where
   pub found : (ts : List K) (t : T) (rest : List K) → R ts ≡ Ok (t, rest) → Found R S ts t rest
   pub only : (u : List K) (t : T) (rest : List K) → S u t → Stops goes rest → R (u ++ rest) ≡ Ok (t, rest)
   pub fault : (ts rest : List K) → R ts ≡ Err rest → Fault R S ts rest
 
+-- a token list that a grammar spells
 pub record Example {K T : Type 0} (S : List K → T → Type 0) : Type 0 where
   pub tokens : List K
   pub tree : T

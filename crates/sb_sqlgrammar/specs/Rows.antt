@@ -10,15 +10,19 @@ use Rattle.sb_model.specs.declared.token.Kind.TheVariants.{Constant, Name, Open,
 use Rattle.sb_model.specs.declared.token.Role.TheVariants.{Plain, Function, SystemScope, UserScope}
 use Rattle.sb_model.specs.Reading.{filter_of, action_of}
 
+-- the token of a number
 abbrev pub int : ℕ → Kind
 int n = Constant (Int (pos n))
 
+-- the tree of a number
 abbrev pub one_is : ℕ → Term
 one_is n = constant (Int (pos n))
 
+-- the token of a plain name
 abbrev pub word : List ℕ → Kind
 word s = Name Plain s
 
+-- the tree of a user property
 abbrev pub user : List ℕ → Term
 user s = property (User s)
 

@@ -9,9 +9,11 @@ use Rattle.sb_model.specs.Expressions.{Term, Change, constant, property, unary, 
 use Rattle.sb_model.specs.Reading.{filter_of, action_of}
 use Rattle.sb_model.specs.Texts.{read_text}
 
+-- a filter's text as it is read
 abbrev pub filter_in : List ℕ → Result Term ℕ
 filter_in text = read_text (filter_of 64) text
 
+-- an action's text as it is read
 abbrev pub action_in : List ℕ → Result (List Change) ℕ
 action_in text = read_text (action_of 64 31) text
 
@@ -20,15 +22,19 @@ abbrev pub fault_in : {T : Type 0} → Result T ℕ → Option ℕ
 fault_in (Ok t) = None
 fault_in (Err place) = Some place
 
+-- the places of the faults of filters
 abbrev pub filter_faults : List (List ℕ) → List (Option ℕ)
 filter_faults = map (λ text. fault_in (filter_in text))
 
+-- the places of the faults of actions
 abbrev pub action_faults : List (List ℕ) → List (Option ℕ)
 action_faults = map (λ text. fault_in (action_in text))
 
+-- the tree of a number
 abbrev pub number : ℕ → Term
 number n = constant (Int (pos n))
 
+-- the tree of a user property
 abbrev pub user : List ℕ → Term
 user s = property (User s)
 
@@ -70,6 +76,7 @@ ActionTable1 = action_faults (codes "SET a = 1; REMOVE b SET c = 'x''y'" ∷ cod
 abbrev pub deep : ℕ → List ℕ
 deep n = replicate n 40 ++ codes "1" ++ replicate n 41
 
+-- how deep parentheses, signs and calls may nest
 abbrev pub Depths : Type 0
 Depths = filter_faults (deep 64 ∷ deep 65 ∷ (replicate 65 40) ∷ (replicate 64 40 ++ codes "a IN (1)" ++ replicate 64 41) ∷ (deep 64 ++ codes "IN (1)") ∷ (replicate 64 43 ++ codes "p(1)") ∷ (replicate 64 45 ++ codes "a NOT LIKE b") ∷ []) ≡ None ∷ Some 64 ∷ Some 64 ∷ Some 65 ∷ None ∷ Some 65 ∷ None ∷ []
 

@@ -29,6 +29,7 @@ pub record IsLongest (u rest : List ℕ) (k : Kind) : Type 0 where
   pub spelled : IsToken u rest k
   pub longest : (v w : List ℕ) (j : Kind) → v ++ w ≡ u ++ rest → IsToken v w j → length v ≤ length u
 
+-- no token begins here
 abbrev pub BeginsNone : List ℕ → Type 0
 BeginsNone bytes = (v w : List ℕ) (j : Kind) → v ++ w ≡ bytes → IsToken v w j → ⊥
 

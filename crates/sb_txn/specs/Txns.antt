@@ -9,6 +9,7 @@ pub record Opened : Type 0 where
   pub transaction : Transaction
   pub spare : ℕ
 
+-- the open transactions, and how many more fit
 pub record Table : Type 0 where
   -- in the order in which they were begun
   pub rows : List Opened
@@ -19,9 +20,11 @@ pub record Table : Type 0 where
 abbrev pub transactions_of : List Opened → List Transaction
 transactions_of rows = map (λ r. r.transaction) rows
 
+-- whether this is the transaction of a number
 abbrev pub has_txn : ℕ → Opened → Bool
 has_txn n r = is_transaction n r.transaction
 
+-- a transaction in which nothing is queued yet
 abbrev pub begun : ℕ → ℕ → ℕ → Transaction
 begun number entity deadline = record { number = number; entity = entity; deadline = deadline; operations = [] }
 
@@ -33,5 +36,6 @@ with_queued deadline operation r = record { transaction = with_operation deadlin
 abbrev pub with_room : ℕ → Opened → Opened
 with_room count r = record r { spare = max r.spare count }
 
+-- whether a transaction is one of another entity
 abbrev pub is_elsewhere : ℕ → Transaction → Bool
 is_elsewhere entity x = not (x.entity == entity)

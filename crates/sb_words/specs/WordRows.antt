@@ -5,12 +5,15 @@ use Rattle.sb_words.specs.declared.command.Command.{Command}
 use Rattle.sb_words.specs.declared.command.Command.TheVariants.{Run, Check, Client, Serve}
 use Rattle.sb_words.specs.Words.{Form, form_of}
 
+-- a command over a folder
 abbrev pub over : Command → Text → Form
 over command folder = record (form_of command) { folder = folder }
 
+-- a client's call
 abbrev pub with_port : ℕ → Form
 with_port port = record (form_of Client) { port = port; patience = 120 }
 
+-- a server's call
 abbrev pub serving : (workers connections : ℕ) → Form
 serving workers connections = record (over Serve (codes "a")) { port = 80; workers = workers; connections = connections; max_jump = 400 }
 

@@ -53,9 +53,11 @@ plain_server = with_rule (with_rule (with_rule (with_rule (new_app (codes "serve
 abbrev pub serve_command : Shape
 serve_command = (with_rule (with_rule (with_rule plain_server (value_option (codes "max-jump"))) (list_option (codes "host"))) (value_option (codes "key"))).top
 
+-- the commands over a folder
 abbrev pub folder_commands : App
 folder_commands = with_subcommand (with_subcommand bus run_command) check_command
 
+-- all commands
 abbrev pub program : App
 program = with_subcommand (with_subcommand folder_commands client_command) serve_command
 
@@ -74,6 +76,7 @@ pub record Form : Type 0 where
   pub patience : ℕ
   pub look : Bool
 
+-- the form that was read
 abbrev pub form_value : ReadForm → Form
 form_value f = record {
   command = f.command;
@@ -103,6 +106,7 @@ form_of command = record {
   look = false;
 }
 
+-- the command of each name
 abbrev pub command_named : Text → Option Command
 command_named word = if bytes_eq word (codes "run") then Some Run
     else (if bytes_eq word (codes "check") then Some Check
@@ -241,6 +245,7 @@ form_in words = unless_at_fault (fault_of program words) (form_at (subcommand_of
 abbrev pub command_in : List Text → Option Command
 command_in words = option_map (λ f. f.command) (form_in words)
 
+-- after how many connections a worker ends; 0 where there is no form
 abbrev pub connections_of : Option Form → ℕ
 connections_of None = 0
 connections_of (Some form) = form.connections
@@ -267,6 +272,7 @@ look_in words = look_of (form_in words)
 
 -- ---- help and the version
 
+-- whether help or the version is asked for
 abbrev pub asks_for_text : ErrorKind → Bool
 asks_for_text DisplayHelp = true
 asks_for_text DisplayVersion = true
