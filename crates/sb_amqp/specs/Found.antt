@@ -11,6 +11,7 @@ use Rattle.sb_amqp.specs.Values.{extent_at, kind_of, content_of}
 
 -- ---- the items of a list or map that a message uses
 
+-- a value before those behind it, where there is one
 abbrev pub with_first : (List ℕ → List (List ℕ)) → Option (List ℕ × List ℕ) → List (List ℕ)
 with_first others None = []
 with_first others (Some x) = x.0 ∷ others x.1
@@ -20,10 +21,12 @@ unfoldable pub values_in : ℕ → List ℕ → List (List ℕ)
 values_in zero bytes = []
 values_in (suc n) bytes = with_first (λ rest. values_in n rest) (value_at bytes)
 
+-- the values of a list or map, by its count
 abbrev pub counted_values : Option (ℕ × List ℕ) → List (List ℕ)
 counted_values None = []
 counted_values (Some x) = values_in x.0 x.1
 
+-- the items of a section that is read by its items; else none
 abbrev pub items_in : Bool → List ℕ → List (List ℕ)
 items_in false value = []
 items_in true value = counted_values (counted (extent_at value) (content_of value))
@@ -38,6 +41,7 @@ said_by x m = result_ok (section_says x.0 x.1.0 (items_in (has_used_items x.0 (k
 abbrev pub at_end : ℕ → List ℕ → Message → Option Message
 at_end last bytes m = if may_end last && (length bytes == 0) then Some m else None
 
+-- a section more, or the end
 abbrev pub onwards : Option (ℕ × (List ℕ × List ℕ)) → Option Message → (ℕ × (List ℕ × List ℕ) → Option Message) → Option Message
 onwards None ended next = ended
 onwards (Some x) ended next = next x

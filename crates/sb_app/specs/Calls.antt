@@ -35,6 +35,7 @@ IsNamed task days (Ok named) = (task ≡ Some named.task) × (days ≡ named.max
 IsNamed task days (Err BadWords) = task ≡ None
 IsNamed task days (Err OutOfMemory) = Unit {0}
 
+-- A call that waits for nobody did what its task is, and ended with this status.
 pub record IsCall (reads : ℕ → Type 0) (days : ℕ) (task : Option Task) (salt : ℕ) (was now : Outside) (link link_now : Exchanges) (status : ℕ) : Type 0 where
   -- a run, a check, and words that name no task
   pub carried_out : task ≢ Some Client → task ≢ Some Look → IsCarriedOut reads days task salt was now status

@@ -19,6 +19,7 @@ pub record Exchanges : Type 0 where
   pub told : Option (List Exchange)
   pub faults : ℕ
 
+-- the key that is shown, what a link was told, and its count of faults
 abbrev pub exchanges_of : {N : Type 0} → (key : List ℕ) → Link N → N → Exchanges
 exchanges_of key link n = record { key = key; told = link.told n; faults = link.count n }
 

@@ -11,6 +11,7 @@ use Rattle.sb_lines.specs.declared.line.Line.{Line}
 use Rattle.sb_input.specs.Limits.{max_line}
 use Rattle.sb_input.specs.Lines.{lines_of, is_blank}
 
+-- a call, in the form that its reply has, or the key at fault
 abbrev pub script_line_of : Result Line (List ℕ) → ScriptLine
 script_line_of (Ok line) = Request line.timed line.form
 script_line_of (Err key) = Malformed key

@@ -40,6 +40,7 @@ pub record IsFreeLook (salt : ℕ) (was now : Outside) : Type 0 where
   pub disk_quiet : HaveFailed was.disks now.disks → ⊥
   pub output_quiet : IsQuiet was.output.faults now.output.faults
 
+-- the statuses of a look
 abbrev pub IsLookStatus : ℕ → Type 0
 IsLookStatus status = (status ≡ 0) ⊎ ((status ≡ 4) ⊎ ((status ≡ 5) ⊎ ((status ≡ 6) ⊎ (status ≡ 7))))
 

@@ -38,11 +38,13 @@ pub record IsReplied (key line : List ℕ) (made : List Exchange) (written : Lis
   pub takes : TakesLine reply written data_is
   pub says : refused ≡ refuses data_is
 
+-- what comes of a line of this kind: nothing, the line of one that is too long, or the server's reply
 abbrev pub IsAnsweredAs : (key : List ℕ) → LineKind → (line : List ℕ) → List Exchange → (written : List ℕ) → Bool → Type 0
 IsAnsweredAs key blank line made written refused = (made ≡ []) × (written ≡ []) × (refused ≡ false)
 IsAnsweredAs key too_long line made written refused = (made ≡ []) × (written ≡ long_line) × (refused ≡ true)
 IsAnsweredAs key sent line made written refused = IsReplied key line made written refused
 
+-- so was this line answered
 abbrev pub IsAnswer : (key : List ℕ) → Answer → Type 0
 IsAnswer key a = IsAnsweredAs key (kind_of a.line) a.line a.made a.written a.refused
 

@@ -13,5 +13,6 @@ pub record Outside : Type 0 where
   pub told : Option (List Exchange)
   pub given : Option (List ℕ)
 
+-- what a client has of the outside
 abbrev pub outside_of : {N S K : Type 0} → (key : List ℕ) → Link N → Source S → Sink K → N → S → K → Outside
 outside_of key link source sink n s k = record { key = key; left = source.left s; told = link.told n; given = sink.given k }

@@ -5,6 +5,7 @@ use Rattle.sb_outside.specs.Streams.{Gains}
 use Rattle.sb_client.specs.Answers.{IsAnsweredAs, IsCutAt, kind_of}
 use Rattle.sb_client.specs.declared.ending.ClientEnding.{ClientEnding}
 
+-- A line was answered, and the run goes on.
 pub record IsServed (key line : List ℕ) (told told_after : Option (List Exchange)) (given given_after : Option (List ℕ)) (refused : Bool) : Type 0 where
   pub made : List Exchange
   pub written : List ℕ
@@ -12,6 +13,7 @@ pub record IsServed (key line : List ℕ) (told told_after : Option (List Exchan
   pub tells : Gains told told_after made
   pub gives : Gains given given_after written
 
+-- A line was answered in part, and the run ends with it.
 pub record IsCutServing (key line : List ℕ) (told told_after : Option (List Exchange)) (given given_after : Option (List ℕ)) (end : ClientEnding) : Type 0 where
   pub made : List Exchange
   pub part : List ℕ

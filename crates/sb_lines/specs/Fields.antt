@@ -79,6 +79,7 @@ mode_in d = option_and_then mode_named (as_str d)
 abbrev pub form_named : List ℕ → Option Form
 form_named word = if bytes_eq word (codes "amqp") then Some Amqp else None
 
+-- the form that a word names
 abbrev pub form_in : Data → Option Form
 form_in d = option_and_then form_named (as_str d)
 

@@ -253,6 +253,7 @@ is_numbered word = not (bytes_eq word (codes "peek") || bytes_eq word (codes "se
 abbrev pub formed : Bool → Data → Result (Form × (ℕ × Option By)) (List ℕ)
 formed takes d = then_by ((form (codes "form")).reads d) (λ f. then_by (beside takes d) (λ x. Ok (f, x)))
 
+-- an act with what stands beside it
 abbrev pub line_with : Act → Form × (ℕ × Option By) → Line
 line_with a x = record { timed = record { reading = x.1.0; call = record { by = x.1.1; act = a } }; form = x.0 }
 
@@ -260,6 +261,7 @@ line_with a x = record { timed = record { reading = x.1.0; call = record { by = 
 unfoldable pub named_call : List ℕ → Data → Result Line (List ℕ)
 named_call word d = then_by (act_named word d) (λ a. then_by (formed (is_numbered word) d) (λ x. Ok (line_with a x)))
 
+-- what an object asks for, by its word
 abbrev pub call_of : Data → Result Line (List ℕ)
 call_of d = then_by (or_key (codes "do") (text_at (codes "do") d)) (λ word. named_call word d)
 

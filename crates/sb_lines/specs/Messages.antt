@@ -173,6 +173,7 @@ amqp_key = codes "amqp_hex"
 abbrev pub amqp_at : List ℕ → Data → Option Message
 amqp_at key d = option_and_then message_in (hex_at key d)
 
+-- a message by its bytes in AMQP
 unfoldable pub amqp_field : Field Message
 amqp_field = at_key amqp_key amqp_at
 
@@ -187,6 +188,7 @@ sent_fields = record { knows = λ k. bytes_eq k amqp_key || message_fields.knows
 
 -- ---- lists of messages
 
+-- one message of a send
 abbrev pub message_of : Data → Result Message (List ℕ)
 message_of d = then_by (or_key (codes "messages") (as_object d)) (λ _. object_of sent_fields d)
 

@@ -74,5 +74,6 @@ answer_data form (Ok (New reply)) = reply_data form reply
 answer_data form (Ok (Kept reply)) = object (member (codes "kept") (reply_data form reply) (said (codes "kept")))
 answer_data form (Err refusal) = refusal_data refusal
 
+-- the line of an answer: compact JSON and a line feed
 abbrev pub answer_line : Form → Result Answered Refusal → List ℕ
 answer_line form answer = compact_text (answer_data form answer) ++ 10 ∷ []

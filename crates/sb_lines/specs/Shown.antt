@@ -82,6 +82,7 @@ with_showing Removed ms = ms
 with_showing (Locked token until) ms = put (codes "until") (number (unsigned until)) (put (codes "token") (string (token_text token)) ms)
 with_showing (Browsed state) ms = put (codes "state") (string (state_name state)) (with_schedule state ms)
 
+-- the message, its lock or state, and its numbers
 abbrev pub plain_data : CopyShown → Data
 plain_data c = object (with_bytes (codes "body") (codes "body_hex") c.message.body (with_showing c.showing (with_ttl c.message.ttl (common_members c))))
 
@@ -112,9 +113,11 @@ copy_members c =
     (member (codes "enqueued_seq") (number (unsigned c.enqueued_seq))
     (member (codes "seq") (number (unsigned c.number)) no_members)))
 
+-- the same with the message in AMQP
 abbrev pub amqp_data : CopyShown → Data
 amqp_data c = object (put (codes "amqp_hex") (string (encode_lower (amqp_bytes c))) (with_showing c.showing (copy_members c)))
 
+-- in the form that was asked for
 abbrev pub shown_data : Form → CopyShown → Data
 shown_data Plain c = plain_data c
 shown_data Amqp c = amqp_data c

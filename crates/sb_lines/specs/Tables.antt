@@ -72,6 +72,7 @@ truth_or key default = with_default key default as_bool
 abbrev pub mode : List ℕ → Field Mode
 mode key = with_default key Lock mode_in
 
+-- the form at a key; plain where it isn't there
 abbrev pub form : List ℕ → Field Form
 form key = with_default key Plain form_in
 

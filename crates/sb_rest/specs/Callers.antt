@@ -39,6 +39,7 @@ is_known hosts host = is_local host || list_any (is_named host) hosts
 abbrev pub is_other_host : List (List ℕ) → Field → Bool
 is_other_host hosts f = not (length hosts == 0) && same_word (codes "host") f.0 && not (is_known hosts f.1)
 
+-- a field that a page leaves, or a Host of another name
 abbrev pub is_foreign_field : List (List ℕ) → Field → Bool
 is_foreign_field hosts f = is_of_a_page f || is_other_host hosts f
 
@@ -48,6 +49,7 @@ is_foreign access fields = list_any (is_foreign_field access.hosts) fields
 
 -- ---- the key
 
+-- a field Authorization (RFC 9110, 11.6.2)
 abbrev pub is_authorization : Field → Bool
 is_authorization f = same_word (codes "authorization") f.0
 
@@ -60,6 +62,7 @@ is_first (b ∷ bytes) byte = byte == b
 abbrev pub shows : List ℕ → List ℕ → Bool
 shows key value = begins (codes "bearer ") value && bytes_eq key (drop 7 value)
 
+-- what was found, if something was
 abbrev pub is_found : Option Bool → Bool
 is_found None = false
 is_found (Some shown) = shown

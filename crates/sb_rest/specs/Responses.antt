@@ -136,6 +136,7 @@ pub record GivesMessage (from : Path) (mode : Mode) (host : List ℕ) (json : Bo
   pub locked : IsUntil c.showing until
   pub whole : r ≡ message_response json from mode host enqueued until c
 
+-- this is the response to a receive that was accepted
 abbrev pub GivesTaken : Path → Mode → List ℕ → Bool → Reply → ResponseMessage → Type 0
 GivesTaken from mode host json (Message c) r = GivesMessage from mode host json c r
 GivesTaken from mode host json Empty r = r ≡ bare status.NoContent

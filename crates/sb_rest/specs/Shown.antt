@@ -64,6 +64,7 @@ broker_members texts enqueued until c =
     (put (codes "EnqueuedSequenceNumber") (number (unsigned c.enqueued_seq))
     (put (codes "DeliveryCount") (number (unsigned c.delivery)) (with_texts texts no_members))))))
 
+-- the value of BrokerProperties, in ASCII alone
 unfoldable pub broker_text : List SystemText → List ℕ → List ℕ → CopyShown → List ℕ
 broker_text texts enqueued until c = ascii_json (compact_text (object (broker_members texts enqueued until c)))
 

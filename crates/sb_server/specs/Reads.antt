@@ -58,6 +58,7 @@ WaitsForMore left = HasNone left × IsUnderWay left
 abbrev pub GoesOnBy : Left → List RequestMessage → Left → Type 0
 GoesOnBy old ms new = (stream : List ℕ) (before : List RequestMessage) → Requests stream before old → Requests stream (before ++ ms) new
 
+-- what was taken of the bytes that were fed, and what is left of them
 abbrev pub TookOf : Access → Left → Took → Left → Type 0
 TookOf access old (One ask closes) new = (m : RequestMessage) × AsksFor access m ask × (closes ≡ asks_close m) × GoesOnBy old (m ∷ []) new
 TookOf access old NoneYet new = GoesOnBy old [] new × WaitsForMore new

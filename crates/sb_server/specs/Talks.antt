@@ -145,6 +145,7 @@ abbrev pub TurnsTo : (ℕ → Type 0) → Start → Here → Option Ending → T
 TurnsTo IsReading s h None = Talks IsReading s h Goes
 TurnsTo IsReading s h (Some ending) = Ends IsReading s h ending
 
+-- one request more, of a connection whatever it began with
 abbrev pub Turns : (ℕ → Type 0) → Access → Here → Option Ending → Here → Type 0
 Turns IsReading access old ending new = (s : Start) → s.access ≡ access → Talks IsReading s old Goes → TurnsTo IsReading s new ending
 

@@ -51,6 +51,7 @@ AreEmpty end (r ∷ rs) = (is_empty r.answer ≡ true) × (r.reading < end) × A
 abbrev pub AreRead : (ℕ → Type 0) → List Round → Type 0
 AreRead IsReading rs = Each (λ r. IsReading r.reading) rs
 
+-- the reading of the first call
 abbrev pub first_reading : List Round → Round → ℕ
 first_reading [] last = last.reading
 first_reading (r ∷ rs) last = r.reading

@@ -25,9 +25,11 @@ serve_with options = codes "serve" ∷ codes "--data=a" ∷ codes "--port=80" �
 abbrev pub client_with : Text → List Text
 client_with option = codes "client" ∷ codes "--port=80" ∷ option ∷ []
 
+-- the words of a run with this option
 abbrev pub run_with : Text → List Text
 run_with option = codes "run" ∷ codes "--data=a" ∷ option ∷ []
 
+-- the words of a check with this option
 abbrev pub check_with : Text → List Text
 check_with option = codes "check" ∷ codes "--data=a" ∷ option ∷ []
 
@@ -47,6 +49,7 @@ others = (run_with (codes "--max-jump=7"), record (over Run (codes "a")) { max_j
     ∷ (client_with (codes "--key=k"), record (with_port 80) { key_file = codes "k" }) ∷ (client_with (codes "--patience=7200"), record (with_port 80) { patience = 7200 })
     ∷ (client_with (codes "--patience=1"), record (with_port 80) { patience = 1 }) ∷ []
 
+-- words that are no form
 abbrev pub no_forms : List (List Text)
 no_forms = [] ∷ (codes "serve" ∷ []) ∷ (codes "run" ∷ []) ∷ (codes "run" ∷ codes "--data" ∷ []) ∷ (codes "--data=a" ∷ codes "run" ∷ [])
     ∷ (codes "run" ∷ codes "--data=a" ∷ codes "--data" ∷ codes "b" ∷ []) ∷ (codes "run" ∷ codes "--data" ∷ codes "--data" ∷ [])
@@ -73,5 +76,6 @@ abbrev pub no_others : List (List Text)
 no_others = run_with (codes "--max-jump=100001") ∷ run_with (codes "--max-jump=07") ∷ run_with (codes "--look") ∷ run_with (codes "--host=a") ∷ check_with (codes "--look=true") ∷ check_with (codes "--max-jump=1")
     ∷ (codes "check" ∷ codes "--look" ∷ codes "--data=a" ∷ codes "--look" ∷ []) ∷ client_with (codes "--key=") ∷ client_with (codes "--patience=0") ∷ client_with (codes "--patience=7201") ∷ client_with (codes "--patience=012") ∷ client_with (codes "--host=a") ∷ []
 
+-- no form for each
 abbrev pub nones : List (List Text) → List (Option Form)
 nones = map (λ (words : List Text). None)

@@ -37,12 +37,15 @@ flag_option name = record (new_rule name) { long = Some name; action = Some SetT
 abbrev pub bus : App
 bus = on_top (λ s. record s { no_binary_name = true; has_version = true; subcommand_required = true }) (new_app (codes "bus"))
 
+-- `run`, over a folder
 abbrev pub run_command : Shape
 run_command = (with_rule (with_rule (new_app (codes "run")) data_option) (value_option (codes "max-jump"))).top
 
+-- `check`, over a folder
 abbrev pub check_command : Shape
 check_command = (with_rule (with_rule (new_app (codes "check")) data_option) (flag_option (codes "look"))).top
 
+-- `client`, with a server
 abbrev pub client_command : Shape
 client_command = (with_rule (with_rule (with_rule (new_app (codes "client")) port_option) (value_option (codes "key"))) (value_option (codes "patience"))).top
 
@@ -50,6 +53,7 @@ client_command = (with_rule (with_rule (with_rule (new_app (codes "client")) por
 abbrev pub plain_server : App
 plain_server = with_rule (with_rule (with_rule (with_rule (new_app (codes "serve")) data_option) port_option) (value_option (codes "workers"))) (value_option (codes "connections"))
 
+-- `serve`, with all its options
 abbrev pub serve_command : Shape
 serve_command = (with_rule (with_rule (with_rule plain_server (value_option (codes "max-jump"))) (list_option (codes "host"))) (value_option (codes "key"))).top
 
@@ -115,6 +119,7 @@ command_named word = if bytes_eq word (codes "run") then Some Run
 
 -- ---- the values of the options
 
+-- a number that is written with a 0 in front
 abbrev pub begins_with_zero : Text → Bool
 begins_with_zero [] = false
 begins_with_zero (b ∷ bs) = b == 48
@@ -165,6 +170,7 @@ is_host name = nat_le 1 (length name) && nat_le (length name) 255 && list_all is
 abbrev pub are_hosts : List Text → Bool
 are_hosts names = nat_le (length names) 8 && list_all is_host names
 
+-- the names, if all are names
 abbrev pub hosts_by : Option (List Text) → Option (List Text)
 hosts_by None = Some []
 hosts_by (Some names) = if are_hosts names then Some names else None
@@ -182,14 +188,17 @@ look_by (Some word) = bytes_eq word (codes "true")
 
 -- ---- the forms of the commands
 
+-- a run, where both values are there
 abbrev pub run_at : Option Text → Option ℕ → Option Form
 run_at (Some folder) (Some max_jump) = Some (record (form_of Run) { folder = folder; max_jump = max_jump })
 run_at _ _ = None
 
+-- a check, where the folder is there
 abbrev pub check_at : Option Text → Bool → Option Form
 check_at None look = None
 check_at (Some folder) look = Some (record (form_of Check) { folder = folder; look = look })
 
+-- a client, where all values are there
 abbrev pub client_at : Option ℕ → Option Text → Option ℕ → Option Form
 client_at (Some port) (Some key_file) (Some patience) = Some (record (form_of Client) { port = port; key_file = key_file; patience = patience })
 client_at _ _ _ = None
@@ -204,18 +213,23 @@ abbrev pub open_server_at : Option Text → (port workers connections max_jump :
 open_server_at (Some folder) (Some port) (Some workers) (Some connections) (Some max_jump) = Some (record (form_of Serve) { folder = folder; port = port; workers = workers; connections = connections; max_jump = max_jump })
 open_server_at _ _ _ _ _ = None
 
+-- a run by what was found for its options
 abbrev pub run_in : List Row → Option Form
 run_in rows = run_at (first_of (codes "data") rows) (max_jump_by 0 (first_of (codes "max-jump") rows))
 
+-- a check by what was found for its options
 abbrev pub check_in : List Row → Option Form
 check_in rows = check_at (first_of (codes "data") rows) (look_by (first_of (codes "look") rows))
 
+-- a client by what was found for its options
 abbrev pub client_in : List Row → Option Form
 client_in rows = client_at (port_by (first_of (codes "port") rows)) (key_by (first_of (codes "key") rows)) (patience_by (first_of (codes "patience") rows))
 
+-- a server that anybody may call, by what was found for its options
 abbrev pub open_server_in : List Row → Option Form
 open_server_in rows = open_server_at (first_of (codes "data") rows) (port_by (first_of (codes "port") rows)) (workers_by (first_of (codes "workers") rows)) (connections_by (first_of (codes "connections") rows)) (max_jump_by 400 (first_of (codes "max-jump") rows))
 
+-- a server by what was found for its options
 abbrev pub serve_in : List Row → Option Form
 serve_in rows = with_callers (open_server_in rows) (hosts_by (all_of (codes "host") rows)) (key_by (first_of (codes "key") rows))
 
@@ -254,6 +268,7 @@ connections_of (Some form) = form.connections
 abbrev pub connections_in : List Text → ℕ
 connections_in words = connections_of (form_in words)
 
+-- the days of a form, if there is one
 abbrev pub max_jump_of : Option Form → ℕ
 max_jump_of None = 0
 max_jump_of (Some form) = form.max_jump
@@ -262,6 +277,7 @@ max_jump_of (Some form) = form.max_jump
 abbrev pub max_jump_in : List Text → ℕ
 max_jump_in words = max_jump_of (form_in words)
 
+-- whether a form is a look, if there is one
 abbrev pub look_of : Option Form → Bool
 look_of None = false
 look_of (Some form) = form.look
