@@ -3,6 +3,7 @@ use sb_app::{Notice, Watcher};
 
 /// Writes a line on standard error for each notice but that of the end; a line that can't be written is
 /// lost.
+#[derive(Drop)]
 pub struct Printing<'r> {
     rt: &'r HostRuntime,
 }

@@ -103,5 +103,5 @@ returns-in-Err-hold_server g c input =
     let far = subst (λ (m : ℕ). IsOvertaken (g.C.Clock.reads c.args.clock.now) c.args.max_jump m jump) moment c.in-Err-hold_server.ensures.err in
     let told = subst (λ o. IsJumpStatus jump (output_of g.K.Sink o) output status) c.in-Ok-open_node.ensures.unsaid c.jump_status-status.ensures in
     let over = jumped_call (g.C.Clock.reads c.args.clock.now) c.args.max_jump works g.R.Door.count (IsKept node) c.args.salt was (node_disks node) output doors (node_state node) jump status c.in-Ok-open_node.ensures.opened (kept_recovers node c.args.salt) far told in
-    subst (λ a. IsServeCall (g.C.Clock.reads c.args.clock.now) c.args.max_jump works g.R.Door.count c.args.salt was (record was { output = output; disks = disks_of g.D.Disk a c.close-disk_a-in-Err-hold_server.result.1 }) doors doors status) (sym c.close-disk_a-in-Err-hold_server.ensures.disk_a)
-    (subst (λ b. IsServeCall (g.C.Clock.reads c.args.clock.now) c.args.max_jump works g.R.Door.count c.args.salt was (record was { output = output; disks = disks_of g.D.Disk (node_disk_a node) b }) doors doors status) (sym c.close-disk_a-in-Err-hold_server.ensures.disk_b) over)
+    subst (λ a. IsServeCall (g.C.Clock.reads c.args.clock.now) c.args.max_jump works g.R.Door.count c.args.salt was (record was { output = output; disks = disks_of g.D.Disk a c.close-disk_a.result.1 }) doors doors status) (sym c.close-disk_a.ensures.disk_a)
+    (subst (λ b. IsServeCall (g.C.Clock.reads c.args.clock.now) c.args.max_jump works g.R.Door.count c.args.salt was (record was { output = output; disks = disks_of g.D.Disk (node_disk_a node) b }) doors doors status) (sym c.close-disk_a.ensures.disk_b) over)
