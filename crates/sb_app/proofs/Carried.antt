@@ -246,7 +246,7 @@ complete_by clock days Safe salt was now ready start state status same runs free
     not_far : IsCutRun clock days Safe start (opened was ready) now state TimeJump → ⊥
     not_far run =
         let jump = run.jump refl in
-        let other : true ≡ false = sym jump.far ∙ free.calm run.lines jump.asked jump.reading jump.next jump.read in
+        let other : true ≡ false = sym jump.far ∙ free.calm run.lines jump.asked jump.form jump.reading jump.next jump.read in
         absurd cc
 
     by_end : (end : RunEnd) → status ≡ status_of_end end → IsComplete status

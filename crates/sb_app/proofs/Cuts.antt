@@ -293,7 +293,7 @@ pub cut_before : (clock : ℕ → Type 0) (days : ℕ) (Safe : Type 0) (s state 
     → (Safe → FollowLines s (script_lines so_far.done) was.disks now.disks) → AllWithin clock days (script_lines so_far.done) → IsCutRun clock days Safe s was now state TimeJump
 cut_before clock days Safe s state was on now r next refused partial x jump so_far reads says far told same moments within =
     let adv = advances so_far.input so_far.done (pending_of r) reads.more reads.line next so_far.split so_far.whole reads.no_feed reads.next in
-    let all : script_lines adv.next ≡ script_lines so_far.done ++ Request far.asked ∷ [] = said_push so_far.done adv.next reads.line adv.says ∙ ap (λ y. script_lines so_far.done ++ y ∷ []) (sym says ∙ far.is) in
+    let all : script_lines adv.next ≡ script_lines so_far.done ++ Request far.asked far.form ∷ [] = said_push so_far.done adv.next reads.line adv.says ∙ ap (λ y. script_lines so_far.done ++ y ∷ []) (sym says ∙ far.is) in
     let none = sym (append-nil (script_lines so_far.done)) in
     record {
       lines = script_lines so_far.done;
@@ -307,6 +307,7 @@ cut_before clock days Safe s state was on now r next refused partial x jump so_f
       ends = tt;
       jump = λ e. record {
         asked = far.asked;
+        form = far.form;
         next = subst (AreFirst was.input.left) all (first_lines was.input.left now.input.left (so_far.input ++ reads.more) adv.next next reads.at adv.split adv.goes);
         reading = jump.reading;
         read = far.read;

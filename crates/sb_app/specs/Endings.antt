@@ -127,7 +127,8 @@ AreFirst (Some left) lines = (more : List ScriptLine) × (script_lines left ≡ 
 -- was written, and the call wasn't made.
 pub record IsTimeJump (reads : ℕ → Type 0) (days : ℕ) (left : Option (List ℕ)) (lines : List ScriptLine) (part : List ℕ) (before now : ℕ) : Type 0 where
   pub asked : TimedCall
-  pub next : AreFirst left (lines ++ Request asked ∷ [])
+  pub form : Form
+  pub next : AreFirst left (lines ++ Request asked form ∷ [])
   pub reading : ℕ
   pub read : reads reading
   pub far : is_far_ahead days reading asked.reading ≡ true

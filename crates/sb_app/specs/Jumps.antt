@@ -24,7 +24,7 @@ jump_line moment reading = codes "{\"moment\":" ++ (decimal moment ++ (codes ",\
 abbrev pub IsWithin : (reads : ℕ → Type 0) → (days : ℕ) → ScriptLine → Type 0
 IsWithin reads days Blank = Unit {0}
 IsWithin reads days (Malformed key) = Unit {0}
-IsWithin reads days (Request a) = (reading : ℕ) × reads reading × (is_far_ahead days reading a.reading ≡ false)
+IsWithin reads days (Request a form) = (reading : ℕ) × reads reading × (is_far_ahead days reading a.reading ≡ false)
 
 -- each of these lines
 abbrev pub AllWithin : (reads : ℕ → Type 0) → (days : ℕ) → List ScriptLine → Type 0

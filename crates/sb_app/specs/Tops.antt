@@ -2,6 +2,7 @@
 use Rattle.std.specs.Prelude.{◌≡◌, ◌≢◌, ◌⊎◌, ◌<◌, ℕ, List, [], ◌∷◌, ◌++◌, length, Bool, false, codes, Option, Some, None, IsSome}
 use Rattle.std.specs.Fmt.{decimal}
 use Rattle.sb_outside.specs.Causes.{Rose, RoseByOne}
+use Rattle.sb_lines.specs.declared.form.Form.{Form}
 use Rattle.sb_outside.specs.Streams.{Gains}
 use Rattle.sb_machine.specs.Consistent.{IsConsistent}
 use Rattle.sb_machine.specs.History.{IsLegal, IsFaultless, state_after}
@@ -155,7 +156,7 @@ IsShort (Some left) = length left < max_input
 
 -- no line of this input is too far ahead of anything that the clock may read; with 0 days none is
 abbrev pub IsCalm : (reads : ℕ → Type 0) → (days : ℕ) → Option (List ℕ) → Type 0
-IsCalm reads days left = (lines : List ScriptLine) (asked : TimedCall) (reading : ℕ) → AreFirst left (lines ++ Request asked ∷ []) → reads reading → is_far_ahead days reading asked.reading ≡ false
+IsCalm reads days left = (lines : List ScriptLine) (asked : TimedCall) (form : Form) (reading : ℕ) → AreFirst left (lines ++ Request asked form ∷ []) → reads reading → is_far_ahead days reading asked.reading ≡ false
 
 -- all that makes a run take its whole input, but for memory
 pub record IsFree (reads : ℕ → Type 0) (days salt : ℕ) (was now : Outside) : Type 0 where

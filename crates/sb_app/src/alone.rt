@@ -63,7 +63,7 @@ pub fn carry_out<D: Disk, C: Clock, S: Source, K: Sink, N: Link>(
     };
     match task {
         Task::Run => run_over(alloc, disk_a, disk_b, salt, clock, max_jump, input, output),
-        Task::Check => check_over(alloc, disk_a, disk_b, salt, clock, input, output),
+        Task::Check => check_over(alloc, disk_a, disk_b, salt, clock, max_jump, input, output),
         Task::Look => look_over(alloc, disk_a, disk_b, salt, input, output),
         Task::Client => {
             let status = client_status(alloc, key, link, input, output);
@@ -95,17 +95,18 @@ fn run_over<D: Disk, C: Clock, S: Source, K: Sink>(
     (status, disk_a, disk_b)
 }
 
-// A check of the namespace of these disks; nothing is read of the input.
+// A check of the namespace of these disks; nothing is read of the input, nor of the clock.
 fn check_over<D: Disk, C: Clock, S: Source, K: Sink>(
     alloc: Global,
     disk_a: D,
     disk_b: D,
     salt: u64,
     clock: &C,
+    max_jump: u32,
     input: &S,
     output: &mut K,
 ) -> (u8, D, D)
-    ensures done { (days : ℕ) → IsCarriedOut (C.reads clock.now) days (Some Check) salt (outside_of D.Disk S.Source K.Sink disk_a disk_b input.now output.old) (outside_of D.Disk S.Source K.Sink result.1 result.2 input.now output.new) result.0 }
+    ensures done { IsCarriedOut (C.reads clock.now) max_jump (Some Check) salt (outside_of D.Disk S.Source K.Sink disk_a disk_b input.now output.old) (outside_of D.Disk S.Source K.Sink result.1 result.2 input.now output.new) result.0 }
     ensures disk_b { result.2 ≡ disk_b }
 {
     let node = match open_node(alloc, disk_a, disk_b, salt, output) {

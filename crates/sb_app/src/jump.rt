@@ -33,7 +33,7 @@ pub fn hold_line<C: Clock>(clock: &C, days: u32, line: &ScriptLine) -> Result<()
 {
     match line {
         ScriptLine::Blank | ScriptLine::Malformed(_) => Ok(()),
-        ScriptLine::Request(asked) => hold_moment(clock, days, asked.reading),
+        ScriptLine::Request(asked, _) => hold_moment(clock, days, asked.reading),
     }
 }
 

@@ -1,5 +1,5 @@
 // The program over whatever disks, streams, clock, doors and link it is handed.
-ghost use Rattle.std.specs.Prelude.{◌≡◌, ◌≢◌, map, None, Some, IfSome, IsSome};
+ghost use Rattle.std.specs.Prelude.{◌≡◌, ◌≢◌, [], map, None, Some, IfSome, IsSome};
 ghost use Rattle.sb_words.specs.Words.{command_in, connections_in, max_jump_in};
 ghost use Rattle.sb_words.specs.declared.command.Command.TheVariants.{Client, Serve};
 ghost use Rattle.sb_server.specs.Serves.{Working};

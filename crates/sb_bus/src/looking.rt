@@ -31,8 +31,8 @@ pub(crate) fn over_files<T: Threads + Wait + Sync>(call: &Call<T>, folder: &str)
 }
 
 // Whether this is an error for want of memory.
-fn wants_memory<T>(result: &io::Result<T>) -> bool {
-    match result {
+fn wants_memory<T>(found: &io::Result<T>) -> bool {
+    match found {
         Ok(_) => false,
         Err(error) => error.kind() == ErrorKind::OutOfMemory,
     }

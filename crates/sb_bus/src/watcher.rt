@@ -1,8 +1,9 @@
 // Telling an operator on standard error what a server comes to.
 use sb_app::{Notice, Watcher};
 
-/// Writes a line on standard error for each notice, but of an end at another status than 0 none; a line
-/// that can't be written is lost.
+/// Writes a line on standard error for each notice but that of the end; a line that can't be written is
+/// lost.
+#[derive(Drop)]
 pub struct Printing<'r> {
     rt: &'r HostRuntime,
 }
@@ -30,8 +31,7 @@ impl Watcher for Printing<'_> {
                     "bus: the namespace's time, {moment_ms} ms, is {ahead_ms} ms ahead of the clock, {reading_ms} ms; it stands still until the clock has caught up"
                 )
             }
-            Notice::Ended { status: 0 } => eprintln!(rt; "bus: all workers have ended"),
-            // Of each other status the line of that status tells.
+            // `outside` says how a server ended.
             Notice::Ended { .. } => Ok(()),
         };
     }

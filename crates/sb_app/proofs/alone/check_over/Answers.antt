@@ -11,19 +11,19 @@ use Rattle.sb_app.proofs.Carried.{not_opened, check_over}
 use Rattle.sb_app.proofs.alone.check_over.Goals as goal
 
 pub returns-in-Err-clause-done : goal.returns-in-Err-clause-done
-returns-in-Err-clause-done g c days =
+returns-in-Err-clause-done g c =
     let was = outside_of g.D.Disk g.S.Source g.K.Sink c.args.disk_a c.args.disk_b c.args.input.now c.args.output.now in
     let failed = c.in-Err.failed in
     let fails = c.in-Err.ensures.failed in
-    not_opened (g.C.Clock.reads c.args.clock.now) days Check c.args.salt was (disks_of g.D.Disk failed.1 failed.2) (output_of g.K.Sink c.open_node.new.output) fails.0 failed.0 fails.1
+    not_opened (g.C.Clock.reads c.args.clock.now) c.args.max_jump Check c.args.salt was (disks_of g.D.Disk failed.1 failed.2) (output_of g.K.Sink c.open_node.new.output) fails.0 failed.0 fails.1
 
 pub returns-clause-done : goal.returns-clause-done
-returns-clause-done g c days =
+returns-clause-done g c =
     let was = outside_of g.D.Disk g.S.Source g.K.Sink c.args.disk_a c.args.disk_b c.args.input.now c.args.output.now in
     let node = c.in-Ok.node in
     let output = c.check_status-status.new.output in
     let status = c.check_status-status.result in
     let told = subst (λ o. IsLineTold (check_line (summary_of (node_state node) (node_last node))) (output_of g.K.Sink o) (output_of g.K.Sink output) status) c.in-Ok.ensures.unsaid c.check_status-status.ensures in
-    let over = check_over (g.C.Clock.reads c.args.clock.now) days (IsKept node) c.args.salt (node_last node) was (node_disks node) (output_of g.K.Sink output) (node_state node) status c.in-Ok.ensures.opened (kept_numbers node c.args.salt) told in
-    subst (λ a. IsCarriedOut (g.C.Clock.reads c.args.clock.now) days (Some Check) c.args.salt was (outside_of g.D.Disk g.S.Source g.K.Sink a c.close-disk_a.result.1 c.args.input.now output) status) (sym c.close-disk_a.ensures.disk_a)
-    (subst (λ b. IsCarriedOut (g.C.Clock.reads c.args.clock.now) days (Some Check) c.args.salt was (outside_of g.D.Disk g.S.Source g.K.Sink (node_disk_a node) b c.args.input.now output) status) (sym c.close-disk_a.ensures.disk_b) over)
+    let over = check_over (g.C.Clock.reads c.args.clock.now) c.args.max_jump (IsKept node) c.args.salt (node_last node) was (node_disks node) (output_of g.K.Sink output) (node_state node) status c.in-Ok.ensures.opened (kept_numbers node c.args.salt) told in
+    subst (λ a. IsCarriedOut (g.C.Clock.reads c.args.clock.now) c.args.max_jump (Some Check) c.args.salt was (outside_of g.D.Disk g.S.Source g.K.Sink a c.close-disk_a.result.1 c.args.input.now output) status) (sym c.close-disk_a.ensures.disk_a)
+    (subst (λ b. IsCarriedOut (g.C.Clock.reads c.args.clock.now) c.args.max_jump (Some Check) c.args.salt was (outside_of g.D.Disk g.S.Source g.K.Sink (node_disk_a node) b c.args.input.now output) status) (sym c.close-disk_a.ensures.disk_b) over)

@@ -4,6 +4,7 @@ use Rattle.sb_app.specs.Nodes.{outside_with}
 use Rattle.sb_app.specs.declared.ending.RunEnd.{RunEnd}
 use Rattle.sb_app.specs.declared.ending.RunEnd.TheVariants.{DiskFault}
 use Rattle.sb_app.specs.Endings.{IsCutRun, status_of_end}
+use Rattle.sb_input.proofs.Errors.{same_error}
 use Rattle.sb_app.proofs.Statuses.{named_end, same_end}
 use Rattle.sb_app.proofs.alone.run_status.Goals as goal
 
@@ -18,3 +19,6 @@ returns-in-Err-clause-read_quiet g c other = c.in-Err.ensures.read_quiet (λ is.
 
 pub returns-in-Err-clause-disk_fault : goal.returns-in-Err-clause-disk_fault
 returns-in-Err-clause-disk_fault g c five = c.in-Err.ensures.disk_fault (same_end c.in-Err.end DiskFault (sym c.status_of.ensures ∙ five))
+
+pub returns-in-Err-clause-kept : goal.returns-in-Err-clause-kept
+returns-in-Err-clause-kept g c safe other = c.in-Err.ensures.kept safe (λ is. other (c.status_of.ensures ∙ ap status_of_end (same_error _ _ is)))

@@ -1,11 +1,11 @@
-use Rattle.std.proofs.Common.{List, ℕ, map, subst}
+use Rattle.std.proofs.Common.{List, ℕ, map, refl, subst}
 use Rattle.sb_words.specs.Words.{connections_in, max_jump_in}
 use Rattle.sb_server.specs.Serves.{Working}
 use Rattle.sb_server.specs.Works.{ServesBy}
 use Rattle.sb_app.specs.Calls.{task_in}
 use Rattle.sb_app.specs.Outside.{input_of, outside_of}
 use Rattle.sb_app.specs.Servings.{IsServeCall}
-use Rattle.sb_app.proofs.Calls.{days_in, most_in, other_task, unnamed}
+use Rattle.sb_app.proofs.Calls.{client_task, days_in, most_in, other_task, unnamed}
 use Rattle.sb_app.proofs.Servings.{no_two_serve, unread_serve}
 use Rattle.sb_app.proofs.program.top.Goals as goal
 
@@ -18,6 +18,11 @@ pub returns-in-Err-clause-link : goal.returns-in-Err-clause-link
 returns-in-Err-clause-link g c other =
     let words : List (List ℕ) = map (λ w. w.now) c.args.words.now in
     c.carry_out-status.ensures.link (task_in words) (max_jump_in words) (unnamed words (max_jump_in words) c.in-Err.fault c.in-Err.ensures.bad) (other_task words other)
+
+pub returns-in-Err-clause-client_alone : goal.returns-in-Err-clause-client_alone
+returns-in-Err-clause-client_alone g c is =
+    let words : List (List ℕ) = map (λ w. w.now) c.args.words.now in
+    rw (c.carry_out-status.ensures.client_alone (task_in words) (max_jump_in words) (unnamed words (max_jump_in words) c.in-Err.fault c.in-Err.ensures.bad) (client_task words is), c.carry_out-status.ensures.disk_b) refl
 
 pub returns-in-Err-clause-input : goal.returns-in-Err-clause-input
 returns-in-Err-clause-input g c serves = c.carry_out-status.ensures.unread

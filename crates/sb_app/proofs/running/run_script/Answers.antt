@@ -10,7 +10,7 @@ use Rattle.sb_app.specs.Jumps.{AllWithin}
 use Rattle.sb_app.specs.Lines.{script_lines}
 use Rattle.sb_app.specs.Taking.{IsTaken, end_of_reading}
 use Rattle.sb_input.specs.Readers.{Reads, pending_of}
-use Rattle.sb_app.specs.Endings.{IsBetween}
+use Rattle.sb_app.specs.Endings.{IsBetween, IsCutRun}
 use Rattle.sb_input.proofs.Errors.{passed_on, passes_on, same_error}
 use Rattle.sb_app.proofs.Faults.{quiet_on, failed_on, honest_on}
 use Rattle.sb_input.proofs.Readings.{line_ahead}
@@ -95,6 +95,18 @@ returns-in_default-parse_line-clause-cut g c =
     let reads = subst (λ (o : Option PartialLine). Reads o start so_far.input (pending_of c.lines.reader) left c.next_line.new.self) c.in-Ok-Some.field-0-is (c.in-Ok-Some.ensures.reads start so_far.input so_far.at) in
     let taken = taken_behind was.input now.input so_far.done (pending_of c.lines.reader) so_far.input reads.more OutOfMemory so_far.split reads.at.took (line_ahead _ reads.line c.next_line.new.self reads.no_feed reads.next) in
     cut_between (g.C.Clock.reads c.args.clock.now) c.args.max_jump (IsKept c.args.node.now) (node_state c.args.node.now) (node_state c.lines.node) was now (g.S.Source.left c.lines.input) c.lines.reader c.lines.refused OutOfMemory so_far c.lines.invariant.moments c.lines.invariant.within (refl, c.lines.invariant.write_same) (λ e. absurd cc) taken (λ e. absurd cc)
+
+pub returns-in_default-tell_jump-clause-cut : goal.returns-in_default-tell_jump-clause-cut
+returns-in_default-tell_jump-clause-cut g c =
+    let so_far = c.lines.invariant.so_far in
+    let start = g.S.Source.left c.args.input.now in
+    let left = g.S.Source.left c.next_line.new.source in
+    let was = outside_with g.S.Source g.K.Sink c.args.node.now c.args.input.now c.args.output.now in
+    let now = outside_with g.S.Source g.K.Sink c.lines.node c.next_line.new.source c.lines.output in
+    let reads = subst (λ (o : Option PartialLine). Reads o start so_far.input (pending_of c.lines.reader) left c.next_line.new.self) c.in-Ok-Some.field-0-is (c.in-Ok-Some.ensures.reads start so_far.input so_far.at) in
+    let taken = taken_behind was.input now.input so_far.done (pending_of c.lines.reader) so_far.input reads.more OutOfMemory so_far.split reads.at.took (line_ahead _ reads.line c.next_line.new.self reads.no_feed reads.next) in
+    subst (λ o. IsCutRun (g.C.Clock.reads c.args.clock.now) c.args.max_jump (IsKept c.args.node.now) (node_state c.args.node.now) was (outside_with g.S.Source g.K.Sink c.lines.node c.next_line.new.source o) (node_state c.lines.node) OutOfMemory) (sym c.in_default-tell_jump.ensures.err)
+    (cut_between (g.C.Clock.reads c.args.clock.now) c.args.max_jump (IsKept c.args.node.now) (node_state c.args.node.now) (node_state c.lines.node) was now (g.S.Source.left c.lines.input) c.lines.reader c.lines.refused OutOfMemory so_far c.lines.invariant.moments c.lines.invariant.within (refl, c.lines.invariant.write_same) (λ e. absurd cc) taken (λ e. absurd cc))
 
 pub returns-in_err-was_refused-clause-cut : goal.returns-in_err-was_refused-clause-cut
 returns-in_err-was_refused-clause-cut g c =

@@ -93,7 +93,7 @@ returns g c input =
 pub returns-in-Err-hold_server : goal.returns-in-Err-hold_server
 returns-in-Err-hold_server g c input =
     let was : Outside = record { input = input; output = output_of g.K.Sink c.args.output.now; disks = disks_of g.D.Disk c.args.disk_a c.args.disk_b } in
-    let works : Open → Worker g.row.R.Denot → Type 0 = λ desk. Working (ServesBy g.R.Conn.Conn.left g.R.Conn.Conn.given g.R.Conn.Conn.reads g.R.Conn.Conn.writes) g.R.Door.left g.R.Door.taken g.R.Door.ended g.R.Door.count g.R.Door.out desk c.args.most in
+    let works : Open → Worker g.row.R.Denot → Type 0 = λ desk. Working (ServesBy (g.C.Clock.reads c.args.clock.now) c.args.access.now g.R.Conn.Conn.left g.R.Conn.Conn.given g.R.Conn.Conn.reads g.R.Conn.Conn.writes) g.R.Door.left g.R.Door.taken g.R.Door.ended g.R.Door.count g.R.Door.out desk c.args.most in
     let doors = c.args.doors.now.items in
     let node = c.in-Ok-open_node.node in
     let output = output_of g.K.Sink c.jump_status-status.new.output in
@@ -103,5 +103,5 @@ returns-in-Err-hold_server g c input =
     let far = subst (λ (m : ℕ). IsOvertaken (g.C.Clock.reads c.args.clock.now) c.args.max_jump m jump) moment c.in-Err-hold_server.ensures.err in
     let told = subst (λ o. IsJumpStatus jump (output_of g.K.Sink o) output status) c.in-Ok-open_node.ensures.unsaid c.jump_status-status.ensures in
     let over = jumped_call (g.C.Clock.reads c.args.clock.now) c.args.max_jump works g.R.Door.count (IsKept node) c.args.salt was (node_disks node) output doors (node_state node) jump status c.in-Ok-open_node.ensures.opened (kept_recovers node c.args.salt) far told in
-    subst (λ a. IsServeCall (g.C.Clock.reads c.args.clock.now) c.args.max_jump works g.R.Door.count c.args.salt was (record was { output = output; disks = disks_of g.D.Disk a c.close-disk_a-in-Err-hold_server.result.1 }) doors doors status) (sym c.close-disk_a-in-Err-hold_server.ensures.disk_a)
-    (subst (λ b. IsServeCall (g.C.Clock.reads c.args.clock.now) c.args.max_jump works g.R.Door.count c.args.salt was (record was { output = output; disks = disks_of g.D.Disk (node_disk_a node) b }) doors doors status) (sym c.close-disk_a-in-Err-hold_server.ensures.disk_b) over)
+    subst (λ a. IsServeCall (g.C.Clock.reads c.args.clock.now) c.args.max_jump works g.R.Door.count c.args.salt was (record was { output = output; disks = disks_of g.D.Disk a c.close-disk_a.result.1 }) doors doors status) (sym c.close-disk_a.ensures.disk_a)
+    (subst (λ b. IsServeCall (g.C.Clock.reads c.args.clock.now) c.args.max_jump works g.R.Door.count c.args.salt was (record was { output = output; disks = disks_of g.D.Disk (node_disk_a node) b }) doors doors status) (sym c.close-disk_a.ensures.disk_b) over)
