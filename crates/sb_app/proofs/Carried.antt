@@ -98,7 +98,7 @@ unread_alone clock days task salt was = record {
   write_quiet = λ refused is. refl;
   disk_fault = λ five. absurd cc;
   disk_quiet = λ other. (refl, refl);
-  complete = λ some honest free. inr refl;
+  complete = λ some honest free. inl (inr refl);
   honesty = (refl, refl);
 }
 
@@ -143,12 +143,12 @@ refused_by salt was disks output (Damaged side place) broken untouched rests rep
 refused_by salt was disks output FailedDisk broken untouched rests reported = absurd reported
 refused_by salt was disks output NoMemory broken untouched rests reported = absurd reported
 
-complete_unopened : (clock : ℕ → Type 0) (days salt : ℕ) (was : Outside) (disks : Disks) (output : Output) (why : OpenWhy) (status : ℕ) → IsFailed salt was.disks disks was.output output why status → AreHonest was.disks → IsFree clock days salt was (record was { output = output; disks = disks }) → IsFailedStatus status → IsComplete status
-complete_unopened clock days salt was disks output why status fails honest free (inl five) = absurd (free.disk_quiet (fails.cause (fails.failed five)))
-complete_unopened clock days salt was disks output why status fails honest free (inr (inl six)) =
+complete_unopened : (salt : ℕ) (was : Outside) (disks : Disks) (output : Output) (why : OpenWhy) (status : ℕ) → IsFailed salt was.disks disks was.output output why status → AreHonest was.disks → IsFree salt was (record was { output = output; disks = disks }) → IsFailedStatus status → IsComplete status
+complete_unopened salt was disks output why status fails honest free (inl five) = absurd (free.disk_quiet (fails.cause (fails.failed five)))
+complete_unopened salt was disks output why status fails honest free (inr (inl six)) =
     let refused = refused_by salt was disks output why fails.broken fails.untouched fails.rests (fails.damage six) in
     absurd (free.sound (refused.side, refused.place, refused.broken honest))
-complete_unopened clock days salt was disks output why status fails honest free (inr (inr seven)) = inr seven
+complete_unopened salt was disks output why status fails honest free (inr (inr seven)) = inr seven
 
 known_unopened : (n : ℕ) → IsFailedStatus n → IsStatus n
 known_unopened n (inl five) = inl (inr (DiskFault, five))
@@ -184,7 +184,7 @@ not_opened clock days task salt was disks output why status fails =
       write_quiet = λ refused is. no_whole_above status refused _ range.0 is;
       disk_fault = λ five. fails.cause (fails.failed five);
       disk_quiet = λ other. fails.quiet (fails.other other);
-      complete = λ named honest free. complete_unopened clock days salt was disks output why status fails honest free fails.known;
+      complete = λ named honest free. inl (complete_unopened salt was disks output why status fails honest free fails.known);
       honesty = fails.honesty;
     }
 
@@ -240,25 +240,19 @@ pub rose_of : (before now : ℕ) → RoseByOne before now → Rose before now
 rose_of before now one = omega (arith, one)
 
 -- where nothing keeps a run from taking its input, all its lines are answered or memory is wanting
-complete_by : (clock : ℕ → Type 0) (days : ℕ) (Safe : Type 0) (salt : ℕ) (was now : Outside) (ready : Disks) (start state : State) (status : ℕ) → AreQuiet was.disks ready → IsEnded clock days Safe salt start (opened was ready) now state status → IsFree clock days salt was now → IsComplete status
+complete_by : (clock : ℕ → Type 0) (days : ℕ) (Safe : Type 0) (salt : ℕ) (was now : Outside) (ready : Disks) (start state : State) (status : ℕ) → AreQuiet was.disks ready → IsEnded clock days Safe salt start (opened was ready) now state status → IsFree salt was now → IsComplete status ⊎ (status ≡ 14)
 complete_by clock days Safe salt was now ready start state status same runs free = by_status runs.known
   where
-    not_far : IsCutRun clock days Safe start (opened was ready) now state TimeJump → ⊥
-    not_far run =
-        let jump = run.jump refl in
-        let other : true ≡ false = sym jump.far ∙ free.calm run.lines jump.asked jump.form jump.reading jump.next jump.read in
-        absurd cc
-
-    by_end : (end : RunEnd) → status ≡ status_of_end end → IsComplete status
+    by_end : (end : RunEnd) → status ≡ status_of_end end → IsComplete status ⊎ (status ≡ 14)
     by_end ReadFault is = absurd (free.input_quiet (rose_of _ _ (runs.read_fault is)))
     by_end WriteFault is = absurd (free.output_quiet (rose_of _ _ (write_cut clock days Safe start (opened was ready) now state (runs.cut WriteFault is))))
     by_end DiskFault is = absurd (free.disk_quiet (failed_on was.disks ready now.disks same (runs.disk_fault is)))
-    by_end OutOfMemory is = inr is
+    by_end OutOfMemory is = inl (inr is)
     by_end LongInput is = absurd (short_long was.input.left now.input.left free.short ((runs.cut LongInput is).long refl))
-    by_end TimeJump is = absurd (not_far (runs.cut TimeJump is))
+    by_end TimeJump is = inr is
 
-    by_status : IsRunStatus status → IsComplete status
-    by_status (inl whole) = inl whole
+    by_status : IsRunStatus status → IsComplete status ⊎ (status ≡ 14)
+    by_status (inl whole) = inl (inl whole)
     by_status (inr end) = by_end end.0 end.1
 
 pub run_over : (clock : ℕ → Type 0) (days : ℕ) (Safe : Type 0) (salt : ℕ) (was now : Outside) (ready : Disks) (start state : State) (status : ℕ) → IsOpened Safe salt was.disks ready start → IsEnded clock days Safe salt start (opened was ready) now state status → IsCarriedOut clock days (Some Run) salt was now status
@@ -353,6 +347,6 @@ check_over clock days Safe salt last was ready output start status opening kept 
       write_quiet = λ refused by. told_quiet line told.part was.output.faults output.faults status refused told.is by;
       disk_fault = λ five. absurd (none.2 five);
       disk_quiet = λ other. opening.quiet;
-      complete = λ named honest free. told_complete line told.part was.output.faults output.faults status told.is free.output_quiet;
+      complete = λ named honest free. inl (told_complete line told.part was.output.faults output.faults status told.is free.output_quiet);
       honesty = opening.honesty;
     }

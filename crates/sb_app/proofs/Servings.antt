@@ -1,5 +1,5 @@
 -- A server's call, on each of its ways.
-use Rattle.std.proofs.Common.{◌≡◌, ◌≢◌, ◌≤◌, ◌<◌, ◌⊎◌, inl, inr, ℕ, List, [], ◌∷◌, length, map, Bool, true, false, Option, Some, None, Err, refl, sym, ◌∙◌, ap, ap₂, subst, arith}
+use Rattle.std.proofs.Common.{◌≡◌, ◌≢◌, ◌≤◌, ◌<◌, ◌⊎◌, inl, inr, ℕ, List, [], ◌∷◌, length, map, Bool, true, false, Option, Some, None, Err, refl, sym, ◌∙◌, ap, ap₂, subst, ⊎_elim, arith}
 use Rattle.std.specs.Prelude.{if◌then◌else◌, is_some, ◌||◌}
 use Rattle.std.specs.List.{list_any}
 use Rattle.sb_outside.specs.Causes.{Rose}
@@ -61,7 +61,7 @@ unserved_at_once clock days Works count salt was doors = record {
   jump = λ jumped. absurd cc;
   door_fault = λ eight. absurd cc;
   door_quiet = λ other last. refl;
-  complete = λ honest free. inr refl;
+  complete = λ honest free. inr (inl refl);
   unread = refl;
   honesty = (refl, refl);
 }
@@ -126,7 +126,7 @@ failed_call {R} clock days Works count salt was disks output doors why status fa
       jump = λ jumped. absurd (omega (arith, seven, jumped));
       door_fault = λ eight. absurd (omega (arith, seven, eight));
       door_quiet = λ other last. refl;
-      complete = λ honest free. inr seven;
+      complete = λ honest free. inr (inl seven);
       unread = refl;
       honesty = fails.honesty;
     }
@@ -159,7 +159,7 @@ unserved_call clock days Works count Safe salt was ready doors start opening rec
   jump = λ jumped. absurd cc;
   door_fault = λ eight. absurd cc;
   door_quiet = λ other last. refl;
-  complete = λ honest free. inr refl;
+  complete = λ honest free. inr (inl refl);
   unread = refl;
   honesty = opening.honesty;
 }
@@ -195,15 +195,10 @@ jumped_call {R} clock days Works count Safe salt was ready output doors start ju
       jump = λ same. (refl, jumped);
       door_fault = λ eight. absurd (omega (arith, is, eight));
       door_quiet = λ other last. refl;
-      complete = λ honest free. absurd (not_calm jumped honest free);
+      complete = λ honest free. inr (inr is);
       unread = refl;
       honesty = opening.honesty;
     }
-  where
-    not_calm : HasJumped clock days salt was (record was { output = output; disks = ready }) → AreHonest was.disks → IsFreeServing clock days count salt was (record was { output = output; disks = ready }) doors doors → ⊥
-    not_calm jumped honest free =
-        let other : true ≡ false = sym jumped.far ∙ free.calm jumped.start jumped.reading (jumped.found honest) jumped.read in
-        absurd cc
 jumped_call clock days Works count Safe salt was ready output doors start jump status opening recovers far (inr (is, same)) =
     subst (λ (n : ℕ). IsServeCall clock days Works count salt was (record was { output = output; disks = ready }) doors doors n) (sym is)
     (subst (λ (o : Output). IsServeCall clock days Works count salt was (record was { output = o; disks = ready }) doors doors 7) (sym same) (unserved_call clock days Works count Safe salt was ready doors start opening recovers))
@@ -475,7 +470,7 @@ module _ {R : Type 0} (clock : ℕ → Type 0) (days : ℕ) (Works : Open → Wo
       stays_honest honest = still_honest ready now.disks closed.honesty (still_honest was.disks ready opening.honesty honest)
 
   free_serving : Tells (Works desk) count → AreQuiet was.disks ready → IsWorked Works h desk passes passes_now doors doors_now ending → IsClosed salt desk.start h ready now.disks stopped
-      → IsLineTold (report_line report) was.output now.output told → IsFreeServing clock days count salt was now doors doors_now → (serve_status stopped ending told ≡ 0) ⊎ (serve_status stopped ending told ≡ 7)
+      → IsLineTold (report_line report) was.output now.output told → IsFreeServing count salt was now doors doors_now → (serve_status stopped ending told ≡ 0) ⊎ (serve_status stopped ending told ≡ 7)
   free_serving tells quiet worked closed line free = by_end stopped ending told refl refl refl
     where
       by_told : IsToldStatus told → (told ≡ 0) ⊎ (told ≡ 7)
@@ -504,7 +499,7 @@ module _ {R : Type 0} (clock : ℕ → Type 0) (days : ℕ) (Works : Open → Wo
         jump = λ jumped. absurd (never_jumped stopped ending told known jumped);
         door_quiet = λ other last. doors_quiet (Works desk) count passes passes_now doors doors_now ending tells worked.serves (no_door_else stopped ending told other last);
         door_fault = λ eight. door_risen (Works desk) count passes passes_now doors doors_now ending tells worked.serves (door_at_eight stopped ending told known eight);
-        complete = λ honest free. free_serving tells opening.quiet worked closed line free;
+        complete = λ honest free. ⊎_elim inl (λ seven. inr (inl seven)) (free_serving tells opening.quiet worked closed line free);
         unread = unread;
         honesty = honest_on was.disks ready now.disks opening.honesty closed.honesty;
       }

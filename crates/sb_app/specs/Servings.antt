@@ -149,10 +149,9 @@ IsServing reads days Works salt was now doors doors_now status =
     ⊎ ((doors_now ≡ doors) × (status ≡ 14) × HasJumped reads days salt was now)
     ⊎ IsServed reads days Works salt was now doors doors_now status
 
--- all that makes a server end well once its workers have ended, but for memory
-pub record IsFreeServing {R : Type 0} (reads : ℕ → Type 0) (days : ℕ) (count : R → ℕ) (salt : ℕ) (was now : Outside) (doors doors_now : List R) : Type 0 where
+-- all that makes a server end well once its workers have ended, but for memory, and for a clock that is too far ahead
+pub record IsFreeServing {R : Type 0} (count : R → ℕ) (salt : ℕ) (was now : Outside) (doors doors_now : List R) : Type 0 where
   pub sound : IsBroken (recovered_on was.disks salt) → ⊥
-  pub calm : (start : State) (reading : ℕ) → Recovers (recovered_on was.disks salt) start → reads reading → jumps days start.now reading ≡ false
   pub disk_quiet : HasDiskRisen was.disks now.disks → ⊥
   pub door_quiet : HasDoorRisen count doors doors_now → ⊥
   pub output_quiet : IsQuiet was.output.faults now.output.faults
@@ -173,6 +172,6 @@ pub record IsServeCall {R : Type 0} (reads : ℕ → Type 0) (days : ℕ) (Works
   pub jump : status ≡ 14 → (doors_now ≡ doors) × HasJumped reads days salt was now
   pub door_fault : status ≡ 8 → HasDoorRisen count doors doors_now
   pub door_quiet : status ≢ 5 → status ≢ 8 → map count doors_now ≡ map count doors
-  pub complete : AreHonest was.disks → IsFreeServing reads days count salt was now doors doors_now → (status ≡ 0) ⊎ (status ≡ 7)
+  pub complete : AreHonest was.disks → IsFreeServing count salt was now doors doors_now → (status ≡ 0) ⊎ (status ≡ 7) ⊎ (status ≡ 14)
   pub unread : now.input ≡ was.input
   pub honesty : SameHonesty was.disks now.disks

@@ -2,7 +2,6 @@
 use Rattle.std.specs.Prelude.{◌≡◌, ◌≢◌, ◌⊎◌, ◌<◌, ℕ, List, [], ◌∷◌, ◌++◌, length, Bool, false, codes, Option, Some, None, IsSome}
 use Rattle.std.specs.Fmt.{decimal}
 use Rattle.sb_outside.specs.Causes.{Rose, RoseByOne}
-use Rattle.sb_lines.specs.declared.form.Form.{Form}
 use Rattle.sb_outside.specs.Streams.{Gains}
 use Rattle.sb_machine.specs.Consistent.{IsConsistent}
 use Rattle.sb_machine.specs.History.{IsLegal, IsFaultless, state_after}
@@ -15,7 +14,6 @@ use Rattle.sb_journal.specs.declared.found.Side.{Side}
 use Rattle.sb_journal.specs.declared.found.Side.TheVariants.{A, B}
 use Rattle.sb_journal.specs.declared.found.OpenWhy.{OpenWhy}
 use Rattle.sb_journal.specs.declared.found.OpenWhy.TheVariants.{Damaged}
-use Rattle.sb_machine.specs.declared.call.TimedCall.{TimedCall}
 use Rattle.sb_app.specs.declared.script_line.ScriptLine.{ScriptLine}
 use Rattle.sb_app.specs.declared.script_line.ScriptLine.TheVariants.{Request}
 use Rattle.sb_app.specs.declared.ending.RunEnd.{RunEnd}
@@ -24,7 +22,7 @@ use Rattle.sb_app.specs.declared.task.Task.{Task}
 use Rattle.sb_app.specs.declared.task.Task.TheVariants.{Run, Check}
 use Rattle.sb_input.specs.Limits.{max_input}
 use Rattle.sb_app.specs.Lines.{script_lines}
-use Rattle.sb_app.specs.Jumps.{is_far_ahead, AllWithin}
+use Rattle.sb_app.specs.Jumps.{AllWithin}
 use Rattle.sb_input.specs.Taking.{Took, HasEnded, IsLong}
 use Rattle.sb_app.specs.Taking.{IsTaken}
 use Rattle.sb_app.specs.Runs.{FollowLines, replies_to, history_of, any_refused, status_by, state_after_all}
@@ -154,15 +152,10 @@ abbrev pub IsShort : Option (List ℕ) → Type 0
 IsShort None = ⊥
 IsShort (Some left) = length left < max_input
 
--- no line of this input is too far ahead of anything that the clock may read; with 0 days none is
-abbrev pub IsCalm : (reads : ℕ → Type 0) → (days : ℕ) → Option (List ℕ) → Type 0
-IsCalm reads days left = (lines : List ScriptLine) (asked : TimedCall) (form : Form) (reading : ℕ) → AreFirst left (lines ++ Request asked form ∷ []) → reads reading → is_far_ahead days reading asked.reading ≡ false
-
--- all that makes a run take its whole input, but for memory
-pub record IsFree (reads : ℕ → Type 0) (days salt : ℕ) (was now : Outside) : Type 0 where
+-- all that makes a run take its whole input, but for memory, and for a line whose moment is too far ahead of the clock
+pub record IsFree (salt : ℕ) (was now : Outside) : Type 0 where
   pub sound : IsBroken (recovered_on was.disks salt) → ⊥
   pub short : IsShort was.input.left
-  pub calm : IsCalm reads days was.input.left
   pub input_quiet : IsQuiet was.input.faults now.input.faults
   pub output_quiet : IsQuiet was.output.faults now.output.faults
   pub disk_quiet : HaveFailed was.disks now.disks → ⊥
@@ -203,5 +196,5 @@ pub record IsCarriedOut (reads : ℕ → Type 0) (days : ℕ) (task : Option Tas
   pub write_quiet : (refused : Bool) → status ≡ status_by refused → now.output.faults ≡ was.output.faults
   pub disk_fault : status ≡ 5 → HaveFailed was.disks now.disks
   pub disk_quiet : status ≢ 5 → AreQuiet was.disks now.disks
-  pub complete : IsSome task → AreHonest was.disks → IsFree reads days salt was now → IsComplete status
+  pub complete : IsSome task → AreHonest was.disks → IsFree salt was now → IsComplete status ⊎ (status ≡ 14)
   pub honesty : SameHonesty was.disks now.disks
