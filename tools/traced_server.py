@@ -85,7 +85,7 @@ def rows(program):
     at = f'sin_port=htons({port}), sin_addr=inet_addr("127.0.0.1")'
     lib.wants(len(bound) == 1 and at in bound[0], f"bound were {bound}")
     lib.wants(not any(call.startswith("connect(") for call in calls), "it connected to something")
-    writes = place_of(calls, r"^(write|pwrite64|writev)\(")
+    writes = place_of(calls, r"^(write|pwrite64|writev)\((?![12]<)")
     synced = place_of(calls, rf"^f(data)?sync\(\d+<{re.escape(data)}>\)")
     made = max(place_of(calls, rf'^openat\(.*"{re.escape(path)}"') for path in journals)
     lib.wants(made < synced < writes, "the folder isn't synced between the making of its files and the first write")
