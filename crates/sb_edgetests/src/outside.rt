@@ -24,9 +24,9 @@ fn reads<C: Clock + Sync>(clock: &C) -> u64 {
 }
 
 // Writes back what it reads. A thread may take the connection.
-fn echo<N: Conn + Send>(conn: &mut N) -> Result<usize, WriteFault> {
+fn echo<N: Conn + Send>(conn: &mut N) -> Result<Option<usize>, WriteFault> {
     let mut piece = [0u8; 8];
-    let count = conn.read(&mut piece).unwrap_or(0);
+    let count = conn.read(&mut piece).unwrap_or(None).unwrap_or(0);
     conn.write(&piece[..count])
 }
 
@@ -59,7 +59,7 @@ fn memory_and_a_file_agree(rt: HostRuntime) -> Result<(), Fail> {
 fn makes_each_object(rt: HostRuntime) -> Result<(), Fail> {
     let failing = vec![in rt.alloc(); 1]?;
     let mut disk = MemDisk::new(rt.alloc(), Vec::new(rt.alloc()), failing)?;
-    assert!(rt; disk.length() == Ok(0));
+    assert!(rt; disk.length() == Ok(Some(0)));
     assert!(rt; disk.length() == Err(DiskFault));
     let text = Bytes::of(rt.alloc(), b"line")?;
     let mut sink = MemSink::new(rt.alloc(), 4, Vec::new(rt.alloc()))?;
@@ -69,9 +69,9 @@ fn makes_each_object(rt: HostRuntime) -> Result<(), Fail> {
     let mut piece = [0u8; 8];
     assert!(rt; source.read(&mut piece) == Ok(3));
     assert!(rt; source.read(&mut piece) == Ok(1));
-    assert!(rt; source.read(&mut piece) == Ok(0));
-    assert!(rt; Reading::new(rt.stdin(), rt).read(&mut []) == Ok(0));
-    assert!(rt; Writing::new(rt.stdout(), rt).write(&[]) == Ok(0));
+    assert!(rt; source.read(&mut piece) == Ok(Some(0)));
+    assert!(rt; Reading::new(rt.stdin(), rt).read(&mut []) == Ok(Some(0)));
+    assert!(rt; Writing::new(rt.stdout(), rt).write(&[]) == Ok(Some(0)));
     assert_eq!(rt; reads(&StepClock::new(5, 2)), 7);
     let year_2020_ms = 1_577_836_800_000;
     let clock = SystemClock::new(rt)?;
@@ -89,14 +89,31 @@ fn makes_each_connection(rt: HostRuntime) -> Result<(), Fail> {
         .write(true)
         .create(true)
         .open(&rt, name)?;
-    assert!(rt; echo(&mut Connected::new(file)) == Ok(0));
+    assert!(rt; echo(&mut Connected::new(file)) == Ok(Some(0)));
     fs::remove_file(&rt, name)?;
     let sent = vec![in rt.alloc(); b'h', b'i']?;
     let source = MemSource::new(sent, 8, Vec::new(rt.alloc()));
     let sink = MemSink::new(rt.alloc(), 2, Vec::new(rt.alloc()))?;
     let mut conn = MemConn::new(source, sink);
-    assert!(rt; echo(&mut conn) == Ok(2));
+    assert!(rt; echo(&mut conn) == Ok(Some(2)));
     assert_eq!(rt; conn.bytes(), b"hi".as_slice());
-    assert!(rt; echo(&mut NoConn::new()) == Ok(0));
+    assert!(rt; echo(&mut NoConn::new()) == Ok(Some(0)));
+    Ok(())
+}
+
+#[test]
+fn hesitates_between_any_two_bytes(rt: HostRuntime) -> Result<(), Fail> {
+    let sent = vec![in rt.alloc(); b'h', b'i']?;
+    let source = MemSource::new(sent, 8, Vec::new(rt.alloc()));
+    let sink = MemSink::new(rt.alloc(), 2, Vec::new(rt.alloc()))?;
+    let mut conn = MemConn::hesitant(source, sink);
+    let mut piece = [0u8; 8];
+    assert!(rt; conn.read(&mut piece) == Ok(None));
+    assert!(rt; conn.read(&mut piece) == Ok(Some(2)));
+    assert!(rt; conn.write(&piece[..2]) == Ok(None));
+    assert!(rt; conn.write(&piece[..2]) == Ok(Some(1)));
+    assert!(rt; conn.write(&piece[1..2]) == Ok(None));
+    assert!(rt; conn.write(&piece[1..2]) == Ok(Some(1)));
+    assert_eq!(rt; conn.bytes(), b"hi".as_slice());
     Ok(())
 }

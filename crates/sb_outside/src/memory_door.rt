@@ -2,7 +2,8 @@
 ghost use Rattle.std.specs.Prelude.{◌≡◌, ◌≤◌, ◌+◌, ◌<◌, ◌++◌, [], ◌∷◌, true, Some, IfOk, vec_len, vec_capacity};
 
 use crate::faults::CallFaults;
-use crate::{Door, DoorFault, MemConn};
+use crate::pace::Pace;
+use crate::{Door, DoorFault, Given, MemConn};
 use std::alloc::{AllocError, Global};
 
 /// A door in memory: it gives the connections of a list, ends behind the last of them, and fails at the
@@ -14,6 +15,7 @@ pub struct MemDoor {
     out: u64,
     ended: bool,
     faults: CallFaults,
+    pace: Pace,
     ghost over: { ended ≡ true → conns.items ≡ [] },
     ghost room: { vec_len taken + out + vec_len conns ≤ vec_capacity taken },
 }
@@ -41,7 +43,23 @@ impl MemDoor {
             out: 0,
             ended: false,
             faults: CallFaults::new(failing),
+            pace: Pace::even(),
         })
+    }
+
+    /// The same, but it answers "none yet" every other time that it has a connection.
+    pub fn hesitant(
+        alloc: Global,
+        conns: Vec<MemConn>,
+        failing: Vec<u64>,
+    ) -> Result<Self, AllocError>
+        ensures left { IfOk result (λ d. ⟦<MemDoor as Door>⟧.left d ≡ Some conns.items) }
+        ensures taken { IfOk result (λ d. ⟦<MemDoor as Door>⟧.taken d ≡ Some []) }
+        ensures count { IfOk result (λ d. ⟦<MemDoor as Door>⟧.count d ≡ 0) }
+    {
+        let mut door = MemDoor::new(alloc, conns, failing)?;
+        door.pace = Pace::hesitant();
+        Ok(door)
     }
 
     /// The connections that it took back, in order.
@@ -65,16 +83,19 @@ impl Door for MemDoor {
 
     ghost count = { λ d. d.faults.count };
 
-    fn accept(&mut self) -> Result<Option<MemConn>, DoorFault> {
+    fn accept(&mut self) -> Result<Given<MemConn>, DoorFault> {
         if self.faults.fails() {
             return Err(DoorFault);
         }
         if self.conns.is_empty() {
             self.ended = true;
-            return Ok(None);
+            return Ok(Given::End);
+        }
+        if self.pace.holds() {
+            return Ok(Given::NoneYet);
         }
         self.out += 1;
-        Ok(Some(self.conns.remove(0)))
+        Ok(Given::One(self.conns.remove(0)))
     }
 
     fn done(&mut self, conn: MemConn) {

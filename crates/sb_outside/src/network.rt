@@ -5,7 +5,7 @@ ghost use Rattle.sb_outside.specs.Causes.{RoseByOne};
 
 use crate::adapters::read_some;
 use crate::telling::{AFTER_DOOR, AFTER_LINK, tell};
-use crate::{Connected, Door, DoorFault, Link, LinkFault};
+use crate::{Connected, Door, DoorFault, Given, Link, LinkFault};
 use std::io;
 use std::io::{Eprint, ErrorKind, Read, Write};
 use std::net::{Ipv4Addr, Net, OpenListener, OpenStream, TcpStream};
@@ -227,12 +227,12 @@ where
 
     ghost count = { λ d. d.faults };
 
-    fn accept(&mut self) -> Result<Option<Connected<L::Stream>>, DoorFault> {
+    fn accept(&mut self) -> Result<Given<Connected<L::Stream>>, DoorFault> {
         match next_stream(&self.listener) {
             Ok(stream) if self.out < u64::MAX => {
                 prepare(&stream);
                 self.out += 1;
-                Ok(Some(Connected::new(stream)))
+                Ok(Given::One(Connected::new(stream)))
             }
             Ok(_) => Err(self.fault(io::Error::from(ErrorKind::QuotaExceeded))),
             Err(error) => Err(self.fault(error)),
