@@ -6,6 +6,7 @@ ghost use Rattle.sb_desk.specs.Entries.{IsReport};
 ghost use Rattle.sb_desk.specs.Lists.{IsFront, Each, HaveSeatsBelow, longer};
 ghost use Rattle.sb_desk.specs.Steps.{IsSized};
 
+use crate::bells::Bells;
 use crate::closing::{finish, gather_all};
 use crate::notes::{note, take_in};
 use crate::opening::{deal_out, open_table};
@@ -23,6 +24,7 @@ const MAX_PASSES: usize = 1 << 32;
 #[derive(Drop)]
 pub struct Desk<V: Served> {
     table: Whole<V>,
+    bells: Bells,
 }
 
 impl<V: Served> Model for Desk<V> {
@@ -63,10 +65,13 @@ impl<V: Served> Desk<V> {
         let Ok(room) = Vec::with_capacity(alloc, passes) else {
             return Err(NewFault::OutOfMemory { value });
         };
+        let Ok(bells) = Bells::new(alloc) else {
+            return Err(NewFault::OutOfMemory { value });
+        };
         match open_table(alloc, value, passes) {
             Ok((table, place)) => {
                 let dealt = deal_out(&table.shared, place, room, passes);
-                Ok((Desk { table }, dealt))
+                Ok((Desk { table, bells }, dealt))
             }
             Err(value) => Err(NewFault::OutOfMemory { value }),
         }
@@ -83,7 +88,14 @@ impl<V: Served> Desk<V> {
     {
         let Pass { badge } = pass;
         let mut place: Place<V> = badge.into_seat();
-        let answer = serve_one(rt, &self.table.shared, &mut place, reading, call);
+        let answer = serve_one(
+            rt,
+            &self.table.shared,
+            &self.bells,
+            &mut place,
+            reading,
+            call,
+        );
         (
             Pass {
                 badge: place.into_badge(),
@@ -128,7 +140,7 @@ impl<V: Served> Desk<V> {
         ensures err { IfErr result (λ _. ⊥) }
     {
         let mut passes = passes;
-        let Desk { table } = self;
+        let Desk { table, bells: _ } = self;
         let Pass { badge } = passes.pop().unwrap();
         let mut place: Place<V> = badge.into_seat();
         gather_all(&table.shared, &mut place, passes);

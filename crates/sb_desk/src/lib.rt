@@ -8,7 +8,8 @@
 //! with one history that all these lists begin and in which nobody else has an entry. It stands on
 //! the machine, whose `specs/History` says which histories are legal, and on the kit's
 //! `atomic_table`: one slot for the value, and three words by which seats take turns, under a rule
-//! that each step keeps (`specs/Rule`). Nothing is said of who comes first, nor that anybody is
+//! that each step keeps (`specs/Rule`); beside it words on which seats sleep, of which who leaves rings
+//! the one of the next ticket. Nothing is said of who comes first, nor that anybody is
 //! served.
 //!
 //! ```text
@@ -19,6 +20,7 @@
 //! ```
 #![tactic(auto)]
 
+mod bells;
 mod closing;
 mod desk;
 mod notes;

@@ -10,6 +10,7 @@ ghost use Rattle.sb_desk.specs.Lists.{HaveSeatsBelow};
 ghost use Rattle.sb_desk.specs.Rule.{word, ticket_of, log_of};
 ghost use Rattle.sb_desk.specs.Steps.{IsSized, placed, with_made};
 
+use crate::bells::{Bells, bell_of};
 use crate::plays::{Draw, Give, Leave, Look, Record, Take};
 use crate::view::{Held, Key, Made, Turns, View};
 use crate::{Served, Stepped};
@@ -36,6 +37,7 @@ const SERVING: usize = 2;
 pub(crate) fn serve_one<V: Served, R: Wait>(
     rt: &R,
     top: &Top<V>,
+    bells: &Bells,
     place: &mut Place<V>,
     reading: u64,
     call: &Call,
@@ -50,12 +52,12 @@ pub(crate) fn serve_one<V: Served, R: Wait>(
     ensures seats { HaveSeatsBelow place.new.me.0.passes place.new.me.0.seen }
 {
     let ticket = draw(top, place);
-    wait(rt, top, place, ticket);
+    wait(rt, top, bells, place, ticket);
     let mut value = take_out(top, place);
     let stepped = value.step(reading, call);
     record_step(top, place, value, reading, call, &stepped);
     give_back(top, place);
-    leave(top, place);
+    leave(top, bells, place);
     stepped.answer
 }
 
@@ -68,18 +70,21 @@ fn draw<V: Served>(top: &Top<V>, place: &mut Place<V>) -> u64
     top.fetch_add::<Draw>(place, TICKET, 1)
 }
 
-fn wait<V: Served, R: Wait>(rt: &R, top: &Top<V>, place: &mut Place<V>, ticket: u64)
+// The bell is read before the turn is looked at: who is rung for in between doesn't sleep.
+fn wait<V: Served, R: Wait>(rt: &R, top: &Top<V>, bells: &Bells, place: &mut Place<V>, ticket: u64)
     requires table { (place.old.table_id ≡ top.now.table_id) × IsSized top.now.table_id }
     requires waits { (place.old.me.0.stage ≡ Waits (ticket_of place.old.me.0.stage)) × (word (ticket_of place.old.me.0.stage) ≡ ticket) }
     ensures seat { (place.new.table_id ≡ place.old.table_id) × (place.new.id ≡ place.old.id) }
     ensures turn { place.new.me ≡ (placed (Turn (ticket_of place.old.me.0.stage)) place.old.me.0, place.old.me.1) }
 {
+    let bell = bell_of(ticket);
     for _ in rt.forever() {
+        let rung = bells.words().peek(bell);
         let found = top.load::<Look>(place, SERVING);
         if found == ticket {
             return;
         }
-        top.park(rt, SERVING, (found & 0xffff_ffff) as u32);
+        bells.words().park(rt, bell, (rung & 0xffff_ffff) as u32);
     }
     unreachable!()
 }
@@ -148,12 +153,13 @@ fn give_back<V: Served>(top: &Top<V>, place: &mut Place<V>)
     top.load::<Give>(place, COUNT);
 }
 
-fn leave<V: Served>(top: &Top<V>, place: &mut Place<V>)
+// The seat of the next ticket has the turn, and is woken.
+fn leave<V: Served>(top: &Top<V>, bells: &Bells, place: &mut Place<V>)
     requires table { (place.old.table_id ≡ top.now.table_id) × IsSized top.now.table_id }
     requires turn { place.old.me.0.stage ≡ Turn (ticket_of place.old.me.0.stage) }
     ensures seat { (place.new.table_id ≡ place.old.table_id) × (place.new.id ≡ place.old.id) }
     ensures idle { place.new.me ≡ (placed Idle place.old.me.0, place.old.me.1) }
 {
-    top.fetch_add::<Leave>(place, SERVING, 1);
-    top.wake_all(SERVING);
+    let served = top.fetch_add::<Leave>(place, SERVING, 1);
+    bells.ring(served.wrapping_add(1));
 }

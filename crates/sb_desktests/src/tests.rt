@@ -45,10 +45,10 @@ fn passes_tell_each_other(rt: HostRuntime) -> Result<(), Fail> {
 #[test]
 fn threads_share_one_history(rt: HostRuntime) -> Result<(), Fail> {
     let call = creation(rt.alloc())?;
-    let Some(report) = on_eight_threads(&rt, rt.alloc(), 1000, &call) else {
+    let Some(report) = on_eight_threads(&rt, rt.alloc(), 10000, &call) else {
         panic!(rt; "no memory")
     };
-    assert_eq!(rt; numbers_of(report), (8000, 1, 7999));
+    assert_eq!(rt; numbers_of(report), (80000, 1, 79999));
     Ok(())
 }
 
