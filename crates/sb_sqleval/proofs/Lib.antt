@@ -1,3 +1,3 @@
 pub mod Bits
-pub mod Steps
+pub mod Stepping
 pub mod Turning

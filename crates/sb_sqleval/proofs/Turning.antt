@@ -6,8 +6,8 @@ use Rattle.std.specs.Borrow.{Bor}
 use Rattle.std.specs.Str.{chars}
 use Rattle.std.proofs.lemmas.List.{drop-drop}
 use Rattle.sb_model.specs.Likes.{PatternPart, run, with_part, has_some_form, some_suffix, parts_of}
-use Rattle.sb_sqleval.specs.declared.like.Mark.{Mark}
-use Rattle.sb_sqleval.specs.declared.like.Places.{Places}
+use Rattle.sb_sqleval.specs.declared.likes.Mark.{Mark}
+use Rattle.sb_sqleval.specs.declared.likes.Places.{Places}
 use Rattle.sb_sqleval.specs.Places.{later_suffix, Begins, fits, retries, IsMarked, IsBounded, IsWithin, tries, Turns, Passes}
 
 -- a run of the pattern
@@ -124,3 +124,13 @@ retried escape p m next c stuck is some most size within =
       within = record { ahead = bounded.1; mark = (omega arith, bounded.1) };
       fewer = rw (is, more) (fewer_tries (length (chars next.now)) size (length (chars m.behind.now)) (length (chars p.ahead.now)) bounded.1);
     }
+
+-- the count of turns: one more where fewer are left, and at the end at most this
+pub one_more : (now after left less most : ℕ) → after ≡ now + 1 → now + left ≤ most → less < left → after + less ≤ most
+one_more now after left less most e h lt = omega (arith, e, h, lt)
+
+few_places : (n p : ℕ) → (n + 1) * (p + 1) + p + 1 ≤ 2 * (p + 1) * (n + 1)
+few_places n p = grind arith
+
+pub few_steps : (old now after left n p : ℕ) → now + left ≤ old + ((n + 1) * (p + 1) + p) → after ≡ now + 1 → after ≤ old + 2 * (p + 1) * (n + 1)
+few_steps old now after left n p h e = omega (arith, h, e, few_places n p)

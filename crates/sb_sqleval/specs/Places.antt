@@ -2,14 +2,14 @@
 use Rattle.std.specs.Prelude.{◌≡◌, ℕ, ◌+◌, ◌*◌, ◌<◌, ◌≤◌, Bool, true, false, ◌==◌, ◌||◌, List, [], ◌∷◌, drop, length, Option, Some, None}
 use Rattle.std.specs.Str.{chars}
 use Rattle.sb_model.specs.Likes.{PatternPart, run, any, this, parts_of, with_part, has_some_form, some_suffix}
-use Rattle.sb_sqleval.specs.declared.like.Ahead.{Ahead}
-use Rattle.sb_sqleval.specs.declared.like.Ahead.TheVariants.{End, Lone, Run, One}
-use Rattle.sb_sqleval.specs.declared.like.Step.{Step}
-use Rattle.sb_sqleval.specs.declared.like.Step.TheVariants.{Matched, Starred, Onward, Stuck}
-use Rattle.sb_sqleval.specs.declared.like.Turn.{Turn}
-use Rattle.sb_sqleval.specs.declared.like.Turn.TheVariants.{Ended, Goes}
-use Rattle.sb_sqleval.specs.declared.like.Mark.{Mark}
-use Rattle.sb_sqleval.specs.declared.like.Places.{Places}
+use Rattle.sb_sqleval.specs.declared.likes.Ahead.{Ahead}
+use Rattle.sb_sqleval.specs.declared.likes.Ahead.TheVariants.{End, Lone, Run, One}
+use Rattle.sb_sqleval.specs.declared.likes.Step.{Step}
+use Rattle.sb_sqleval.specs.declared.likes.Step.TheVariants.{Matched, Starred, Onward, Stuck}
+use Rattle.sb_sqleval.specs.declared.likes.Turn.{Turn}
+use Rattle.sb_sqleval.specs.declared.likes.Turn.TheVariants.{Ended, Goes}
+use Rattle.sb_sqleval.specs.declared.likes.Mark.{Mark}
+use Rattle.sb_sqleval.specs.declared.likes.Places.{Places}
 
 -- any character, or this one
 abbrev pub one_part : Option ℕ → PatternPart

@@ -9,7 +9,7 @@ ghost use Rattle.sb_sqleval.specs.Memory.{IsRemoval, RemoveAlone};
 use crate::Value;
 use crate::changes::{with_system, with_user, without_system, without_user};
 use crate::evaluate::value_of;
-use crate::like::count_chars;
+use crate::likes::count_chars;
 use crate::sizes::is_too_large;
 use sb_model::{
     Action, EvalFault, Expression, Message, PropertyName, PropertyValue, Statement, SystemName,

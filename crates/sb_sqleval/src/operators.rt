@@ -7,7 +7,7 @@ ghost use Rattle.sb_sqleval.specs.Values.{value_in, Is, Gives};
 ghost use Rattle.sb_sqleval.specs.Memory.{may_fold, may_join};
 
 use crate::compare::{at_least, at_most, equality, greater, less};
-use crate::like::{is_like, is_one_character};
+use crate::likes::{is_like, is_one_character};
 use crate::numbers::{difference, negative, product, quotient, remainder, sum};
 use crate::properties::user_value;
 use crate::{Evaluated, Value};

@@ -1,9 +1,39 @@
 // LIKE: a text against a pattern, with two places and one mark to go back to.
-ghost use Rattle.std.specs.Prelude.{◌≡◌, ◌∷◌, ◌<◌, ℕ, [], length, IfSome, IfNone, None, Some, option_map};
+ghost use Rattle.std.specs.Prelude.{◌≡◌, ◌∷◌, ◌<◌, ◌≤◌, ◌+◌, ◌*◌, ℕ, [], length, IfSome, IfNone, None, Some, option_map};
 ghost use Rattle.std.specs.Str.{chars};
 ghost use Rattle.sb_model.specs.Likes as likes;
 ghost use Rattle.sb_sqleval.specs.Places as matching;
 ghost use Rattle.sb_sqleval.specs.Places.{IsAhead, IsStep, IsTurn, IsMarked, IsWithin};
+
+use crate::Steps;
+use std::marker::Brand;
+use std::sync::ledger::{Blank, Ledger};
+
+/// Whether the text has the pattern's form: `%` any run of characters, `_` any one, and the
+/// character behind an escape as it stands; a pattern that ends in a lone escape fits no text. A step
+/// is one turn of its one loop. Takes no memory.
+pub fn like<'a, L: Ledger>(
+    text: &'a str,
+    pattern: &'a str,
+    escape: Option<char>,
+    steps: &mut Steps<L>,
+) -> bool
+    ensures answers { result ≡ likes.has_some_form (likes.parts_of escape (chars pattern.now)) (chars text.now) }
+    ensures bounded { steps.new ≤ steps.old + 2 * (length (chars pattern.now) + 1) * (length (chars text.now) + 1) }
+{
+    let mut places = Places {
+        left: text,
+        ahead: pattern,
+        mark: None,
+    };
+    'turns: loop {
+        steps.tick();
+        match next_turn(places, escape) {
+            Turn::Ended(answer) => return answer,
+            Turn::Goes(next) => places = next,
+        }
+    }
+}
 
 /// What stands first in a pattern, and the rest.
 enum Ahead<'a> {
@@ -158,22 +188,23 @@ fn next_turn<'a>(places: Places<'a>, escape: Option<char>) -> Turn<'a>
     }
 }
 
-/// Whether the text has the pattern's form: `%` any run of characters, `_` any one, and the
-/// character behind an escape as it stands. Takes no memory.
-fn has_form<'a>(text: &'a str, pattern: &'a str, escape: Option<char>) -> bool
-    ensures { result ≡ matching.fits escape pattern.now (chars text.now) }
+/// What is asked of LIKE.
+#[derive(Clone, Copy, Drop)]
+struct Asked<'a> {
+    text: &'a str,
+    pattern: &'a str,
+    escape: Option<char>,
+}
+
+/// The same, for a caller that doesn't count.
+fn like_uncounted<L: Ledger>(blank: Blank, asked: Asked<'_>) -> bool
+    requires name { blank.name ≡ L.name }
+    requires parts { blank.parts ≡ L.parts }
+    requires some { 0 < blank.parts }
+    ensures { result ≡ matching.fits asked.entry.escape asked.entry.pattern.now (chars asked.entry.text.now) }
 {
-    let mut places = Places {
-        left: text,
-        ahead: pattern,
-        mark: None,
-    };
-    'turns: loop {
-        match next_turn(places, escape) {
-            Turn::Ended(answer) => return answer,
-            Turn::Goes(next) => places = next,
-        }
-    }
+    let mut steps = Steps::<L>::open(blank);
+    like(asked.text, asked.pattern, asked.escape, &mut steps)
 }
 
 fn escape_of(escape: Option<&str>) -> Option<char>
@@ -198,8 +229,14 @@ pub(crate) fn is_one_character(text: &str) -> bool
 }
 
 /// `text LIKE pattern`, with the first character of `escape` as the escape, if there is one.
-pub(crate) fn is_like(text: &str, pattern: &str, escape: Option<&str>) -> bool
+pub(crate) fn is_like<'a>(text: &'a str, pattern: &'a str, escape: Option<&str>) -> bool
     ensures { result ≡ likes.is_like text.now pattern.now (option_map (λ e. e.now) escape.entry) }
 {
-    has_form(text, pattern, escape_of(escape))
+    let escape = escape_of(escape);
+    let asked = Asked {
+        text,
+        pattern,
+        escape,
+    };
+    like_uncounted::<Brand>(Blank::new(1), asked)
 }

@@ -1,5 +1,5 @@
 use Rattle.sb_sqleval.proofs.Turning.{starred, passed, retried}
-use Rattle.sb_sqleval.proofs.like.next_turn.Goals as goal
+use Rattle.sb_sqleval.proofs.likes.next_turn.Goals as goal
 
 pub returns-in-Starred : goal.returns-in-Starred
 returns-in-Starred c = starred c.args.escape c.args.places c.in-Starred.rest c.in-Starred.ensures c.requires

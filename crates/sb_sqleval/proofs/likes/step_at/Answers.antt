@@ -1,6 +1,6 @@
 use Rattle.std.proofs.Common.{sym, ◌∙◌}
-use Rattle.sb_sqleval.proofs.Steps.{text_ended, unwanted, passed_one}
-use Rattle.sb_sqleval.proofs.like.step_at.Goals as goal
+use Rattle.sb_sqleval.proofs.Stepping.{text_ended, unwanted, passed_one}
+use Rattle.sb_sqleval.proofs.likes.step_at.Goals as goal
 
 pub returns-in_default : goal.returns-in_default
 returns-in_default c = text_ended c.args.escape c.in-One.wanted c.args.ahead.now c.args.left.now c.in-One.onward.now c.in-One.ensures c.in_default.ensures.none

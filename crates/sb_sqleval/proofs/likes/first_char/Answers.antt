@@ -1,7 +1,7 @@
 use Rattle.std.proofs.Common.{◌≡◌, ◌++◌}
 use Rattle.std.specs.Char.{encode_utf8}
 use Rattle.std.proofs.lemmas.Str.{chars_past_char}
-use Rattle.sb_sqleval.proofs.like.first_char.Goals as goal
+use Rattle.sb_sqleval.proofs.likes.first_char.Goals as goal
 
 pub returns-clause-some : goal.returns-clause-some
 returns-clause-some c =
