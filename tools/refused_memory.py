@@ -5,18 +5,26 @@ usage: tools/refused_memory.py PROGRAM [EVERY]
 
 PROGRAM is the built program (crates/sb_bus/out/sb_bus), which takes its memory by the C library's
 malloc and realloc. A small library put before it (made here by `cc`) refuses the Nth call of these.
-For each N (from 1 on by EVERY, where that is said) two scripts are run, one on an empty folder and one on the journal that the first leaves,
-until no call is refused any more. Each run has to end with 0 and all replies, with 7 and the first
-replies (and the line of OutOfMemory behind them, or nothing), or with 11 and nothing; and the
-journal must open again, with all that stood there before the run, each acknowledged change, and at
-most the one more that wasn't acknowledged. The exit status is 1 where one doesn't.
+For each N (from 1 on by EVERY, where that is said) four scripts are run: one on an empty folder, one on the
+journal that the first leaves, one that makes three queues, and one on the journal of that which locks and
+completes messages, commits a transaction and goes through a session; until no call is refused any more. Each run
+has to end with 0 and all replies, with 7 and the first replies (and the line of OutOfMemory behind them, or nothing),
+or with 11 and nothing; and the journal must open again, with all that stood there before the run, each
+acknowledged change, and at most the one more that wasn't acknowledged.
+
+The same with a server, over which a message is sent, locked and completed by REST, and a batch is sent: each
+response is the one that is due, or 503 with OutOfMemory behind which nothing has changed and the same request
+passes, or the server ends, with no more than the one change that wasn't acknowledged. How many completions found
+no memory is told. The exit status is 1 where something ends otherwise.
 """
 import collections
+import json
 import os
 import shutil
 import subprocess
 import sys
 import tempfile
+import time
 
 import lib
 
@@ -34,9 +42,9 @@ static int refuse(void) {
         told = open(getenv("CALLS_TO"), O_WRONLY | O_CREAT | O_TRUNC | O_CLOEXEC, 0600);
         refused = atol(getenv("REFUSE_AT"));
     }
-    ++calls;
-    if (pwrite(told, &calls, sizeof calls, 0) != sizeof calls) abort();
-    return calls == refused;
+    long call = __atomic_add_fetch(&calls, 1, __ATOMIC_SEQ_CST);
+    if (pwrite(told, &call, sizeof call, 0) != sizeof call) abort();
+    return call == refused;
 }
 void *malloc(size_t n) {
     static void *(*next)(size_t);
@@ -58,6 +66,37 @@ FIRST = [
     '{"do":"peek","from":"q","start":2,"count":2}',
     '{"at":9,"do":"receive","from":"q","mode":"delete"}',
 ]
+# Of a lock, by the journal's salt and its number.
+TOKEN = "{}-{}-{}-0000-{:012d}"
+SETUP = [
+    '{"at":0,"do":"create-queue","name":"q"}',
+    '{"at":0,"do":"create-queue","name":"r"}',
+    '{"at":0,"do":"create-queue","name":"s","requires_session":true}',
+    '{"at":0,"do":"send","to":"q","messages":[{"body":"hi"},{"body":"ho"}]}',
+    '{"at":0,"do":"send","to":"s","messages":[{"body":"hi","sys":{"SessionId":"s"}}]}',
+]
+
+
+def settling(folder):
+    """Lines that lock two messages, complete one, commit the other's completion and a send, and use a session."""
+    with open(f"{folder}/a.journal", "rb") as journal:
+        salt = journal.read()[10:18].hex()
+    tokens = [TOKEN.format(salt[:8], salt[8:12], salt[12:], number) for number in range(1, 5)]
+    calls = [
+        {"do": "receive", "from": "q"},
+        {"do": "receive", "from": "q"},
+        {"do": "complete", "from": "q", "seq": 1, "token": tokens[0]},
+        {"do": "begin", "entity": "q"},
+        {"do": "complete", "from": "q", "seq": 2, "token": tokens[1], "txn": 1},
+        {"do": "send", "to": "r", "messages": [{"body": "hi"}], "txn": 1},
+        {"do": "commit", "txn": 1},
+        {"do": "accept", "from": "s", "id": "s"},
+        {"do": "receive", "from": "s", "session": tokens[2]},
+        {"do": "complete", "from": "s", "seq": 1, "token": tokens[3], "session": tokens[2]},
+    ]
+    return [json.dumps({"at": 10 * place, **call}) for place, call in enumerate(calls, 1)]
+
+
 SECOND = ['{"at":9,"do":"receive","from":"q","mode":"delete"}'] * 2
 WANTING = b'{"refused":"OutOfMemory"}\n'
 HEAD = 18  # a file's salt differs from run to run
@@ -131,6 +170,92 @@ class Trial:
         return wrong
 
 
+    def served(self, base, refused):
+        """A server over a copy of the base with this call refused: the responses of the requests that were asked."""
+        path, port = self.folder(base), lib.free_port()
+        env = dict(os.environ, LD_PRELOAD=self.library, REFUSE_AT=str(refused), CALLS_TO=self.calls)
+        words = [self.program, "serve", "--data", path, "--port", str(port), "--workers", "1"]
+        server = subprocess.Popen(words, env=env, stdout=subprocess.DEVNULL, stderr=subprocess.DEVNULL)
+        came = []
+        try:
+            while server.poll() is None and not lib.is_listening(port):
+                time.sleep(0.01)
+            if server.poll() is None:
+                with lib.Caller(port) as caller:
+                    asked(caller, came)
+        except OSError:
+            came.append(("gone", 0))
+        finally:
+            server.kill()
+            server.wait()
+        return path, came
+
+    def serve_sweep(self, base):
+        """Serves with each call refused in turn; how many ended otherwise."""
+        states = [self.state(self.folder(base))]
+        for count in range(1, len(REQUESTS) + 1):
+            path, port = self.folder(base), lib.free_port()
+            with lib.serving(self.program, path, port, "--workers", "1"), lib.Caller(port) as caller:
+                asked(caller, [], count)
+            states.append(self.state(path))
+        classes, wrong, completions, refused = collections.Counter(), 0, 0, 1
+        while True:
+            path, came = self.served(base, refused)
+            with open(self.calls, "rb") as calls:
+                if int.from_bytes(calls.read(), sys.byteorder) < refused:
+                    break
+            done = [place for place, (said, _) in enumerate(came) if said == "done"]
+            wanting = [asked_at for said, asked_at in came if said == "wanting"]
+            is_gone = bool(came) and came[-1][0] == "gone"
+            may = states[len(done) : len(done) + (2 if is_gone else 1)]
+            sound = all(said in ("done", "wanting", "gone") for said, _ in came) and len(wanting) <= 1
+            sound = sound and (not came or is_gone or len(done) == len(REQUESTS)) and self.state(path) in may
+            completions += (wanting == [COMPLETION]) or (is_gone and len(done) == COMPLETION)
+            ended = "and ended" if is_gone else "and went on" if came else "and didn't begin"
+            classes[(len(done), len(wanting), ended)] += 1
+            if not sound:
+                wrong += 1
+                print(f"WRONG: a server, growth {refused}: {came}")
+            refused += self.every
+        for (done, wanting, ended), runs in sorted(classes.items()):
+            print(f"a server: {runs:4} with {done} responses as they are due, {wanting} of OutOfMemory, {ended}")
+        print(f"a server: {completions} completions found no memory")
+        return wrong
+
+    def state(self, path):
+        """What stands in the queue, and whether it may be received."""
+        _status, replies = self.run(path, ['{"do":"peek","from":"q","start":1,"count":100}'])
+        shown = json.loads(replies[0])["copies"]
+        return [(copy["seq"], copy["state"], copy.get("body")) for copy in shown]
+
+
+BATCH = ["Content-Type: application/vnd.microsoft.servicebus.json"]
+# Method, target (the location of the last lock where none is said), fields, body and the status that is due.
+REQUESTS = [
+    ("POST", "/q/messages", [], b"new", 201),
+    ("POST", "/q/messages/head?timeout=0", [], b"", 201),
+    ("DELETE", None, [], b"", 200),
+    ("POST", "/q/messages", BATCH, b'[{"Body":"x"},{"Body":"y"}]', 201),
+]
+COMPLETION = 2
+
+
+def asked(caller, came, count=len(REQUESTS)):
+    """Asks in order, again where the answer is OutOfMemory; what was said of which request goes into came."""
+    location, place = "", 0
+    while place < count:
+        method, target, fields, body, due = REQUESTS[place]
+        status, head, told = caller.ask(method, target or location, body, fields)
+        if status == 503 and b"OutOfMemory" in told:
+            came.append(("wanting", place))
+            continue
+        came.append(("done" if status == due else "other", place))
+        location = head.partition("/q/messages/")[2].split("\r\n")[0] or location
+        if not location.startswith("/"):
+            location = "/q/messages/" + location
+        place += 1
+
+
 def behind_head(folder):
     try:
         with open(f"{folder}/a.journal", "rb") as journal:
@@ -148,6 +273,12 @@ def main():
         os.mkdir(base)
         trial.run(base, FIRST)
         wrong += trial.sweep("later run", base, SECOND)
+        wrong += trial.serve_sweep(base)
+        wrong += trial.sweep("setup", None, SETUP)
+        made = f"{work}/made"
+        os.mkdir(made)
+        trial.run(made, SETUP)
+        wrong += trial.sweep("settled", made, settling(made))
     print(f"{wrong} runs ended otherwise")
     sys.exit(1 if wrong else 0)
 

@@ -5,11 +5,11 @@ usage: tools/served_rows.py PROGRAM [--short]
 
 PROGRAM is the built program (crates/sb_bus/out/sb_bus). A server is started on an empty folder; a message is sent and
 received as docs/REST.md has it, settled by its Location, and the same two requests are sent whole, pipelined and cut
-after each byte. The largest message comes back byte for byte. A moment lies between two readings of the clock here.
-Two connections are open at once where a receive waits for a send. A server that can't take a connection, since it has
-no more files, ends with status 8. The one worker of a server is free again once its caller has said nothing for 60
-seconds, or has taken nothing of its response for some minutes; --short leaves these two out. The exit status is 1
-where something is answered otherwise.
+after each byte. A thousand sends in one piece have the numbers 1 to 1,000. The largest message comes back byte for
+byte. A moment lies between two readings of the clock here. Two connections are open at once where a receive waits for
+a send. A server that can't take a connection, since it has no more files, ends with status 8. The one worker of a
+server is free again once its caller has said nothing for 60 seconds, or has taken nothing of its response for some
+minutes; --short leaves these two out. The exit status is 1 where something is answered otherwise.
 """
 import contextlib
 import os
@@ -93,6 +93,20 @@ def two_requests(port):
     wants(got == b"", f"a request that is cut off was answered {got!r}")
 
 
+def thousand_sends(port):
+    """A thousand sends in one piece are answered in their order, and have the numbers 1 to 1,000."""
+    with Caller(port) as caller:
+        caller.line({"do": "create-queue", "name": "many"})
+        got = over_one_connection(port, [SEND.replace(b"/Q/", b"/many/") * 1000])
+        wants(got == SENT * 1000, f"a thousand sends were answered {len(got)} bytes")
+        numbers = []
+        for begin in range(1, 1001, 100):
+            copies = caller.line({"do": "peek", "from": "many", "start": begin, "count": 100})["copies"]
+            numbers += [copy["seq"] for copy in copies]
+        wants(numbers == list(range(1, 1001)), f"a thousand sends have the numbers {numbers}")
+        caller.line({"do": "delete", "entity": "many"})
+
+
 def by_curl(port):
     status, _ = curl(port, "-X", "POST", "--data-binary", "hello", "/q/messages")
     wants(status == 201, f"curl's send was answered {status}")
@@ -151,6 +165,7 @@ def all_rows(program, is_short):
             f"the client wrote {told}",
         )
         two_requests(port)
+        thousand_sends(port)
         by_curl(port)
         largest_message(port)
         system_clock(port)
