@@ -1,4 +1,5 @@
 pub mod UnknownKeys
+mod Gathering
 mod Parsed
 pub mod Floats
 pub mod OneLine

@@ -1,9 +1,10 @@
--- Lines of JSON, in the order to read them: Faults, Tokens, Fields, Tables (how a key is read); Messages, Descriptions, Lines (which line
+-- Lines of JSON, in the order to read them: Faults, Tokens, Fields, Tables (how a key is read), Gathering; Messages, Descriptions, Lines (which line
 -- spells which call, and which key is at fault); Refusals, Shown, Replies (the line of a reply); Laws.
 pub mod Faults
 pub mod Tokens
 pub mod Fields
 pub mod Tables
+pub mod Gathering
 pub mod Messages
 pub mod Descriptions
 pub mod Lines

@@ -22,6 +22,7 @@ mod descriptions;
 mod fault;
 mod fields;
 mod form;
+mod gathered;
 mod keys;
 mod laws;
 mod line;
@@ -38,6 +39,7 @@ mod token;
 
 pub use fault::{LineFault, bad};
 pub use form::Form;
+pub use gathered::Gathered;
 pub use laws::each_is_one_line;
 pub use line::{Line, read_line};
 pub use properties::{property_value, put_property};

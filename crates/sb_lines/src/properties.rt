@@ -4,9 +4,11 @@ ghost use Rattle.std.specs.Str.{str_to_ascii_lowercase};
 ghost use Rattle.serde_json.specs.View.{view, members_view};
 ghost use Rattle.sb_model.specs.Effects.{with_user};
 ghost use Rattle.sb_lines.specs.Faults.{Answers, or_key};
+ghost use Rattle.sb_lines.specs.Gathering.{Leaves};
 ghost use Rattle.sb_lines.specs.Messages as messages;
 
 use crate::fault::{LineFault, bad};
+use crate::gathered::Gathered;
 use crate::table::Field;
 use sb_model::{Message, Property, PropertyValue, Rows, Text};
 use sb_sqleval::with_property;
@@ -63,15 +65,29 @@ fn property_of(alloc: Global, name: &str, value: &Value) -> Result<PropertyValue
     property_value(alloc, value, name)
 }
 
+fn gather(
+    alloc: Global,
+    members: &Map<String, Value>,
+    props: &mut Gathered,
+) -> Result<(), LineFault>
+    ensures { Leaves result props.new (messages.with_members (members_view members.now.entries) props.old) }
+{
+    for (name, member) in members.iter() {
+        let value = property_of(alloc, name.as_str(), member)?;
+        props.put(alloc, name.as_str(), value)?;
+    }
+    Ok(())
+}
+
 fn properties_of(alloc: Global, members: &Map<String, Value>) -> Result<Rows<Property>, LineFault>
     ensures { Answers result (messages.with_members (members_view members.now.entries) []) }
 {
-    let mut props = Rows::new(alloc);
-    for (name, member) in members.iter() {
-        let value = property_of(alloc, name.as_str(), member)?;
-        props = put_property(alloc, name.as_str(), value, props)?;
+    let mut props = Gathered::new(alloc);
+    if let Err(fault) = gather(alloc, members, &mut props) {
+        drop(props);
+        return Err(fault);
     }
-    Ok(props)
+    Ok(props.into_rows(alloc)?)
 }
 
 /// An object of user properties, or none.
