@@ -6,6 +6,7 @@
 
 mod adapters;
 mod bytes;
+mod call_log;
 mod clock;
 mod conn;
 mod disk;
@@ -15,6 +16,7 @@ mod folder;
 mod images;
 mod link;
 mod lobby;
+mod logging;
 mod memory;
 mod memory_conn;
 mod memory_door;
@@ -30,6 +32,7 @@ mod telling;
 
 pub use adapters::{Connected, FileDisk, Reading, SystemClock, Writing};
 pub use bytes::Bytes;
+pub use call_log::{CallLog, asked_words, call_line};
 pub use clock::Clock;
 pub use conn::{Conn, NoConn};
 pub use disk::{Disk, DiskFault, LONGEST_DISK};
@@ -38,6 +41,7 @@ pub use folder::{HeldStreams, disks_in, hold_streams, lock_folder, open_disk, sy
 pub use images::{cuts_keep_images, rest_has_one_image, writes_keep_images};
 pub use link::{Link, LinkFault, NoLink};
 pub use lobby::{Lobby, PauseLobby};
+pub use logging::{Logged, Logging};
 pub use memory::MemDisk;
 pub use memory_conn::MemConn;
 pub use memory_door::MemDoor;

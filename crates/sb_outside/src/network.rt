@@ -136,7 +136,7 @@ fn silence_of(error: io::Error) -> io::Error {
 }
 
 // The three bytes of a response that are its status code; spaces where it has none.
-fn code_of(reply: &[u8]) -> [u8; 3] {
+pub(crate) fn code_of(reply: &[u8]) -> [u8; 3] {
     match reply {
         [b'H', b'T', b'T', b'P', b'/', _, _, _, b' ', a, b, c, ..] => [*a, *b, *c],
         _ => [b' '; 3],
