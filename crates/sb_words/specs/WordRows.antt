@@ -43,6 +43,10 @@ abbrev pub callers : List (List Text × Form)
 callers = (codes "--host=a.example" ∷ codes "--max-jump=0" ∷ codes "--host" ∷ codes "b" ∷ codes "--key=k" ∷ [], record (serving 4 (2 ^ 64 - 1)) { hosts = codes "a.example" ∷ codes "b" ∷ []; max_jump = 0; key_file = codes "k" })
     ∷ (codes "--max-jump=100000" ∷ replicate 8 (codes "--host=a"), record (serving 4 (2 ^ 64 - 1)) { max_jump = 100000; hosts = replicate 8 (codes "a") }) ∷ []
 
+-- the options of a server that tells each call, and the form
+abbrev pub tellers : List (List Text × Form)
+tellers = (codes "--workers=2" ∷ codes "--log" ∷ codes "--connections=9" ∷ [], record (serving 2 9) { log = true }) ∷ []
+
 -- words with an option that isn't a server's, and the form
 abbrev pub others : List (List Text × Form)
 others = (run_with (codes "--max-jump=7"), record (over Run (codes "a")) { max_jump = 7 }) ∷ (check_with (codes "--look"), record (over Check (codes "a")) { look = true })
@@ -71,10 +75,11 @@ no_callers = serve_with (codes "--max-jump=100001" ∷ []) ∷ serve_with (codes
     ∷ serve_with (codes "--host=" ∷ []) ∷ serve_with (codes "--host=a b" ∷ []) ∷ serve_with (replicate 9 (codes "--host=a")) ∷ serve_with (codes "--key=" ∷ []) ∷ serve_with (codes "--key=a" ∷ codes "--key=a" ∷ [])
     ∷ serve_with (codes "--patience=1" ∷ []) ∷ serve_with (codes "--look" ∷ []) ∷ []
 
--- the same of a run, a check and a client
+-- the same of a run, a check and a client, and of a flag of a server
 abbrev pub no_others : List (List Text)
 no_others = run_with (codes "--max-jump=100001") ∷ run_with (codes "--max-jump=07") ∷ run_with (codes "--look") ∷ run_with (codes "--host=a") ∷ check_with (codes "--look=true") ∷ check_with (codes "--max-jump=1")
-    ∷ (codes "check" ∷ codes "--look" ∷ codes "--data=a" ∷ codes "--look" ∷ []) ∷ client_with (codes "--key=") ∷ client_with (codes "--patience=0") ∷ client_with (codes "--patience=7201") ∷ client_with (codes "--patience=012") ∷ client_with (codes "--host=a") ∷ []
+    ∷ (codes "check" ∷ codes "--look" ∷ codes "--data=a" ∷ codes "--look" ∷ []) ∷ client_with (codes "--key=") ∷ client_with (codes "--patience=0") ∷ client_with (codes "--patience=7201") ∷ client_with (codes "--patience=012") ∷ client_with (codes "--host=a")
+    ∷ serve_with (codes "--log=true" ∷ []) ∷ serve_with (codes "--log" ∷ codes "--log" ∷ []) ∷ run_with (codes "--log") ∷ check_with (codes "--log") ∷ client_with (codes "--log") ∷ []
 
 -- no form for each
 abbrev pub nones : List (List Text) → List (Option Form)

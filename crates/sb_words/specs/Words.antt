@@ -53,9 +53,13 @@ client_command = (with_rule (with_rule (with_rule (new_app (codes "client")) por
 abbrev pub plain_server : App
 plain_server = with_rule (with_rule (with_rule (with_rule (new_app (codes "serve")) data_option) port_option) (value_option (codes "workers"))) (value_option (codes "connections"))
 
+-- the same, with how far time may jump and whether each call is told
+abbrev pub open_server : App
+open_server = with_rule (with_rule plain_server (value_option (codes "max-jump"))) (flag_option (codes "log"))
+
 -- `serve`, with all its options
 abbrev pub serve_command : Shape
-serve_command = (with_rule (with_rule (with_rule plain_server (value_option (codes "max-jump"))) (list_option (codes "host"))) (value_option (codes "key"))).top
+serve_command = (with_rule (with_rule open_server (list_option (codes "host"))) (value_option (codes "key"))).top
 
 -- the commands over a folder
 abbrev pub folder_commands : App
@@ -79,6 +83,7 @@ pub record Form : Type 0 where
   pub key_file : Text
   pub patience : ℕ
   pub look : Bool
+  pub log : Bool
 
 -- the form that was read
 abbrev pub form_value : ReadForm → Form
@@ -93,6 +98,7 @@ form_value f = record {
   key_file = f.key_file.now;
   patience = f.patience;
   look = f.look;
+  log = f.log;
 }
 
 -- the form of a command that names nothing beside it
@@ -108,6 +114,7 @@ form_of command = record {
   key_file = [];
   patience = 0;
   look = false;
+  log = false;
 }
 
 -- the command of each name
@@ -182,9 +189,9 @@ key_by (Some []) = None
 key_by (Some (b ∷ bs)) = Some (b ∷ bs)
 
 -- what `clap` finds of a flag that is there
-abbrev pub look_by : Option Text → Bool
-look_by None = false
-look_by (Some word) = bytes_eq word (codes "true")
+abbrev pub flag_by : Option Text → Bool
+flag_by None = false
+flag_by (Some word) = bytes_eq word (codes "true")
 
 -- ---- the forms of the commands
 
@@ -208,6 +215,11 @@ abbrev pub with_callers : Option Form → Option (List Text) → Option Text →
 with_callers (Some form) (Some hosts) (Some key_file) = Some (record form { hosts = hosts; key_file = key_file })
 with_callers _ _ _ = None
 
+-- whether each call is told, in a form that is there
+abbrev pub with_log : Option Form → Bool → Option Form
+with_log None log = None
+with_log (Some form) log = Some (record form { log = log })
+
 -- all five have to be there
 abbrev pub open_server_at : Option Text → (port workers connections max_jump : Option ℕ) → Option Form
 open_server_at (Some folder) (Some port) (Some workers) (Some connections) (Some max_jump) = Some (record (form_of Serve) { folder = folder; port = port; workers = workers; connections = connections; max_jump = max_jump })
@@ -219,7 +231,7 @@ run_in rows = run_at (first_of (codes "data") rows) (max_jump_by 0 (first_of (co
 
 -- a check by what was found for its options
 abbrev pub check_in : List Row → Option Form
-check_in rows = check_at (first_of (codes "data") rows) (look_by (first_of (codes "look") rows))
+check_in rows = check_at (first_of (codes "data") rows) (flag_by (first_of (codes "look") rows))
 
 -- a client by what was found for its options
 abbrev pub client_in : List Row → Option Form
@@ -231,7 +243,7 @@ open_server_in rows = open_server_at (first_of (codes "data") rows) (port_by (fi
 
 -- a server by what was found for its options
 abbrev pub serve_in : List Row → Option Form
-serve_in rows = with_callers (open_server_in rows) (hosts_by (all_of (codes "host") rows)) (key_by (first_of (codes "key") rows))
+serve_in rows = with_log (with_callers (open_server_in rows) (hosts_by (all_of (codes "host") rows)) (key_by (first_of (codes "key") rows))) (flag_by (first_of (codes "log") rows))
 
 -- the form of a command, by its options
 abbrev pub form_by : Option Command → List Row → Option Form

@@ -38,6 +38,8 @@ pub struct Form<'w> {
     pub patience: u16,
     /// A check is to write nothing.
     pub look: bool,
+    /// A server is to tell each call on standard error.
+    pub log: bool,
 }
 
 /// Why there is no form.

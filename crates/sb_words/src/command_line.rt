@@ -140,16 +140,22 @@ fn serve_command<'a>(alloc: Global) -> Result<clap::Command<'a>, AllocError>
         "NAME",
         "A name by which the server may be called, beside localhost: up to 8 times, each of 1 to 255 visible characters [default: any name]",
     );
+    open_server(alloc)?.arg(host)?.arg(key_option(alloc))
+}
+
+// The server without the rules of who may call it.
+fn open_server<'a>(alloc: Global) -> Result<clap::Command<'a>, AllocError>
+    ensures app { IfOk result (λ c. app_of c ≡ line.open_server) }
+    ensures local { IfOk result (λ c. (fields_of c).has_globals ≡ false) }
+{
     let max_jump = value_option(
         alloc,
         "max-jump",
         "DAYS",
         "The most days that the clock may be ahead of the journal as it opens: 0 to 100000; 0 is any number [default: 400]",
     );
-    plain_server(alloc)?
-        .arg(max_jump)?
-        .arg(host)?
-        .arg(key_option(alloc))
+    let log = flag_option(alloc, "log", "Tell each call in a line on standard error");
+    plain_server(alloc)?.arg(max_jump)?.arg(log)
 }
 
 // The server with its folder, its port and its workers.

@@ -1,7 +1,7 @@
 // What some words are, worked out by hand.
 ghost use Rattle.std.specs.Prelude.{◌≡◌, ◌∷◌, ◌++◌, [], List, ℕ, codes, Some, map};
 ghost use Rattle.sb_words.specs.Words.{form_in};
-ghost use Rattle.sb_words.specs.WordRows.{callers, no_callers, no_forms, no_others, no_servers, nones, others, over, serve_with, servers, with_port};
+ghost use Rattle.sb_words.specs.WordRows.{callers, no_callers, no_forms, no_others, no_servers, nones, others, over, serve_with, servers, tellers, with_port};
 
 use crate::command::Command;
 
@@ -15,10 +15,11 @@ pub fn worked_words()
     ensures no_serve { map form_in no_servers ≡ nones no_servers }
 {}
 
-/// Words with the options that say who may call a server, how far time may jump, how long a client
-/// waits, and that a check only looks.
+/// Words with the options that say who may call a server, that it tells each call, how far time may
+/// jump, how long a client waits, and that a check only looks.
 pub fn worked_options()
     ensures callers { map (λ row. form_in (serve_with row.0)) callers ≡ map (λ row. Some row.1) callers }
+    ensures tellers { map (λ row. form_in (serve_with row.0)) tellers ≡ map (λ row. Some row.1) tellers }
     ensures others { map (λ row. form_in row.0) others ≡ map (λ row. Some row.1) others }
     ensures no_caller { map form_in no_callers ≡ nones no_callers }
     ensures no_other { map form_in no_others ≡ nones no_others }

@@ -163,6 +163,7 @@ fn form_with<'w>(alloc: Global, command: Command) -> Form<'w>
         key_file: "",
         patience: 0,
         look: false,
+        log: false,
     }
 }
 
@@ -190,7 +191,7 @@ fn check_form<'w>(alloc: Global, options: &ArgMatches<'w>) -> Option<Form<'w>>
     };
     Some(Form {
         folder,
-        look: look_of(word_of(options, "look")),
+        look: flag_of(word_of(options, "look")),
         ..form_with(alloc, Command::Check)
     })
 }
@@ -229,6 +230,7 @@ fn serve_form<'w>(alloc: Global, options: &ArgMatches<'w>) -> Result<Option<Form
     };
     form.hosts = names.to_vec(alloc)?;
     form.key_file = key_file;
+    form.log = flag_of(word_of(options, "log"));
     Ok(Some(form))
 }
 
@@ -384,8 +386,8 @@ fn is_visible(b: u8) -> bool
     33 <= b && b <= 126
 }
 
-fn look_of(word: Option<&str>) -> bool
-    ensures { result ≡ line.look_by (option_map (λ w. w.now) word.entry) }
+fn flag_of(word: Option<&str>) -> bool
+    ensures { result ≡ line.flag_by (option_map (λ w. w.now) word.entry) }
 {
     match word {
         Some(word) => word == "true",

@@ -7,6 +7,10 @@ pub returns-clause-callers : goal.returns-clause-callers
 unfolding form_in is_host clap_on_literals
 returns-clause-callers c = refl
 
+pub returns-clause-tellers : goal.returns-clause-tellers
+unfolding form_in is_host clap_on_literals
+returns-clause-tellers c = refl
+
 pub returns-clause-others : goal.returns-clause-others
 unfolding form_in is_host clap_on_literals
 returns-clause-others c = refl
