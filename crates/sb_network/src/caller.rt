@@ -1,0 +1,120 @@
+// A connection that never waits.
+ghost use Rattle.std.specs.Prelude.{◌≡◌, None};
+
+use crate::hall::Hall;
+use mio::net::TcpStream;
+use sb_outside::{Conn, ReadFault, WriteFault};
+use std::io;
+use std::io::{ErrorKind, Read, Write};
+use std::sync::Arc;
+
+/// A connection of a place. It tells no content. Each error of the system is a counted fault, and so is
+/// a write that takes nothing, and a read or a write that finds the other side silent for 60 seconds
+/// while nothing of the server's own is under way, so that a silent caller keeps no worker.
+#[derive(Drop)]
+pub struct Caller<R: std::rt::Clock + Drop> {
+    stream: TcpStream,
+    hall: Arc<Hall<R>>,
+    place: usize,
+    // A request is being answered.
+    asked: bool,
+    read_faults: u64,
+    write_faults: u64,
+}
+
+impl<R: std::rt::Clock + Drop> Caller<R> {
+    /// A connection over this stream, at this place of a hall.
+    pub(crate) fn new(stream: TcpStream, hall: Arc<Hall<R>>, place: usize) -> Self
+        ensures reads { ⟦<Caller<R> as Conn>⟧.reads result ≡ 0 }
+        ensures writes { ⟦<Caller<R> as Conn>⟧.writes result ≡ 0 }
+    {
+        let caller = Caller {
+            stream,
+            hall,
+            place,
+            asked: false,
+            read_faults: 0,
+            write_faults: 0,
+        };
+        caller.listen();
+        caller
+    }
+
+    // The other side did something: its silence counts from now on, while a request isn't answered.
+    fn listen(&self) {
+        if self.asked {
+            return;
+        }
+        if let Some(seat) = self.hall.seat(self.place) {
+            seat.listen(self.hall.now_ms());
+        }
+    }
+
+    // The other side's silence counts no more.
+    fn rest(&self) {
+        if let Some(seat) = self.hall.seat(self.place) {
+            seat.rest();
+        }
+    }
+
+    // Whether this error says that there is nothing yet, and the other side may still be waited for.
+    fn waits(&self, error: &io::Error) -> bool {
+        if error.kind() != ErrorKind::WouldBlock {
+            return false;
+        }
+        match self.hall.seat(self.place) {
+            Some(seat) => !seat.is_forsaken(self.hall.now_ms()),
+            None => true,
+        }
+    }
+}
+
+impl<R: std::rt::Clock + Drop> Conn for Caller<R> {
+    ghost left = { λ _. None };
+
+    ghost given = { λ _. None };
+
+    ghost reads = { λ c. c.read_faults };
+
+    ghost writes = { λ c. c.write_faults };
+
+    fn read(&mut self, into: &mut [u8]) -> Result<Option<usize>, ReadFault> {
+        match self.stream.read(into) {
+            Ok(count) => {
+                self.listen();
+                self.hall.moved();
+                Ok(Some(count))
+            }
+            Err(error) if self.waits(&error) => Ok(None),
+            Err(_) => {
+                self.read_faults = self.read_faults.saturating_add(1);
+                Err(ReadFault)
+            }
+        }
+    }
+
+    fn write(&mut self, bytes: &[u8]) -> Result<Option<usize>, WriteFault> {
+        match self.stream.write(bytes) {
+            Ok(count) if count > 0 || bytes.is_empty() => {
+                self.listen();
+                self.hall.moved();
+                Ok(Some(count))
+            }
+            Err(error) if self.waits(&error) => Ok(None),
+            _ => {
+                self.write_faults = self.write_faults.saturating_add(1);
+                Err(WriteFault)
+            }
+        }
+    }
+
+    fn asked(&mut self, _method: &[u8], _path: &[u8]) {
+        self.asked = true;
+        self.rest();
+    }
+
+    fn answered(&mut self, _response: &[u8]) {
+        self.asked = false;
+        self.listen();
+    }
+}

@@ -1,0 +1,108 @@
+// The halls of a server, one for each thread.
+use crate::Place;
+use crate::entrance::Entrance;
+use crate::hall::{Hall, LISTENER};
+use mio::Interest;
+use mio::net::TcpListener;
+use sb_outside::{Clock, Lobby};
+use std::alloc::Global;
+use std::io;
+use std::io::Eprint;
+use std::net::{Ipv4Addr, Net, SocketAddr};
+use std::sync::Arc;
+
+/// Where the workers of a server wait: those of each thread in a hall of their own.
+#[derive(Drop)]
+pub struct Halls<R: std::rt::Clock + Drop> {
+    halls: Vec<Arc<Hall<R>>>,
+    // How many workers each has; the last may have fewer.
+    stretch: usize,
+}
+
+/// Listens at a port of this machine (127.0.0.1): so many places, all over one listener, and the halls in
+/// which the workers of so many threads wait.
+pub fn open_halls<R: Net + Eprint + std::rt::Clock + Copy + Drop>(
+    system: R,
+    alloc: Global,
+    port: u16,
+    places: usize,
+    threads: usize,
+) -> io::Result<(Vec<Place<R>>, Halls<R>)> {
+    let mut listener = TcpListener::bind(&system, SocketAddr::from((Ipv4Addr::LOCALHOST, port)))?;
+    let stretch = places.div_ceil(threads.max(1)).max(1);
+    let halls = halls_of(system, alloc, places, stretch)?;
+    for hall in &halls {
+        hall.registry()
+            .register(&mut listener, LISTENER, Interest::READABLE)?;
+    }
+    let entrance = Arc::new(alloc, Entrance::new(listener, system))?;
+    let places = places_of(alloc, &entrance, &halls, places, stretch)?;
+    Ok((places, Halls { halls, stretch }))
+}
+
+// Halls for so many places, each with a stretch of them.
+fn halls_of<R: Net + std::rt::Clock + Copy + Drop>(
+    system: R,
+    alloc: Global,
+    places: usize,
+    stretch: usize,
+) -> io::Result<Vec<Arc<Hall<R>>>> {
+    let mut halls = Vec::new(alloc);
+    let mut left = places;
+    for _ in 0..places {
+        if left == 0 {
+            break;
+        }
+        let here = left.min(stretch);
+        halls.push(Arc::new(alloc, Hall::new(&system, alloc, system, here)?)?)?;
+        left -= here;
+    }
+    Ok(halls)
+}
+
+// The doors of these halls, that of the last worker first.
+fn places_of<R: Eprint + std::rt::Clock + Drop>(
+    alloc: Global,
+    entrance: &Arc<Entrance<R>>,
+    halls: &[Arc<Hall<R>>],
+    places: usize,
+    stretch: usize,
+) -> io::Result<Vec<Place<R>>> {
+    let mut doors = Vec::new(alloc);
+    for k in 0..places {
+        let worker = places - 1 - k;
+        let Some(hall) = halls.get(worker / stretch.max(1)) else {
+            break;
+        };
+        let place = worker % stretch.max(1);
+        doors.push(Place::new(entrance.clone()?, hall.clone()?, place))?;
+    }
+    Ok(doors)
+}
+
+impl<R: std::rt::Clock + Drop> Halls<R> {
+    // The hall of a worker, and its place there.
+    fn of(&self, worker: usize) -> Option<(&Arc<Hall<R>>, usize)> {
+        let stretch = self.stretch.max(1);
+        match self.halls.get(worker / stretch) {
+            Some(hall) => Some((hall, worker % stretch)),
+            None => None,
+        }
+    }
+}
+
+impl<R: std::rt::Clock + Drop> Lobby for Halls<R> {
+    fn wait<C: Clock>(&self, clock: &C, first: usize, until: u64) {
+        match self.of(first) {
+            Some((hall, _)) => hall.wait(clock, until),
+            None => clock.pause(),
+        }
+    }
+
+    fn may_go(&self, worker: usize) -> bool {
+        match self.of(worker) {
+            Some((hall, place)) => hall.may_go(place),
+            None => true,
+        }
+    }
+}
