@@ -21,8 +21,12 @@ fn says_what_is_wrong(rt: HostRuntime) -> Result<(), Fail> {
             "--port takes a number from 1 to 65535",
         ),
         (
-            "serve --data=a --port=80 --workers=17",
-            "--workers takes a number from 1 to 16",
+            "serve --data=a --port=80 --workers=65536",
+            "--workers takes a number from 1 to 65535",
+        ),
+        (
+            "serve --data=a --port=80 --threads=65",
+            "--threads takes a number from 1 to 64",
         ),
         ("serve --data=a --port=80 --host=", hosts),
         (

@@ -13,7 +13,7 @@ over command folder = record (form_of command) { folder = folder }
 abbrev pub with_port : ℕ → Form
 with_port port = record (form_of Client) { port = port; patience = 120 }
 
--- a server's call
+-- a server's call that names no threads
 abbrev pub serving : (workers connections : ℕ) → Form
 serving workers connections = record (over Serve (codes "a")) { port = 80; workers = workers; connections = connections; max_jump = 400 }
 
@@ -35,13 +35,14 @@ check_with option = codes "check" ∷ codes "--data=a" ∷ option ∷ []
 
 -- the options of a server, and the form
 abbrev pub servers : List (List Text × Form)
-servers = ([], serving 4 (2 ^ 64 - 1)) ∷ (codes "--workers=16" ∷ codes "--connections" ∷ codes "1000000" ∷ [], serving 16 1000000)
-    ∷ (codes "--connections=1" ∷ codes "--workers" ∷ codes "1" ∷ [], serving 1 1) ∷ (codes "--workers=2" ∷ [], serving 2 (2 ^ 64 - 1)) ∷ (codes "--connections=9" ∷ [], serving 4 9) ∷ []
+servers = ([], serving 1024 (2 ^ 64 - 1)) ∷ (codes "--workers=65535" ∷ codes "--connections" ∷ codes "1000000" ∷ [], serving 65535 1000000)
+    ∷ (codes "--connections=1" ∷ codes "--workers" ∷ codes "1" ∷ [], serving 1 1) ∷ (codes "--workers=2" ∷ [], serving 2 (2 ^ 64 - 1)) ∷ (codes "--connections=9" ∷ [], serving 1024 9)
+    ∷ (codes "--threads=64" ∷ [], record (serving 1024 (2 ^ 64 - 1)) { threads = 64 }) ∷ (codes "--threads" ∷ codes "1" ∷ codes "--workers=3" ∷ [], record (serving 3 (2 ^ 64 - 1)) { threads = 1 }) ∷ []
 
 -- the options of a server that say who may call it and how far time may jump, and the form
 abbrev pub callers : List (List Text × Form)
-callers = (codes "--host=a.example" ∷ codes "--max-jump=0" ∷ codes "--host" ∷ codes "b" ∷ codes "--key=k" ∷ [], record (serving 4 (2 ^ 64 - 1)) { hosts = codes "a.example" ∷ codes "b" ∷ []; max_jump = 0; key_file = codes "k" })
-    ∷ (codes "--max-jump=100000" ∷ replicate 8 (codes "--host=a"), record (serving 4 (2 ^ 64 - 1)) { max_jump = 100000; hosts = replicate 8 (codes "a") }) ∷ []
+callers = (codes "--host=a.example" ∷ codes "--max-jump=0" ∷ codes "--host" ∷ codes "b" ∷ codes "--key=k" ∷ [], record (serving 1024 (2 ^ 64 - 1)) { hosts = codes "a.example" ∷ codes "b" ∷ []; max_jump = 0; key_file = codes "k" })
+    ∷ (codes "--max-jump=100000" ∷ replicate 8 (codes "--host=a"), record (serving 1024 (2 ^ 64 - 1)) { max_jump = 100000; hosts = replicate 8 (codes "a") }) ∷ []
 
 -- the options of a server that tells each call, and the form
 abbrev pub tellers : List (List Text × Form)
@@ -65,7 +66,8 @@ no_forms = [] ∷ (codes "serve" ∷ []) ∷ (codes "run" ∷ []) ∷ (codes "ru
 -- a server with no port, one with no folder, and options that are out of range, written with a 0 first or given twice
 abbrev pub no_servers : List (List Text)
 no_servers = (codes "serve" ∷ codes "--data=a" ∷ []) ∷ (codes "serve" ∷ codes "--port=80" ∷ []) ∷ (codes "serve" ∷ codes "--data=a" ∷ codes "--port=0" ∷ [])
-    ∷ serve_with (codes "--workers" ∷ codes "17" ∷ []) ∷ serve_with (codes "--workers=0" ∷ []) ∷ serve_with (codes "--workers=04" ∷ []) ∷ serve_with (codes "--workers=" ∷ [])
+    ∷ serve_with (codes "--workers" ∷ codes "65536" ∷ []) ∷ serve_with (codes "--workers=0" ∷ []) ∷ serve_with (codes "--workers=04" ∷ []) ∷ serve_with (codes "--workers=" ∷ [])
+    ∷ serve_with (codes "--threads=0" ∷ []) ∷ serve_with (codes "--threads=65" ∷ []) ∷ serve_with (codes "--threads=1" ∷ codes "--threads=1" ∷ [])
     ∷ serve_with (codes "--connections=0" ∷ []) ∷ serve_with (codes "--connections=1000001" ∷ []) ∷ serve_with (codes "--connections=2" ∷ codes "--connections=2" ∷ [])
     ∷ (codes "client" ∷ codes "--port=80" ∷ codes "--workers=2" ∷ []) ∷ []
 

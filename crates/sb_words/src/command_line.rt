@@ -140,14 +140,20 @@ fn serve_command<'a>(alloc: Global) -> Result<clap::Command<'a>, AllocError>
         "NAME",
         "A name by which the server may be called, beside localhost: up to 8 times, each of 1 to 255 visible characters [default: any name]",
     );
-    open_server(alloc)?.arg(host)?.arg(key_option(alloc))
+    limited_server(alloc)?.arg(host)?.arg(key_option(alloc))
 }
 
-// The server without the rules of who may call it.
-fn open_server<'a>(alloc: Global) -> Result<clap::Command<'a>, AllocError>
-    ensures app { IfOk result (λ c. app_of c ≡ line.open_server) }
+// The server with its limits, and whether each call is told.
+fn limited_server<'a>(alloc: Global) -> Result<clap::Command<'a>, AllocError>
+    ensures app { IfOk result (λ c. app_of c ≡ line.limited_server) }
     ensures local { IfOk result (λ c. (fields_of c).has_globals ≡ false) }
 {
+    let connections = value_option(
+        alloc,
+        "connections",
+        "K",
+        "After how many connections a worker ends: 1 to 1000000 [default: it doesn't end]",
+    );
     let max_jump = value_option(
         alloc,
         "max-jump",
@@ -155,10 +161,13 @@ fn open_server<'a>(alloc: Global) -> Result<clap::Command<'a>, AllocError>
         "The most days that the clock may be ahead of the journal as it opens: 0 to 100000; 0 is any number [default: 400]",
     );
     let log = flag_option(alloc, "log", "Tell each call in a line on standard error");
-    plain_server(alloc)?.arg(max_jump)?.arg(log)
+    plain_server(alloc)?
+        .arg(connections)?
+        .arg(max_jump)?
+        .arg(log)
 }
 
-// The server with its folder, its port and its workers.
+// The server with its folder, its port, its workers and their threads.
 fn plain_server<'a>(alloc: Global) -> Result<clap::Command<'a>, AllocError>
     ensures app { IfOk result (λ c. app_of c ≡ line.plain_server) }
     ensures local { IfOk result (λ c. (fields_of c).has_globals ≡ false) }
@@ -167,13 +176,13 @@ fn plain_server<'a>(alloc: Global) -> Result<clap::Command<'a>, AllocError>
         alloc,
         "workers",
         "N",
-        "How many connections are served at once: 1 to 16 [default: 4]",
+        "How many connections are served at once: 1 to 65535 [default: 1024]",
     );
-    let connections = value_option(
+    let threads = value_option(
         alloc,
-        "connections",
-        "K",
-        "After how many connections a worker ends: 1 to 1000000 [default: it doesn't end]",
+        "threads",
+        "M",
+        "How many threads serve them: 1 to 64 [default: the processors, up to 4]",
     );
     let about = "Answer the requests of connections";
     let example = "Example: bus serve --data data --port 8080";
@@ -181,7 +190,7 @@ fn plain_server<'a>(alloc: Global) -> Result<clap::Command<'a>, AllocError>
         .arg(data_option(alloc))?
         .arg(port_option(alloc))?
         .arg(workers)?
-        .arg(connections)
+        .arg(threads)
 }
 
 fn data_option<'a>(alloc: Global) -> Arg<'a>
