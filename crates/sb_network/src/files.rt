@@ -1,4 +1,7 @@
 // How many files a process may have open.
+ghost use Rattle.std.specs.Prelude.{◌≡◌};
+ghost use Rattle.sb_network.specs.Files as limits;
+
 use std::fs;
 use std::fs::Files;
 
@@ -42,12 +45,11 @@ fn number_of(text: &str) -> Option<u64> {
 }
 
 /// How many of so many places a server of so many threads has files for, where the process may have so
-/// many open: one at least.
-pub fn places_within(files: u64, places: u16, threads: u16) -> u16 {
+/// many open.
+pub fn places_within(files: u64, places: u16, threads: u16) -> u16
+    ensures { result ≡ limits.places_within files places threads }
+{
     let beside = BESIDE + A_THREAD * u64::from(threads);
     let most = files.saturating_sub(beside).max(1);
-    if u64::from(places) <= most {
-        return places;
-    }
-    most as u16
+    u64::from(places).min(most) as u16
 }
