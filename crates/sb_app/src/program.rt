@@ -14,7 +14,7 @@ use crate::alone::carry_out;
 use crate::notices::{Notice, Watcher};
 use crate::serving::serve_over;
 use crate::task::{Named, Task};
-use sb_outside::{Clock, Disk, Door, Link, Sink, Source};
+use sb_outside::{Clock, Disk, Door, Link, Lobby, Sink, Source};
 use sb_rest::Access;
 use sb_words::{Command, WordsFault, read_form};
 use std::alloc::Global;
@@ -61,9 +61,10 @@ pub fn top_alone<D: Disk, C: Clock, S: Source, K: Sink, N: Link>(
 }
 
 /// Does what the words name over what it is handed. A server (`serve`) serves the connections of these
-/// doors to whom `access` lets in, each door by a worker, and ends once all workers have; its status
+/// doors to whom `access` lets in, each door by a worker, all by so many threads, which wait in the
+/// lobby, and ends once all workers have; its status
 /// is 0, 4 to 8 or 14 as `serve_over` says, and the watcher is told of it. All else is `top_alone`, and
-/// the threads, the doors and the watcher aren't used.
+/// the threads, the doors, the lobby and the watcher aren't used.
 #[tactic(auto, using(crate::proofs::Calls::unnamed))]
 pub fn top<
     T: Threads + Wait + Sync,
@@ -72,6 +73,7 @@ pub fn top<
     S: Source,
     K: Sink,
     R: Door + Send,
+    L: Lobby + Sync,
     N: Link,
     W: Watcher,
 >(
@@ -86,6 +88,8 @@ pub fn top<
     input: &mut S,
     output: &mut K,
     doors: &mut Vec<R>,
+    lobby: &L,
+    threads: usize,
     key: &[u8],
     link: &mut N,
     watcher: &W,
@@ -135,6 +139,8 @@ where
             clock,
             output,
             doors,
+            lobby,
+            threads,
             form.connections,
             form.max_jump,
             watcher,

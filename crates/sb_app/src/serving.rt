@@ -14,7 +14,7 @@ use crate::notices::Watcher;
 use crate::opening::open_node;
 use sb_desk::{Desk, NewFault, Report};
 use sb_node::Node;
-use sb_outside::{Clock, Disk, Door, Sink, write_all};
+use sb_outside::{Clock, Disk, Door, Lobby, Sink, write_all};
 use sb_rest::Access;
 use sb_routes::Routes;
 use sb_server::{ServeEnding, serve};
@@ -22,8 +22,8 @@ use std::alloc::{AllocError, Global};
 use std::sync::Wait;
 use std::thread::Threads;
 
-/// Serves the connections of these doors, at most so many each, over the namespace of these disks, to
-/// whom `access` lets in, and tells the numbers of its history once all workers have ended. The status
+/// Serves the connections of these doors, at most so many each, by so many threads, which wait in the
+/// lobby, over the namespace of these disks, to whom `access` lets in, and tells the numbers of its history once all workers have ended. The status
 /// is 0; 5 for a disk that failed, 6 for a journal that can't be trusted, 8 for a door that failed, 7
 /// for want of memory and 4 for a fault of the output: the first of 5, 8, 7 and 4 where several came. It
 /// is 14, and no door is used, where behind the opening the clock reads more than `max_jump` days past
@@ -35,6 +35,7 @@ pub fn serve_over<
     C: Clock + Sync,
     K: Sink,
     R: Door + Send,
+    L: Lobby + Sync,
     W: Watcher,
 >(
     rt: &T,
@@ -46,6 +47,8 @@ pub fn serve_over<
     clock: &C,
     output: &mut K,
     doors: &mut Vec<R>,
+    lobby: &L,
+    threads: usize,
     most: u64,
     max_jump: u32,
     watcher: &W,
@@ -92,6 +95,8 @@ where
         &mut passes,
         doors,
         clock,
+        lobby,
+        threads,
         most,
     );
     drop(routes);

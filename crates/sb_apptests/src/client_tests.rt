@@ -1,7 +1,7 @@
 // Runs that a server answers, over a link in memory: what is read, the responses that the link gives, and
 // the lines that must be written.
 use sb_app::{NoWatcher, top};
-use sb_outside::{Bytes, MemDisk, MemLink, MemSink, MemSource, NoDoor, StepClock};
+use sb_outside::{Bytes, MemDisk, MemLink, MemSink, MemSource, NoDoor, PauseLobby, StepClock};
 use sb_rest::Access;
 use std::sync::Wait;
 use std::test::Fail;
@@ -126,6 +126,8 @@ fn answers<T: Threads + Wait + Sync>(
         &mut input,
         &mut output,
         &mut doors,
+        &PauseLobby,
+        1,
         &[],
         &mut link,
         &NoWatcher,

@@ -2,7 +2,7 @@
 // disks, and who is told of it.
 use crate::tests::SALT;
 use sb_app::{Notice, Watcher, top};
-use sb_outside::{MemConn, MemDisk, MemDoor, MemSink, MemSource, NoLink, StepClock};
+use sb_outside::{MemConn, MemDisk, MemDoor, MemSink, MemSource, NoLink, PauseLobby, StepClock};
 use sb_rest::Access;
 use std::sync::Wait;
 use std::sync::atomic::{AtomicU64, Ordering};
@@ -156,6 +156,8 @@ fn leaves<T: Threads + Wait + Sync>(
         &mut input,
         &mut output,
         &mut doors,
+        &PauseLobby,
+        1,
         &[],
         &mut NoLink::new(),
         heard,

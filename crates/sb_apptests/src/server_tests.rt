@@ -4,7 +4,7 @@ ghost use Rattle.std.specs.Prelude.{◌≤◌};
 use crate::tests::{ONE_EVENT, SALT};
 use sb_app::{NoWatcher, top};
 use sb_model::{Rows, Text};
-use sb_outside::{MemConn, MemDisk, MemDoor, MemSink, MemSource, NoLink, StepClock};
+use sb_outside::{MemConn, MemDisk, MemDoor, MemSink, MemSource, NoLink, PauseLobby, StepClock};
 use sb_rest::Access;
 use std::sync::Wait;
 use std::test::Fail;
@@ -180,7 +180,19 @@ const CASES: [Case<'static>; 10] = [
     },
 ];
 
-fn connection(rt: &HostRuntime, requests: &[&str], piece: usize) -> Result<MemConn, Fail>
+// Whether connections and doors answer at once, or say "nothing yet" every other time.
+#[derive(Clone, Copy, PartialEq, Eq)]
+enum Pace {
+    Even,
+    Hesitant,
+}
+
+fn connection(
+    rt: &HostRuntime,
+    requests: &[&str],
+    piece: usize,
+    pace: Pace,
+) -> Result<MemConn, Fail>
     requires { 1 ≤ piece }
 {
     let alloc = rt.alloc();
@@ -190,18 +202,25 @@ fn connection(rt: &HostRuntime, requests: &[&str], piece: usize) -> Result<MemCo
     }
     let source = MemSource::new(bytes, piece, Vec::new(alloc));
     let sink = MemSink::new(alloc, 4096, Vec::new(alloc))?;
-    Ok(MemConn::new(source, sink))
+    match pace {
+        Pace::Even => Ok(MemConn::new(source, sink)),
+        Pace::Hesitant => Ok(MemConn::hesitant(source, sink)),
+    }
 }
 
-fn door_of(rt: &HostRuntime, case: Case<'_>, piece: usize) -> Result<MemDoor, Fail>
+fn door_of(rt: &HostRuntime, case: Case<'_>, piece: usize, pace: Pace) -> Result<MemDoor, Fail>
     requires { 1 ≤ piece }
 {
     let alloc = rt.alloc();
     let mut connections = Vec::new(alloc);
     for (requests, _) in case.connections {
-        connections.push(connection(rt, requests, piece)?)?;
+        connections.push(connection(rt, requests, piece, pace)?)?;
     }
-    Ok(MemDoor::new(alloc, connections, case.door.to_vec(alloc)?)?)
+    let failing = case.door.to_vec(alloc)?;
+    match pace {
+        Pace::Even => Ok(MemDoor::new(alloc, connections, failing)?),
+        Pace::Hesitant => Ok(MemDoor::hesitant(alloc, connections, failing)?),
+    }
 }
 
 fn access_of(rt: &HostRuntime, case: Case<'_>) -> Result<Access, Fail> {
@@ -243,6 +262,8 @@ fn served<T: Threads + Wait + Sync>(
         &mut input,
         output,
         doors,
+        &PauseLobby,
+        1,
         &[],
         &mut NoLink::new(),
         &NoWatcher,
@@ -270,13 +291,14 @@ fn tries<T: Threads + Wait + Sync>(
     threads: &T,
     case: Case<'_>,
     piece: usize,
+    pace: Pace,
 ) -> Result<(), Fail>
     requires { 1 ≤ piece }
 {
     let alloc = rt.alloc();
     let mut output = MemSink::new(alloc, 256, case.output.to_vec(alloc)?)?;
     let mut doors = Vec::new(alloc);
-    doors.push(door_of(rt, case, piece)?)?;
+    doors.push(door_of(rt, case, piece, pace)?)?;
     let status = served(
         rt,
         threads,
@@ -311,9 +333,22 @@ fn tries<T: Threads + Wait + Sync>(
 #[test]
 fn connections_are_served(rt: HostRuntime) -> Result<(), Fail> {
     for case in &CASES {
-        tries(&rt, &rt, *case, 1)?;
-        tries(&rt, &rt, *case, 7)?;
-        tries(&rt, &rt, *case, 4096)?;
+        tries(&rt, &rt, *case, 1, Pace::Even)?;
+        tries(&rt, &rt, *case, 7, Pace::Even)?;
+        tries(&rt, &rt, *case, 4096, Pace::Even)?;
+    }
+    Ok(())
+}
+
+// The same where there is nothing yet between any two bytes, and between any two connections. Which call
+// of the door fails is another one then.
+#[test]
+fn hesitant_connections_are_served(rt: HostRuntime) -> Result<(), Fail> {
+    for case in &CASES {
+        if case.door.is_empty() {
+            tries(&rt, &rt, *case, 1, Pace::Hesitant)?;
+            tries(&rt, &rt, *case, 4096, Pace::Hesitant)?;
+        }
     }
     Ok(())
 }
@@ -362,7 +397,7 @@ fn stop_at<T: Threads + Wait + Sync>(
     let alloc = rt.alloc();
     let mut output = MemSink::new(alloc, 256, Vec::new(alloc))?;
     let mut doors = Vec::new(alloc);
-    doors.push(door_of(rt, SEND_AND_RECEIVE, 4096)?)?;
+    doors.push(door_of(rt, SEND_AND_RECEIVE, 4096, Pace::Even)?)?;
     let status = served(
         rt,
         threads,

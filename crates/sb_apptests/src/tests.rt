@@ -1,7 +1,7 @@
 // Runs over memory whose disk, input or output fails. What is read and what answers it are rows of two
 // lines.
 use sb_app::{NoWatcher, top};
-use sb_outside::{MemDisk, MemSink, MemSource, NoDoor, NoLink, StepClock};
+use sb_outside::{MemDisk, MemSink, MemSource, NoDoor, NoLink, PauseLobby, StepClock};
 use sb_rest::Access;
 use std::sync::Wait;
 use std::test::Fail;
@@ -149,6 +149,8 @@ fn ran<T: Threads + Wait + Sync>(
         &mut input,
         &mut output,
         &mut doors,
+        &PauseLobby,
+        1,
         &[],
         &mut NoLink::new(),
         &NoWatcher,

@@ -1,25 +1,28 @@
-// Two connections at once: a receive that waits gets the message that is sent meanwhile.
+// Several connections at once: a receive that waits gets the message that is sent meanwhile, but where its
+// caller has gone the message stays.
 ghost use Rattle.std.specs.Prelude.{◌≡◌, ◌≤◌, None};
 
 use crate::server_tests::SERVE;
 use crate::tests::{ONE_EVENT, SALT};
 use sb_app::{NoWatcher, top};
 use sb_outside::{
-    Clock, Conn, Door, DoorFault, MemDisk, MemSink, MemSource, NoLink, ReadFault, WriteFault,
+    Clock, Conn, Door, DoorFault, Given, MemDisk, MemSink, MemSource, NoLink, PauseLobby, ReadFault,
+    WriteFault,
 };
 use sb_rest::Access;
+use std::sync::Wait;
 use std::sync::atomic::{AtomicU64, Ordering};
 use std::test::Fail;
+use std::thread::Threads;
 
 const RECEIVE: &[u8] = b"POST /q/messages/head HTTP/1.1\r\nHost: h\r\n\r\n";
+
+const TAKE: &[u8] = b"DELETE /q/messages/head HTTP/1.1\r\nHost: h\r\n\r\n";
 
 const SEND: &[u8] = b"POST /q/messages HTTP/1.1\r\nHost: h\r\nContent-Length: 2\r\n\r\nhi";
 
 // How often the clock pauses before the receive's time has passed.
 const MOST_PAUSES: u64 = 1_000_000;
-
-// How often a connection looks for a pause before it ends.
-const MOST_LOOKS: u64 = 1 << 32;
 
 /// A clock that stands still, and jumps past the receive's time after a million pauses.
 #[derive(Drop)]
@@ -43,12 +46,13 @@ impl Clock for Still {
     }
 }
 
-/// A connection that gives its request once the clock was paused so often, and keeps the status of what
-/// it is given.
+/// A connection that gives its request once the clock was paused so often, ends behind its response, or
+/// before it once the clock was paused so often, and keeps what it is given.
 #[derive(Drop)]
 struct Late<'a> {
     clock: &'a Still,
     pauses: u64,
+    leaves: u64,
     request: &'static [u8],
     at: usize,
     given: Vec<u8>,
@@ -63,26 +67,32 @@ impl Conn for Late<'_> {
 
     ghost writes = { λ _. 0 };
 
-    fn read(&mut self, into: &mut [u8]) -> Result<usize, ReadFault> {
-        for _ in 0..MOST_LOOKS {
-            if self.clock.pauses.load(Ordering::SeqCst) >= self.pauses {
-                break;
-            }
+    fn read(&mut self, into: &mut [u8]) -> Result<Option<usize>, ReadFault> {
+        let pauses = self.clock.pauses.load(Ordering::SeqCst);
+        if pauses < self.pauses {
+            return Ok(None);
         }
         if self.at >= self.request.len() {
-            return Ok(0);
+            if self.given.is_empty() && pauses < self.leaves {
+                return Ok(None);
+            }
+            return Ok(Some(0));
         }
         let rest = &self.request[self.at..];
         let count = rest.len().min(into.len());
         into[..count].copy_from_slice(&rest[..count]);
         self.at += count;
-        Ok(count)
+        Ok(Some(count))
     }
 
-    fn write(&mut self, bytes: &[u8]) -> Result<usize, WriteFault> {
+    fn write(&mut self, bytes: &[u8]) -> Result<Option<usize>, WriteFault> {
         let _ = self.given.extend_from_slice(bytes);
-        Ok(bytes.len())
+        Ok(Some(bytes.len()))
     }
+
+    fn asked(&mut self, _method: &[u8], _path: &[u8]) {}
+
+    fn answered(&mut self, _response: &[u8]) {}
 }
 
 /// A door with one connection.
@@ -107,15 +117,15 @@ impl<'a> Door for Single<'a> {
 
     ghost count = { λ _. 0 };
 
-    fn accept(&mut self) -> Result<Option<Late<'a>>, DoorFault> {
+    fn accept(&mut self) -> Result<Given<Late<'a>>, DoorFault> {
         if !self.ended && self.out == 0 {
             if let Some(conn) = self.next.take() {
                 self.out = 1;
-                return Ok(Some(conn));
+                return Ok(Given::One(conn));
             }
         }
         self.ended = true;
-        Ok(None)
+        Ok(Given::End)
     }
 
     fn done(&mut self, conn: Late<'a>) {
@@ -124,11 +134,19 @@ impl<'a> Door for Single<'a> {
     }
 }
 
-fn door<'a>(rt: &HostRuntime, clock: &'a Still, pauses: u64, request: &'static [u8]) -> Single<'a> {
+// A door whose connection gives this request once the clock was paused so often.
+fn door<'a>(
+    rt: &HostRuntime,
+    clock: &'a Still,
+    pauses: u64,
+    leaves: u64,
+    request: &'static [u8],
+) -> Single<'a> {
     Single {
         next: Some(Late {
             clock,
             pauses,
+            leaves,
             request,
             at: 0,
             given: Vec::new(rt.alloc()),
@@ -147,40 +165,89 @@ fn is_given(door: &Single<'_>, begins: &[u8], ends: &[u8]) -> bool {
     }
 }
 
-#[test]
-fn two_connections_at_once(rt: HostRuntime) -> Result<(), Fail> {
+// Serves these doors over a queue without a message by so many threads, and gives the status.
+fn serve_doors<T: Threads + Wait + Sync>(
+    rt: &HostRuntime,
+    threads: &T,
+    clock: &Still,
+    doors: &mut Vec<Single<'_>>,
+    count: usize,
+) -> Result<u8, Fail> {
     let alloc = rt.alloc();
-    let clock = Still {
-        pauses: AtomicU64::new(0),
-    };
     let disk_a = MemDisk::new(alloc, ONE_EVENT.to_vec(alloc)?, Vec::new(alloc))?;
     let disk_b = MemDisk::new(alloc, Vec::new(alloc), Vec::new(alloc))?;
     let mut input = MemSource::new(Vec::new(alloc), 1, Vec::new(alloc));
     let mut output = MemSink::new(alloc, 256, Vec::new(alloc))?;
-    let mut doors = Vec::new(alloc);
-    doors.push(door(&rt, &clock, 0, RECEIVE))?;
-    doors.push(door(&rt, &clock, 1, SEND))?;
     let (status, _disks) = top(
-        &rt,
+        threads,
         alloc,
         &SERVE,
         &Access::unlocked(alloc),
         disk_a,
         disk_b,
         SALT,
-        &clock,
+        clock,
         &mut input,
         &mut output,
-        &mut doors,
+        doors,
+        &PauseLobby,
+        count,
         &[],
         &mut NoLink::new(),
         &NoWatcher,
     );
-    assert_eq!(rt; status, 0);
+    Ok(status)
+}
+
+fn tries_two<T: Threads + Wait + Sync>(
+    rt: &HostRuntime,
+    threads: &T,
+    count: usize,
+) -> Result<(), Fail> {
+    let clock = Still {
+        pauses: AtomicU64::new(0),
+    };
+    let mut doors = Vec::new(rt.alloc());
+    doors.push(door(rt, &clock, 0, u64::MAX, RECEIVE))?;
+    doors.push(door(rt, &clock, 1, u64::MAX, SEND))?;
+    if serve_doors(rt, threads, &clock, &mut doors, count)? != 0 {
+        return Err(Fail::from("another status"));
+    }
     let (Some(receiving), Some(sending)) = (doors.first(), doors.get(1)) else {
         return Err(Fail::from("the doors come back"));
     };
-    assert!(rt; is_given(receiving, b"HTTP/1.1 201 Created\r\n", b"\r\n\r\nhi"));
+    if !is_given(receiving, b"HTTP/1.1 201 Created\r\n", b"\r\n\r\nhi") {
+        return Err(Fail::from("the message wasn't received"));
+    }
+    if !is_given(sending, b"HTTP/1.1 201 Created\r\n", b"\r\n\r\n") {
+        return Err(Fail::from("the message wasn't sent"));
+    }
+    Ok(())
+}
+
+#[test]
+fn two_connections_at_once(rt: HostRuntime) -> Result<(), Fail> {
+    tries_two(&rt, &rt, 2)?;
+    tries_two(&rt, &rt, 1)
+}
+
+// A caller ends in the midst of its wait, then a message is sent: it stands in the queue.
+#[test]
+fn who_has_gone_takes_nothing(rt: HostRuntime) -> Result<(), Fail> {
+    let clock = Still {
+        pauses: AtomicU64::new(0),
+    };
+    let mut doors = Vec::new(rt.alloc());
+    doors.push(door(&rt, &clock, 0, 20, TAKE))?;
+    doors.push(door(&rt, &clock, 40, u64::MAX, SEND))?;
+    doors.push(door(&rt, &clock, 60, u64::MAX, TAKE))?;
+    assert_eq!(rt; serve_doors(&rt, &rt, &clock, &mut doors, 1)?, 0);
+    let (Some(gone), Some(sending), Some(taking)) = (doors.first(), doors.get(1), doors.get(2))
+    else {
+        return Err(Fail::from("the doors come back"));
+    };
+    assert!(rt; is_given(gone, b"HTTP/1.1 204 No Content\r\n", b"Connection: close\r\n\r\n"));
     assert!(rt; is_given(sending, b"HTTP/1.1 201 Created\r\n", b"\r\n\r\n"));
+    assert!(rt; is_given(taking, b"HTTP/1.1 200 OK\r\n", b"\r\n\r\nhi"));
     Ok(())
 }

@@ -6,8 +6,8 @@ use crate::watcher::Printing;
 use sb_app::top;
 use sb_model::Text;
 use sb_outside::{
-    Dialing, Disk, Door, Link, Listening, MemDisk, NoDoor, NoLink, Reading, SystemClock, Writing,
-    disks_in, hold_streams, lock_folder, made,
+    Dialing, Disk, Door, Link, Listening, MemDisk, NoDoor, NoLink, PauseLobby, Reading, SystemClock,
+    Writing, disks_in, hold_streams, lock_folder, made,
 };
 use sb_rest::Access;
 use sb_words::{Command, Form, WordsFault, asked_text, fault_text, read_form};
@@ -241,6 +241,7 @@ where
     R::Conn: Send,
 {
     let rt = call.rt;
+    let threads = doors.len();
     let (status, disks) = top(
         call.threads,
         rt.alloc(),
@@ -253,6 +254,8 @@ where
         &mut Reading::new(rt.stdin(), rt),
         &mut Writing::new(rt.stdout(), rt),
         doors,
+        &PauseLobby,
+        threads,
         &call.key,
         link,
         &Printing::new(rt),

@@ -1,14 +1,16 @@
 -- A pass goes on, and a receive waits.
-use Rattle.std.proofs.Common.{◌≡◌, ℕ, ◌+◌, ◌≤◌, ◌<◌, List, [], ◌∷◌, ◌++◌, true, Result, sym, refl, ap, ◌∙◌, subst, append_assoc, append-nil}
+use Rattle.std.proofs.Common.{◌≡◌, ℕ, ◌+◌, ◌≤◌, ◌<◌, List, [], ◌∷◌, ◌++◌, true, Result, Ok, sym, refl, ap, ◌∙◌, subst, append_assoc, append-nil}
 use Rattle.sb_machine.specs.declared.call.Call.{Call}
 use Rattle.sb_machine.specs.declared.history.Entry.{Entry}
 use Rattle.sb_machine.specs.declared.reply.Answered.{Answered}
+use Rattle.sb_machine.specs.declared.reply.Answered.TheVariants.{New}
 use Rattle.sb_machine.specs.declared.reply.Refusal.{Refusal}
+use Rattle.sb_machine.specs.declared.reply.Reply.TheVariants.{Empty}
 use Rattle.sb_desk.specs.Desks.{Sitting}
 use Rattle.sb_desk.specs.Entries.{made_by, entries_by}
 use Rattle.sb_desk.specs.Lists.{Each}
 use Rattle.sb_desk.proofs.Logs.{by_append}
-use Rattle.sb_server.specs.Waiting.{GoesBy, GoesByCall, is_empty, Round, round_made, rounds_made, AreEmpty, first_reading, AreRead, Waits, Waiting}
+use Rattle.sb_server.specs.Waiting.{GoesBy, GoesByCall, is_empty, Round, round_made, rounds_made, AreEmpty, first_reading, AreRead, Waits, FoundNothing, Waiting}
 
 pub goes_by_none : (p : Sitting) → GoesBy p [] p
 goes_by_none p = ([], ap (λ (l : List Entry). record p { seen = l }) (sym (append-nil p.seen)), refl)
@@ -88,3 +90,24 @@ waiting_done IsReading pass new call limit first now answer w over = (
     read = w.read;
   },
 )
+
+-- it found nothing before its end
+pub found_nothing : (IsReading : ℕ → Type 0) (pass new : Sitting) (call : Call) (limit first now : ℕ) (answer : Result Answered Refusal)
+    → Waiting IsReading pass call limit first now answer new → is_empty answer ≡ true → now < first + limit
+    → (made : List Entry) × GoesBy pass made new × FoundNothing IsReading pass.seat call limit made
+found_nothing IsReading pass new call limit first now answer w nothing early = (
+  rounds_made pass.seat call w.before ++ round_made pass.seat call w.last,
+  w.goes,
+  record {
+    before = w.before;
+    last = w.last;
+    made_is = refl;
+    empty = subst (λ (k : ℕ). AreEmpty (k + limit) (w.before ++ w.last ∷ [])) w.first_is
+        (empty_snoc (first + limit) w.before w.last w.empty (ap is_empty (sym w.answer_is) ∙ nothing) (subst (λ (k : ℕ). k < first + limit) w.reading_is early));
+    read = w.read;
+  },
+)
+
+pub nothing_is : (answer : Result Answered Refusal) → is_empty answer ≡ true → answer ≡ Ok (New Empty)
+nothing_is (Ok (New Empty)) e = refl
+nothing_is _ e = absurd cc

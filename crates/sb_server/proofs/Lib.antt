@@ -3,8 +3,11 @@ pub mod Texts
 pub mod Responding
 pub mod Reading
 pub mod Turning
+pub mod Stepping
 pub mod Working
+pub mod Attending
 pub mod Words
 pub mod Serving
 pub mod Outcomes
 pub mod Unwelcome
+pub mod Rounds

@@ -17,12 +17,12 @@ use Rattle.sb_desk.specs.Lists.{Each}
 use Rattle.sb_outside.specs.Causes.{Rose}
 use Rattle.sb_http.specs.Messages.{RequestMessage}
 use Rattle.sb_rest.specs.declared.access.Access.{Access}
-use Rattle.sb_server.specs.declared.answer.Turn.{Turn}
-use Rattle.sb_server.specs.declared.answer.Turn.TheVariants.{Stops}
+use Rattle.sb_server.specs.declared.telling.Turn.{Turn}
+use Rattle.sb_server.specs.declared.telling.Turn.TheVariants.{Stops}
 use Rattle.sb_server.specs.declared.ask.Ask.{Ask}
 use Rattle.sb_server.specs.declared.ask.Ask.TheVariants.{Once, Patient, Line, BadLine, Fault as NoCall}
 use Rattle.sb_server.specs.declared.ending.Ending.{Ending}
-use Rattle.sb_server.specs.declared.ending.Ending.TheVariants.{Closed, BadHead, HeadTooLarge, BodyTooLarge, Truncated, LongConnection, ReadFault, WriteFault, Stopped as NodeStopped, OutOfMemory as Lost}
+use Rattle.sb_server.specs.declared.ending.Ending.TheVariants.{Closed, BadHead, HeadTooLarge, BodyTooLarge, Truncated, LongConnection, ReadFault, Gone, WriteFault, Stopped as NodeStopped, OutOfMemory as Lost}
 use Rattle.sb_server.specs.declared.ending.ServeEnding.{ServeEnding}
 use Rattle.sb_server.specs.declared.ending.ServeEnding.TheVariants.{Done, DoorFault, OutOfMemory}
 use Rattle.sb_server.specs.declared.work.Stop.{Stop}
@@ -47,9 +47,10 @@ ends_go IsReading s h ReadFault t = (t.0.0.made, t.0.0.goes)
 ends_go IsReading s h BadHead t = (t.talks.made, t.talks.goes)
 ends_go IsReading s h HeadTooLarge t = (t.talks.made, t.talks.goes)
 ends_go IsReading s h BodyTooLarge t = (t.talks.made, t.talks.goes)
-ends_go IsReading s h WriteFault t = (t.0.made, t.0.goes)
-ends_go IsReading s h Lost (inl t) = (t.made, t.goes)
-ends_go IsReading s h Lost (inr t) = (t.made ++ t.mine, t.goes)
+ends_go IsReading s h Gone t = (t.1.made ++ t.1.mine, t.1.goes)
+ends_go IsReading s h WriteFault (inl t, rose) = (t.made, t.goes)
+ends_go IsReading s h WriteFault (inr t, rose) = (t.1.made ++ t.1.mine, t.1.goes)
+ends_go IsReading s h Lost t = (t.made, t.goes)
 
 -- a worker's pass goes on by the entries of its connections' calls
 pub worked_goes : {X : Type 0} (IsReading : ℕ → Type 0) (access : Access) (there given : X → Option (List ℕ)) (reads writes : X → ℕ) (p q : Sitting) (vs : List (Visit X)) → Worked (ServesBy IsReading access there given reads writes) p vs q → (made : List Entry) × GoesBy p made q

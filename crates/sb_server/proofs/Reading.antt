@@ -1,5 +1,5 @@
 -- Reading on: what was fed, and which requests were taken.
-use Rattle.std.proofs.Common.{◌≡◌, ℕ, ◌+◌, ◌-◌, ◌≤◌, List, [], ◌∷◌, ◌++◌, length, length-append, take, drop, sym, refl, ap, ◌∙◌, subst, arith, append_assoc, append-nil, Option, Result, Ok, Err, Some, None, slice_range}
+use Rattle.std.proofs.Common.{◌≡◌, ℕ, ◌+◌, ◌-◌, ◌≤◌, List, [], ◌∷◌, ◌++◌, length, length-append, take, drop, sym, refl, ap, ◌∙◌, subst, inl, inr, true, arith, append_assoc, append-nil, Option, Result, Ok, Err, Some, None, slice_range}
 use Rattle.std.proofs.lemmas.List.{take-append-drop, drop-take, drop-drop, length-take-le}
 use Rattle.httparse.proofs.RunLemmas.{length-slice_range}
 use Rattle.sb_outside.specs.Streams.{Consumes, Ends, Stays}
@@ -10,7 +10,11 @@ use Rattle.sb_http.specs.Stages.{Left, ReadsAt, Continues}
 use Rattle.sb_http.specs.Streams.{Requests, Pending, NextAnswers, AnswersAt, FeedGoesOn}
 use Rattle.sb_http.specs.declared.fault.HttpFault.{HttpFault}
 use Rattle.sb_http.specs.declared.request.Request.{Request}
-use Rattle.sb_server.specs.Reads.{Stand, and_before, HasRead, Takes, IsDone, WaitsForMore, GoesOnBy, FillsWith, Fills}
+use Rattle.sb_server.specs.declared.came.Filled.{Filled}
+use Rattle.sb_server.specs.declared.came.Filled.TheVariants.{Over as Done}
+use Rattle.sb_server.specs.declared.ending.Ending.TheVariants.{Closed, Truncated, ReadFault}
+use Rattle.sb_server.specs.declared.inbox.Inbox.{Inbox}
+use Rattle.sb_server.specs.Reads.{Stand, and_before, stand_of, HasRead, Takes, IsDone, WaitsForMore, GoesOnBy, FillsWith, Fills, IfOver, EndsWith, has_ended, IsGone}
 
 -- ---- what the reader answers
 
@@ -134,6 +138,9 @@ takes_on a b c ms ns x y = record {
   count = omega (arith, x.count, y.count, length-append x.fed y.fed);
 }
 
+pub takes_to : (a : Stand) (ms : List RequestMessage) (i : Inbox) (l k : Option (List ℕ)) → k ≡ l → Takes a ms (stand_of i l) → Takes a ms (stand_of i k)
+takes_to a ms i l k same x = subst (λ (o : Option (List ℕ)). Takes a ms (stand_of i o)) (sym same) x
+
 -- requests were taken of what was fed
 pub takes_of : (a b : Left) (n : ℕ) (t : Option (List ℕ)) (ms : List RequestMessage) → GoesOnBy a ms b → Takes (record { left = a; fed = n; there = t }) ms (record { left = b; fed = n; there = t })
 takes_of a b n t ms g = record {
@@ -199,3 +206,11 @@ done_at_end xs into at end n room (Some l) after c e zero_is some same =
 pub done_before : (t u v : Option (List ℕ)) (fed : List ℕ) → HasRead t fed u → IsDone u v → IsDone t v
 done_before None u v fed h d = tt
 done_before (Some l) u v fed h d = subst (λ (o : Option (List ℕ)). IsDone o v) h.1 d
+
+-- ---- whether the other side has gone
+
+pub gone_of : (filled : Filled) (there : Option (List ℕ)) (new : Stand) (count_before count : ℕ) → IfOver filled (λ ending. EndsWith ending there new count_before count) → has_ended filled ≡ true → IsGone there new.there count_before count
+gone_of (Done Closed) there new count_before count x e = inl x.0
+gone_of (Done Truncated) there new count_before count x e = inl x.0
+gone_of (Done ReadFault) there new count_before count x e = inr x
+gone_of _ there new count_before count x e = absurd cc

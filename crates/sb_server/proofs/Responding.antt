@@ -1,6 +1,5 @@
 -- One response more.
 use Rattle.std.proofs.Common.{◌≡◌, ◌⊎◌, ℕ, List, [], ◌∷◌, ◌++◌, sym, refl, ap, ◌∙◌, subst, inl, inr, append_assoc, append-nil, Bool, false, Result, Ok, Err}
-use Rattle.std.specs.Prelude.{IfOk, IfErr}
 use Rattle.sb_machine.specs.History.{stops}
 use Rattle.sb_machine.specs.declared.history.Entry.{Entry}
 use Rattle.sb_machine.specs.declared.reply.Answered.{Answered}
@@ -13,16 +12,21 @@ use Rattle.sb_rest.specs.declared.access.Access.{Access}
 use Rattle.sb_rest.specs.declared.call.RestFault.{RestFault}
 use Rattle.sb_rest.specs.declared.call.Wanted.{Wanted}
 use Rattle.sb_http.specs.Messages.{RequestMessage}
-use Rattle.sb_server.specs.declared.answer.Turn.{Turn}
-use Rattle.sb_server.specs.declared.answer.Turn.TheVariants.{Goes, Closes, Stops}
-use Rattle.sb_server.specs.declared.answer.Written.{Written}
+use Rattle.sb_server.specs.declared.telling.Turn.{Turn}
+use Rattle.sb_server.specs.declared.telling.Turn.TheVariants.{Goes, Closes, Stops}
+use Rattle.sb_server.specs.declared.telling.Said.TheVariants.{Call as OfCall, Line as OfLine, Fault as OfFault}
+use Rattle.sb_server.specs.declared.telling.Telling.{Telling}
+use Rattle.sb_server.specs.declared.doing.Begun.{Begun}
+use Rattle.sb_server.specs.declared.doing.Begun.TheVariants.{Done, Waits}
+use Rattle.sb_server.specs.declared.patience.Patience.{Patience}
 use Rattle.sb_server.specs.declared.ask.Ask.{Ask}
 use Rattle.sb_server.specs.declared.ask.Asker.{Asker}
 use Rattle.sb_server.specs.declared.ask.Ask.TheVariants.{Once, Patient, Line, BadLine, Fault}
 use Rattle.sb_server.specs.Asks.{AsksFor}
-use Rattle.sb_server.specs.Responds.{IsInOrder, IsOne, AnswersCall, Acts, Answers, RespondsTo, Responds, Responded, IsLast, turn_of, line_bytes, fault_bytes}
-use Rattle.sb_server.specs.Waiting.{GoesBy, GoesByCall, Waits}
-use Rattle.sb_server.proofs.Going.{goes_by_none}
+use Rattle.sb_server.specs.Doings.{Answers, Begins, IsSettled, telling_of}
+use Rattle.sb_server.specs.Responds.{IsInOrder, Responds, Responded, IsLast, turn_of}
+use Rattle.sb_server.specs.Waiting.{GoesByCall, Waiting}
+use Rattle.sb_server.proofs.Going.{goes_by_none, waiting_done}
 
 -- what a request asks for is in order
 pub asks_in_order : (access : Access) (m : RequestMessage) (ask : Ask) → AsksFor access m ask → IsInOrder ask
@@ -31,17 +35,6 @@ asks_in_order access m (Patient w asker limit) x = x.0.in_order
 asks_in_order access m (Line line) x = x.1.1
 asks_in_order access m (BadLine answer) x = tt
 asks_in_order access m (Fault fault) x = tt
-
--- what is said of a response is said where there is one, and the rest where there is none
-pub gives : {T E : Type 0} (b : Result T E) (P Q : T → Type 0) (R : Type 0) → IfOk b P → ((v : T) → P v → Q v) → R → IfOk b Q × IfErr b (λ _. R)
-gives (Ok v) P Q R p onwards r = (onwards v p, tt)
-gives (Err e) P Q R p onwards r = (tt, r)
-
-pub when_ok : {T E : Type 0} (b : Result T E) (v : T) (P : T → Type 0) → b ≡ Ok v → IfOk b P → P v
-when_ok {T = T} {E = E} b v P is x = subst (λ (z : Result T E). IfOk z P) is x
-
-pub when_err : {T E : Type 0} (b : Result T E) (e : E) (R : Type 0) → b ≡ Err e → IfErr b (λ _. R) → R
-when_err {T = T} {E = E} b e R is x = subst (λ (z : Result T E). IfErr z (λ _. R)) is x
 
 goes_or_ends : (t : Turn) → (t ≡ Goes) ⊎ (t ≡ Goes → ⊥)
 goes_or_ends Goes = inl refl
@@ -77,46 +70,42 @@ responds_more IsReading access seat (k ∷ ms) made out m mine first t (mine', r
     go (inl x) next = inl (x.0, next x.1 one)
     go (inr x) next = absurd (x.ends (sym x.after_is))
 
--- ---- what is no call
+-- ---- what came of a request
 
-pub no_line_answers : (IsReading : ℕ → Type 0) (pass : Sitting) (ask : Ask) (closes : Bool) (answer : Result Answered Refusal) (w : Written) → ask ≡ BadLine answer
-    → IfOk w.bytes (λ v. v.items ≡ line_bytes Plain answer closes) → w.turn ≡ turn_of closes (stops answer) → Answers IsReading pass ask closes pass w
-no_line_answers IsReading pass ask closes answer w is bytes turn =
-    let both = gives w.bytes (λ v. v.items ≡ line_bytes Plain answer closes) (λ v. RespondsTo IsReading pass.seat (BadLine answer) closes [] v.items w.turn) (Acts IsReading pass.seat (BadLine answer) []) bytes (λ v out. (refl, out, turn)) refl in
-    subst (λ (a : Ask). Answers IsReading pass a closes pass w) (sym is) ([], goes_by_none pass, both.0, both.1)
+-- a call was answered
+pub once_begins : (IsReading : ℕ → Type 0) (pass new : Sitting) (ask : Ask) (w : Wanted) (asker : Asker) (closes : Bool) (answer : Result Answered Refusal) (reading : ℕ) (told : Telling)
+    → ask ≡ Once w asker → GoesByCall pass reading w.call answer new → IsReading reading → told ≡ telling_of (OfCall w asker answer) closes → Answers IsReading pass ask closes new told
+once_begins IsReading pass new ask w asker closes answer reading told is goes here same =
+    subst (λ (a : Ask). Answers IsReading pass a closes new told) (sym is) (subst (λ (t : Telling). Answers IsReading pass (Once w asker) closes new t) (sym same)
+    (made_by pass.seat goes.0 reading w.call answer, turn_of closes (stops answer), goes.1, refl, λ out says. (answer, (goes.0, reading, here, refl), says, refl)))
 
-pub fault_answers : (IsReading : ℕ → Type 0) (pass : Sitting) (ask : Ask) (closes : Bool) (fault : RestFault) (w : Written) → ask ≡ Fault fault
-    → IfOk w.bytes (λ v. v.items ≡ fault_bytes fault closes) → w.turn ≡ turn_of closes false → Answers IsReading pass ask closes pass w
-fault_answers IsReading pass ask closes fault w is bytes turn =
-    let both = gives w.bytes (λ v. v.items ≡ fault_bytes fault closes) (λ v. RespondsTo IsReading pass.seat (Fault fault) closes [] v.items w.turn) (Acts IsReading pass.seat (Fault fault) []) bytes (λ v out. (refl, out, turn)) refl in
-    subst (λ (a : Ask). Answers IsReading pass a closes pass w) (sym is) ([], goes_by_none pass, both.0, both.1)
+-- a script line was
+pub line_begins : (IsReading : ℕ → Type 0) (pass new : Sitting) (ask : Ask) (line : ScriptLine) (closes : Bool) (answer : Result Answered Refusal) (reading : ℕ) (told : Telling)
+    → ask ≡ Line line → GoesByCall pass reading line.timed.call answer new → IsReading reading → told ≡ telling_of (OfLine line.form answer) closes → Answers IsReading pass ask closes new told
+line_begins IsReading pass new ask line closes answer reading told is goes here same =
+    subst (λ (a : Ask). Answers IsReading pass a closes new told) (sym is) (subst (λ (t : Telling). Answers IsReading pass (Line line) closes new t) (sym same)
+    (made_by pass.seat goes.0 reading line.timed.call answer, turn_of closes (stops answer), goes.1, refl, λ out says. (answer, (goes.0, reading, here, refl), says, refl)))
 
--- ---- calls
+-- it was no call
+pub no_line_begins : (IsReading : ℕ → Type 0) (pass : Sitting) (ask : Ask) (closes : Bool) (answer : Result Answered Refusal) (told : Telling)
+    → ask ≡ BadLine answer → told ≡ telling_of (OfLine Plain answer) closes → Answers IsReading pass ask closes pass told
+no_line_begins IsReading pass ask closes answer told is same =
+    subst (λ (a : Ask). Answers IsReading pass a closes pass told) (sym is) (subst (λ (t : Telling). Answers IsReading pass (BadLine answer) closes pass t) (sym same)
+    ([], turn_of closes (stops answer), goes_by_none pass, refl, λ out says. (refl, says, refl)))
 
-pub once_answers : (IsReading : ℕ → Type 0) (pass new : Sitting) (w : Wanted) (asker : Asker) (closes : Bool) (answer : Result Answered Refusal) (reading : ℕ) (written : Written)
-    → GoesByCall pass reading w.call answer new → IsReading reading → IfOk written.bytes (λ v. AnswersCall w.call answer asker closes v.items) → written.turn ≡ turn_of closes (stops answer)
-    → Answers IsReading pass (Once w asker) closes new written
-once_answers IsReading pass new w asker closes answer reading written goes here bytes turn =
-    let made : List Entry = made_by pass.seat goes.0 reading w.call answer in
-    let one : IsOne IsReading pass.seat w.call made answer = (goes.0, reading, here, refl) in
-    let both = gives written.bytes (λ v. AnswersCall w.call answer asker closes v.items) (λ v. RespondsTo IsReading pass.seat (Once w asker) closes made v.items written.turn) (Acts IsReading pass.seat (Once w asker) made) bytes
-    (λ v out. (answer, one, out, turn)) (answer, one) in
-    (made, goes.1, both.0, both.1)
+pub fault_begins : (IsReading : ℕ → Type 0) (pass : Sitting) (ask : Ask) (closes : Bool) (fault : RestFault) (told : Telling)
+    → ask ≡ Fault fault → told ≡ telling_of (OfFault fault) closes → Answers IsReading pass ask closes pass told
+fault_begins IsReading pass ask closes fault told is same =
+    subst (λ (a : Ask). Answers IsReading pass a closes pass told) (sym is) (subst (λ (t : Telling). Answers IsReading pass (Fault fault) closes pass t) (sym same)
+    ([], turn_of closes false, goes_by_none pass, refl, λ out says. (refl, says, refl)))
 
-pub line_answers : (IsReading : ℕ → Type 0) (pass new : Sitting) (line : ScriptLine) (closes : Bool) (answer : Result Answered Refusal) (reading : ℕ) (written : Written)
-    → GoesByCall pass reading line.timed.call answer new → IsReading reading → IfOk written.bytes (λ v. v.items ≡ line_bytes line.form answer closes) → written.turn ≡ turn_of closes (stops answer)
-    → Answers IsReading pass (Line line) closes new written
-line_answers IsReading pass new line closes answer reading written goes here bytes turn =
-    let made : List Entry = made_by pass.seat goes.0 reading line.timed.call answer in
-    let one : IsOne IsReading pass.seat line.timed.call made answer = (goes.0, reading, here, refl) in
-    let both = gives written.bytes (λ v. v.items ≡ line_bytes line.form answer closes) (λ v. RespondsTo IsReading pass.seat (Line line) closes made v.items written.turn) (Acts IsReading pass.seat (Line line) made) bytes
-    (λ v out. (answer, one, out, turn)) (answer, one) in
-    (made, goes.1, both.0, both.1)
-
-pub patient_answers : (IsReading : ℕ → Type 0) (pass new : Sitting) (w : Wanted) (asker : Asker) (limit : ℕ) (closes : Bool) (answer : Result Answered Refusal) (written : Written)
-    → ((made : List Entry) × GoesBy pass made new × Waits IsReading pass.seat w.call limit made answer) → IfOk written.bytes (λ v. AnswersCall w.call answer asker closes v.items) → written.turn ≡ turn_of closes (stops answer)
-    → Answers IsReading pass (Patient w asker limit) closes new written
-patient_answers IsReading pass new w asker limit closes answer written waits bytes turn =
-    let both = gives written.bytes (λ v. AnswersCall w.call answer asker closes v.items) (λ v. RespondsTo IsReading pass.seat (Patient w asker limit) closes waits.0 v.items written.turn) (Acts IsReading pass.seat (Patient w asker limit) waits.0) bytes
-    (λ v out. (answer, waits.2, out, turn)) (answer, waits.2) in
-    (waits.0, waits.1, both.0, both.1)
+-- a receive was asked once, or once more
+pub settled_begins : (IsReading : ℕ → Type 0) (pass new : Sitting) (p : Patience) (begun : Begun)
+    → Waiting IsReading pass p.wanted.call p.limit_ms p.first_ms p.asked_ms p.answer new → IsSettled p begun → Begins IsReading pass (Patient p.wanted p.asker p.limit_ms) p.closes new begun
+settled_begins IsReading pass new p (Done told) w x =
+    let waits = waiting_done IsReading pass new p.wanted.call p.limit_ms p.first_ms p.asked_ms p.answer w x.1 in
+    subst (λ (t : Telling). Answers IsReading pass (Patient p.wanted p.asker p.limit_ms) p.closes new t) (sym x.0)
+    (waits.0, turn_of p.closes (stops p.answer), waits.1, refl, λ out says. (p.answer, waits.2, says, refl))
+settled_begins IsReading pass new p (Waits q) w x =
+    subst (λ (r : Patience). Begins IsReading pass (Patient p.wanted p.asker p.limit_ms) p.closes new (Waits r)) (sym x.0)
+    (refl, refl, record { waiting = w; empty = x.1; early = x.2 })

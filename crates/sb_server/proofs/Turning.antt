@@ -1,8 +1,8 @@
 -- One turn of a connection.
-use Rattle.std.proofs.Common.{◌≡◌, ℕ, ◌≤◌, List, [], ◌∷◌, ◌++◌, length-append, sym, refl, ap, subst, inl, inr, arith, append-nil, Bool, Option, Some}
+use Rattle.std.proofs.Common.{◌≡◌, ◌⊎◌, ℕ, ◌≤◌, List, [], ◌∷◌, ◌++◌, length-append, sym, refl, ap, subst, inl, inr, arith, append-nil, Bool, Option, Some}
 use Rattle.sb_machine.specs.declared.history.Entry.{Entry}
 use Rattle.sb_desk.specs.Desks.{Sitting}
-use Rattle.sb_outside.specs.Causes.{Rose, RoseByOne}
+use Rattle.sb_outside.specs.Causes.{Rose}
 use Rattle.sb_outside.specs.Streams.{Gains, GainsPart}
 use Rattle.sb_outside.proofs.Gains.{gains-none, gains-gains, gains-part}
 use Rattle.sb_http.specs.Causes.{Refuses}
@@ -12,16 +12,15 @@ use Rattle.sb_http.specs.Streams.{Requests}
 use Rattle.sb_http.specs.declared.fault.HttpFault.{HttpFault}
 use Rattle.sb_http.specs.declared.fault.HttpFault.TheVariants.{BadHead as HeadBad, HeadTooLarge as HeadLarge, BodyTooLarge as BodyLarge}
 use Rattle.sb_rest.specs.declared.access.Access.{Access}
-use Rattle.sb_server.specs.declared.answer.Turn.{Turn}
-use Rattle.sb_server.specs.declared.answer.Turn.TheVariants.{Goes, Closes, Stops}
+use Rattle.sb_server.specs.declared.telling.Turn.{Turn}
+use Rattle.sb_server.specs.declared.telling.Turn.TheVariants.{Goes, Closes, Stops}
 use Rattle.sb_server.specs.declared.ask.Ask.{Ask}
 use Rattle.sb_server.specs.declared.ending.Ending.{Ending}
-use Rattle.sb_server.specs.declared.ending.Ending.TheVariants.{Closed, BadHead, HeadTooLarge, BodyTooLarge, Truncated, LongConnection, ReadFault, WriteFault, Stopped, OutOfMemory}
+use Rattle.sb_server.specs.declared.ending.Ending.TheVariants.{Closed, BadHead, HeadTooLarge, BodyTooLarge, Truncated, LongConnection, ReadFault, Gone, WriteFault, Stopped, OutOfMemory}
 use Rattle.sb_server.specs.Asks.{AsksFor, asks_close}
-use Rattle.sb_server.specs.declared.inbox.Inbox.{Inbox}
-use Rattle.sb_server.specs.Reads.{Stand, stand_of, Takes, EndsWith, WaitsForMore}
-use Rattle.sb_server.specs.Responds.{Acts, RespondsTo, Responds}
-use Rattle.sb_server.specs.Talks.{Start, Here, Talks, IsRefused, ReadsOut, Ends, TurnsTo, ending_of, refusal_bytes, refusal_ending}
+use Rattle.sb_server.specs.Reads.{Stand, Takes, EndsWith, IsDone, WaitsForMore}
+use Rattle.sb_server.specs.Responds.{GivenUp, RespondsTo, Responds}
+use Rattle.sb_server.specs.Talks.{Start, Here, Talks, IsRefused, Leaves, ReadsOut, Ends, TurnsTo, ending_of, refusal_bytes, refusal_ending}
 use Rattle.sb_server.specs.Waiting.{GoesBy}
 use Rattle.sb_server.proofs.Going.{goes_by_none, goes_by_both, same_seat}
 use Rattle.sb_server.proofs.Reading.{read_on, read_none, done_before}
@@ -32,7 +31,7 @@ pub record Reaches (h n : Here) (ms : List RequestMessage) : Type 0 where
   pub takes : Takes h.stand ms n.stand
   pub reads : h.reads ≤ n.reads
 
-rose_later : (a b c : ℕ) → a ≤ b → Rose b c → Rose a c
+pub rose_later : (a b c : ℕ) → a ≤ b → Rose b c → Rose a c
 rose_later a b c le r = omega (arith, le, r)
 
 -- ---- no request was taken
@@ -69,6 +68,7 @@ over IsReading s h n ending t x e waits pass written writes = by ending e
     by BadHead e = absurd e
     by HeadTooLarge e = absurd e
     by BodyTooLarge e = absurd e
+    by Gone e = absurd e
     by WriteFault e = absurd e
     by Stopped e = absurd e
     by OutOfMemory e = absurd e
@@ -77,7 +77,7 @@ over IsReading s h n ending t x e waits pass written writes = by ending e
 
 -- there was no memory for the response
 pub refused_lost : (IsReading : ℕ → Type 0) (s : Start) (h n : Here) → Talks IsReading s h Goes → Reaches h n [] → n.pass ≡ h.pass → n.written ≡ h.written → h.writes ≤ n.writes → Ends IsReading s n OutOfMemory
-refused_lost IsReading s h n t x pass written writes = inl (reads_on IsReading s h n t x pass written writes)
+refused_lost IsReading s h n t x pass written writes = reads_on IsReading s h n t x pass written writes
 
 -- its response was written
 pub refused_as : (IsReading : ℕ → Type 0) (s : Start) (h n : Here) (fault : HttpFault) (r : Ending) → r ≡ refusal_ending fault → Talks IsReading s h Goes → Reaches h n [] → Refuses fault n.stand.left
@@ -97,7 +97,7 @@ refused_as IsReading s h n fault r is t x cause pass wrote writes = subst (Ends 
 -- a front of it was written
 pub refused_part : (IsReading : ℕ → Type 0) (s : Start) (h n : Here) (fault : HttpFault) → Talks IsReading s h Goes → Reaches h n [] → Refuses fault n.stand.left → n.pass ≡ h.pass → GainsPart h.written n.written (refusal_bytes fault) → Rose h.writes n.writes → Ends IsReading s n WriteFault
 refused_part IsReading s h n fault t x cause pass part rose = (
-  record {
+  inl (record {
     fed = t.fed ++ x.takes.fed;
     ms = t.ms;
     made = t.made;
@@ -110,7 +110,7 @@ refused_part IsReading s h n fault t x cause pass part rose = (
     responds = t.responds;
     all_is = inr (fault, refl, cause, refl);
     wrote = gains-part s.given h.written n.written t.out (refusal_bytes fault) (t.out ++ refusal_bytes fault) t.wrote part [] (ap (λ (l : List ℕ). t.out ++ l) (sym (append-nil (refusal_bytes fault))));
-  },
+  }),
   rose_later s.writes h.writes n.writes t.writes rose,
 )
 
@@ -121,24 +121,6 @@ pub record Asked (access : Access) (h n : Here) (m : RequestMessage) (ask : Ask)
   pub asks : AsksFor access m ask
   pub closes_is : closes ≡ asks_close m
   pub goes : GoesBy h.pass made n.pass
-
--- there was no memory for its response
-pub asked_lost : (IsReading : ℕ → Type 0) (s : Start) (h n : Here) (m : RequestMessage) (ask : Ask) (closes : Bool) (made : List Entry) → Talks IsReading s h Goes → Reaches h n (m ∷ []) → Asked s.access h n m ask closes made
-    → Acts IsReading h.pass.seat ask made → n.written ≡ h.written → Ends IsReading s n OutOfMemory
-asked_lost IsReading s h n m ask closes made t x a acts written = inr (record {
-  fed = t.fed ++ x.takes.fed;
-  ms = t.ms;
-  m = m;
-  made = t.made;
-  mine = made;
-  out = t.out;
-  requests = x.takes.goes t.fed t.ms t.requests;
-  read = read_on s.there h.stand.there n.stand.there t.fed x.takes.fed t.read x.takes.read;
-  goes = goes_by_both s.pass h.pass n.pass t.made made t.goes a.goes;
-  responds = t.responds;
-  acted = record { ask = ask; asks = a.asks; acts = subst (λ (k : ℕ). Acts IsReading k ask made) (same_seat s.pass h.pass t.made t.goes) acts };
-  wrote = subst (λ (o : Option (List ℕ)). Gains s.given o t.out) (sym written) t.wrote;
-})
 
 responds_to : (IsReading : ℕ → Type 0) (s : Start) (h n : Here) (m : RequestMessage) (ask : Ask) (closes : Bool) (made : List Entry) (out : List ℕ) (turn : Turn) (t : Talks IsReading s h Goes)
     → Asked s.access h n m ask closes made → RespondsTo IsReading h.pass.seat ask closes made out turn → Responds IsReading s.access s.pass.seat (t.ms ++ m ∷ []) (t.made ++ made) (t.out ++ out) turn
@@ -179,7 +161,7 @@ pub asked_part : (IsReading : ℕ → Type 0) (s : Start) (h n : Here) (m : Requ
     → Talks IsReading s h Goes → Reaches h n (m ∷ []) → Asked s.access h n m ask closes made → RespondsTo IsReading h.pass.seat ask closes made out turn
     → GainsPart h.written n.written out → Rose h.writes n.writes → Ends IsReading s n WriteFault
 asked_part IsReading s h n m ask closes made out turn t x a responds part rose = (
-  record {
+  inl (record {
     fed = t.fed ++ x.takes.fed;
     ms = t.ms ++ m ∷ [];
     made = t.made ++ made;
@@ -192,7 +174,43 @@ asked_part IsReading s h n m ask closes made out turn t x a responds part rose =
     responds = responds_to IsReading s h n m ask closes made out turn t a responds;
     all_is = inl refl;
     wrote = gains-part s.given h.written n.written t.out out (t.out ++ out) t.wrote part [] (ap (λ (l : List ℕ). t.out ++ l) (sym (append-nil out)));
-  },
+  }),
+  rose_later s.writes h.writes n.writes t.writes rose,
+)
+
+-- ---- who has gone
+
+-- these were due
+leaves : (IsReading : ℕ → Type 0) (s : Start) (h n : Here) (m : RequestMessage) (made : List Entry) (said : List ℕ) (t : Talks IsReading s h Goes) → Takes h.stand (m ∷ []) n.stand → GoesBy h.pass made n.pass
+    → GivenUp IsReading s.access h.pass.seat m made said → IsDone s.there n.stand.there ⊎ Rose s.reads n.reads → Leaves IsReading s n (t.out ++ said)
+leaves IsReading s h n m made said t takes goes up cause = record {
+  fed = t.fed ++ takes.fed;
+  ms = t.ms;
+  m = m;
+  made = t.made;
+  mine = made;
+  out = t.out;
+  said = said;
+  requests = takes.goes t.fed t.ms t.requests;
+  read = read_on s.there h.stand.there n.stand.there t.fed takes.fed t.read takes.read;
+  goes = goes_by_both s.pass h.pass n.pass t.made made t.goes goes;
+  responds = t.responds;
+  given_up = subst (λ (k : ℕ). GivenUp IsReading s.access k m made said) (same_seat s.pass h.pass t.made t.goes) up;
+  all_is = refl;
+  cause = cause;
+}
+
+-- all was written
+pub gone : (IsReading : ℕ → Type 0) (s : Start) (h n : Here) (m : RequestMessage) (made : List Entry) (said : List ℕ) → Talks IsReading s h Goes → Takes h.stand (m ∷ []) n.stand → GoesBy h.pass made n.pass
+    → GivenUp IsReading s.access h.pass.seat m made said → IsDone s.there n.stand.there ⊎ Rose s.reads n.reads → Gains h.written n.written said → Ends IsReading s n Gone
+gone IsReading s h n m made said t takes goes up cause wrote =
+    (t.out ++ said, leaves IsReading s h n m made said t takes goes up cause, gains-gains s.given h.written n.written t.out said t.wrote wrote)
+
+-- a front of it was written
+pub gone_part : (IsReading : ℕ → Type 0) (s : Start) (h n : Here) (m : RequestMessage) (made : List Entry) (said : List ℕ) → Talks IsReading s h Goes → Takes h.stand (m ∷ []) n.stand → GoesBy h.pass made n.pass
+    → GivenUp IsReading s.access h.pass.seat m made said → IsDone s.there n.stand.there ⊎ Rose s.reads n.reads → GainsPart h.written n.written said → Rose h.writes n.writes → Ends IsReading s n WriteFault
+gone_part IsReading s h n m made said t takes goes up cause part rose = (
+  inr (t.out ++ said, leaves IsReading s h n m made said t takes goes up cause, gains-part s.given h.written n.written t.out said (t.out ++ said) t.wrote part [] (ap (λ (l : List ℕ). t.out ++ l) (sym (append-nil said)))),
   rose_later s.writes h.writes n.writes t.writes rose,
 )
 
@@ -220,21 +238,4 @@ talks_from IsReading s left stand requests is = subst (λ (x : Stand). Talks IsR
 
 -- there was no memory to begin it
 pub no_inbox : (IsReading : ℕ → Type 0) (s : Start) → Ends IsReading s (record { pass = s.pass; stand = record { left = whole []; fed = 0; there = s.there }; written = s.given; reads = s.reads; writes = s.writes }) OutOfMemory
-no_inbox IsReading s = inl (talks_start IsReading s (whole []) (record { here = λ more m rest r. r; there = λ more m rest r. r; unread = λ e. refl }))
-
-pub ended : (IsReading : ℕ → Type 0) (s : Start) (n : Here) (r : Option Ending) (ending : Ending) → r ≡ Some ending → TurnsTo IsReading s n r → Ends IsReading s n ending
-ended IsReading s n r ending is x = subst (TurnsTo IsReading s n) is x
-
--- ---- what a turn reached, from what its calls say
-
-pub takes_to : (a : Stand) (ms : List RequestMessage) (i : Inbox) (l k : Option (List ℕ)) → k ≡ l → Takes a ms (stand_of i l) → Takes a ms (stand_of i k)
-takes_to a ms i l k same x = subst (λ (o : Option (List ℕ)). Takes a ms (stand_of i o)) (sym same) x
-
-pub gains_from : (g h k : Option (List ℕ)) (bytes out : List ℕ) → h ≡ g → bytes ≡ out → Gains h k bytes → Gains g k out
-gains_from g h k bytes out same is x = subst (λ (o : Option (List ℕ)). Gains o k out) same (subst (Gains h k) is x)
-
-pub part_from : (g h k : Option (List ℕ)) (bytes out : List ℕ) → h ≡ g → bytes ≡ out → GainsPart h k bytes → GainsPart g k out
-part_from g h k bytes out same is x = subst (λ (o : Option (List ℕ)). GainsPart o k out) same (subst (GainsPart h k) is x)
-
-pub rose_from : (a b c : ℕ) → b ≡ a → RoseByOne b c → Rose a c
-rose_from a b c same rose = omega (arith, same, rose)
+no_inbox IsReading s = talks_start IsReading s (whole []) (record { here = λ more m rest r. r; there = λ more m rest r. r; unread = λ e. refl })

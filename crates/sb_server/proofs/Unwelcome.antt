@@ -9,11 +9,11 @@ use Rattle.sb_rest.specs.declared.call.RestFault.TheVariants.{Foreign, NoKey, No
 use Rattle.sb_rest.specs.declared.call.Wanted.{Wanted}
 use Rattle.sb_rest.specs.Callers.{is_foreign, has_key}
 use Rattle.sb_rest.specs.Calls.{call_of, routed}
-use Rattle.sb_server.specs.declared.answer.Turn.{Turn}
+use Rattle.sb_server.specs.declared.telling.Turn.{Turn}
 use Rattle.sb_server.specs.declared.ask.Ask.{Ask}
 use Rattle.sb_server.specs.declared.ask.Ask.TheVariants.{Once, Patient, Line, BadLine, Fault}
 use Rattle.sb_server.specs.Asks.{AsksFor}
-use Rattle.sb_server.specs.Responds.{Acts, RespondsTo, IsUnwelcome}
+use Rattle.sb_server.specs.Responds.{RespondsTo, GivenUp, IsUnwelcome}
 
 -- neither a call nor a script line
 abbrev IsNone : Result Wanted RestFault → Type 0
@@ -35,13 +35,6 @@ none_by false true said (inr e) = absurd cc
 none_called : (access : Access) (m : RequestMessage) → IsUnwelcome access m → IsNone (call_of access m)
 none_called access m u = none_by (is_foreign access m.head.fields) (has_key access m.head.fields) (routed m) u
 
-pub acts_none : (IsReading : ℕ → Type 0) (access : Access) (seat : ℕ) (m : RequestMessage) (ask : Ask) (made : List Entry) → IsUnwelcome access m → AsksFor access m ask → Acts IsReading seat ask made → made ≡ []
-acts_none IsReading access seat m (Once w asker) made u a acts = absurd (subst IsNone a.call (none_called access m u))
-acts_none IsReading access seat m (Patient w asker limit) made u a acts = absurd (subst IsNone a.0.call (none_called access m u))
-acts_none IsReading access seat m (Line timed) made u a acts = absurd (subst IsNone a.0 (none_called access m u))
-acts_none IsReading access seat m (BadLine answer) made u a acts = acts
-acts_none IsReading access seat m (Fault fault) made u a acts = acts
-
 pub responds_none : (IsReading : ℕ → Type 0) (access : Access) (seat : ℕ) (m : RequestMessage) (ask : Ask) (closes : Bool) (made : List Entry) (out : List ℕ) (turn : Turn)
     → IsUnwelcome access m → AsksFor access m ask → RespondsTo IsReading seat ask closes made out turn → made ≡ []
 responds_none IsReading access seat m (Once w asker) closes made out turn u a r = absurd (subst IsNone a.call (none_called access m u))
@@ -49,3 +42,6 @@ responds_none IsReading access seat m (Patient w asker limit) closes made out tu
 responds_none IsReading access seat m (Line timed) closes made out turn u a r = absurd (subst IsNone a.0 (none_called access m u))
 responds_none IsReading access seat m (BadLine answer) closes made out turn u a r = r.0
 responds_none IsReading access seat m (Fault fault) closes made out turn u a r = r.0
+
+pub given_up_none : (IsReading : ℕ → Type 0) (access : Access) (seat : ℕ) (m : RequestMessage) (mine : List Entry) (said : List ℕ) → IsUnwelcome access m → GivenUp IsReading access seat m mine said → mine ≡ []
+given_up_none IsReading access seat m mine said u g = absurd (subst IsNone g.asks.0.call (none_called access m u))

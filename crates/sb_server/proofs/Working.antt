@@ -5,8 +5,9 @@ use Rattle.sb_desk.specs.Lists.{Each}
 use Rattle.sb_outside.specs.Causes.{Rose}
 use Rattle.sb_outside.specs.Streams.{Gains, Stays}
 use Rattle.sb_outside.specs.Doors.{GivesInOrder}
+use Rattle.sb_outside.specs.declared.door.Given.TheVariants.{One, End}
 use Rattle.sb_server.specs.declared.ending.Ending.{Ending}
-use Rattle.sb_server.specs.declared.ending.Ending.TheVariants.{Closed, BadHead, HeadTooLarge, BodyTooLarge, Truncated, LongConnection, ReadFault, WriteFault, Stopped as NodeStopped, OutOfMemory as NoMemory}
+use Rattle.sb_server.specs.declared.ending.Ending.TheVariants.{Closed, BadHead, HeadTooLarge, BodyTooLarge, Truncated, LongConnection, ReadFault, Gone, WriteFault, Stopped as NodeStopped, OutOfMemory as NoMemory}
 use Rattle.sb_server.specs.declared.work.Stop.{Stop}
 use Rattle.sb_server.specs.declared.work.Stop.TheVariants.{Enough, Ended, Fault, Stopped, OutOfMemory}
 use Rattle.sb_server.specs.Works.{Visit, Works, Worked, befores, afters, HasGiven, GoesOn, EndsAt, MayStopBy, StopsBy, stop_of}
@@ -33,12 +34,12 @@ given_on {X = X} (Some l) b c x y f s =
     let t : HasGiven (Some f.0) y c = subst (λ (o : Option (List X)). HasGiven o y c) f.1 s in
     (t.0, t.1, f.2 ∙ (ap (λ (r : List X). x ++ r) t.2 ∙ sym (append_assoc x y t.0)))
 
-first_given : {X : Type 0} (a b : Option (List X)) (x : X) → GivesInOrder a b (Some x) → HasGiven a (x ∷ []) b
+first_given : {X : Type 0} (a b : Option (List X)) (x : X) → GivesInOrder a b (One x) → HasGiven a (x ∷ []) b
 first_given None b x g = tt
 first_given (Some []) b x g = absurd g
 first_given {X = X} (Some (y ∷ ys)) b x g = (ys, g.1, ap (λ (z : X). z ∷ ys) (sym g.0))
 
-none_given : {X : Type 0} (a b : Option (List X)) → GivesInOrder a b None → HasGiven a [] b
+none_given : {X : Type 0} (a b : Option (List X)) → GivesInOrder a b End → HasGiven a [] b
 none_given None b g = tt
 none_given (Some []) b g = ([], g, refl)
 none_given (Some (y ∷ ys)) b g = absurd g
@@ -70,12 +71,12 @@ works_none Serves p w t = record { worked = refl; gave = stays_given w w (same_s
 pub works_failed : {X : Type 0} (Serves : Sitting → Visit X → Sitting → Type 0) (p : Sitting) (w x t u : Option (List X)) → Stays w x → Stays t u → Works Serves p w t p x u []
 works_failed Serves p w x t u a b = record { worked = refl; gave = stays_given w x a; took = stays_gain t u b }
 
-pub works_ended : {X : Type 0} (Serves : Sitting → Visit X → Sitting → Type 0) (p : Sitting) (w x t u : Option (List X)) → GivesInOrder w x None → Stays t u → Works Serves p w t p x u []
+pub works_ended : {X : Type 0} (Serves : Sitting → Visit X → Sitting → Type 0) (p : Sitting) (w x t u : Option (List X)) → GivesInOrder w x End → Stays t u → Works Serves p w t p x u []
 works_ended Serves p w x t u a b = record { worked = refl; gave = none_given w x a; took = stays_gain t u b }
 
 -- one was
 pub works_one : {X : Type 0} (Serves : Sitting → Visit X → Sitting → Type 0) (p q : Sitting) (w x y t u v : Option (List X)) (visit : Visit X)
-    → GivesInOrder w x (Some visit.before) → Stays x y → Stays t u → Gains u v (visit.after ∷ []) → Serves p visit q → Works Serves p w t q y v (visit ∷ [])
+    → GivesInOrder w x (One visit.before) → Stays x y → Stays t u → Gains u v (visit.after ∷ []) → Serves p visit q → Works Serves p w t q y v (visit ∷ [])
 works_one {X = X} Serves p q w x y t u v visit gives left stays gains serves = record {
   worked = (q, serves, refl);
   gave = given_on w x y (visit.before ∷ []) [] (first_given w x visit.before gives) (stays_given x y left);
@@ -114,6 +115,7 @@ may_stop {X = X} visit ended before mid now r is later first = subst (λ (o : Op
     by Truncated is = goes (ap stop_of is)
     by LongConnection is = goes (ap stop_of is)
     by ReadFault is = goes (ap stop_of is)
+    by Gone is = goes (ap stop_of is)
     by WriteFault is = goes (ap stop_of is)
 
 last_on : {X : Type 0} (vs ws : List (Visit X)) (e : Ending) → Each GoesOn vs → EndsAt ws e → EndsAt (vs ++ ws) e

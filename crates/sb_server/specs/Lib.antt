@@ -5,5 +5,7 @@ pub mod Asks
 pub mod Responds
 pub mod Reads
 pub mod Talks
+pub mod Doings
 pub mod Works
+pub mod Stages
 pub mod Serves

@@ -1,5 +1,5 @@
 -- What comes in: how far a connection was read, and which requests were taken of it.
-use Rattle.std.specs.Prelude.{◌≡◌, ℕ, ◌+◌, ◌-◌, ◌^◌, ◌≤◌, ◌<◌, List, [], ◌∷◌, ◌++◌, length, Option, Some, None, slice_range}
+use Rattle.std.specs.Prelude.{◌≡◌, ◌⊎◌, ℕ, ◌+◌, ◌-◌, ◌^◌, ◌≤◌, ◌<◌, List, [], ◌∷◌, ◌++◌, length, Bool, true, false, Option, Some, None, slice_range}
 use Rattle.sb_outside.specs.Causes.{Rose}
 use Rattle.sb_http.specs.Messages.{RequestMessage}
 use Rattle.sb_rest.specs.declared.access.Access.{Access}
@@ -7,11 +7,13 @@ use Rattle.sb_http.specs.Stages.{Left, whole, held}
 use Rattle.sb_http.specs.Streams.{Requests}
 use Rattle.sb_http.specs.Causes.{HasNone, Waits as IsUnderWay, Refuses}
 use Rattle.sb_server.specs.declared.came.Came.{Came}
-use Rattle.sb_server.specs.declared.came.Came.TheVariants.{Asked, Refused, Over}
+use Rattle.sb_server.specs.declared.came.Came.TheVariants.{Asked, NothingYet, Refused, Over}
+use Rattle.sb_server.specs.declared.came.Filled.{Filled}
+use Rattle.sb_server.specs.declared.came.Filled.TheVariants.{Full, NotYet, Over as Done}
 use Rattle.sb_server.specs.declared.came.Took.{Took}
 use Rattle.sb_server.specs.declared.came.Took.TheVariants.{One, NoneYet, Fault}
 use Rattle.sb_server.specs.declared.ending.Ending.{Ending}
-use Rattle.sb_server.specs.declared.ending.Ending.TheVariants.{Closed, BadHead, HeadTooLarge, BodyTooLarge, Truncated, LongConnection, ReadFault, WriteFault, Stopped, OutOfMemory}
+use Rattle.sb_server.specs.declared.ending.Ending.TheVariants.{Closed, BadHead, HeadTooLarge, BodyTooLarge, Truncated, LongConnection, ReadFault, Gone, WriteFault, Stopped, OutOfMemory}
 use Rattle.sb_server.specs.declared.inbox.Inbox.{Inbox}
 use Rattle.sb_server.specs.Asks.{AsksFor, asks_close}
 
@@ -86,12 +88,31 @@ EndsWith ReadFault there new count_before count = Rose count_before count
 EndsWith BadHead there new count_before count = ⊥
 EndsWith HeadTooLarge there new count_before count = ⊥
 EndsWith BodyTooLarge there new count_before count = ⊥
+EndsWith Gone there new count_before count = ⊥
 EndsWith WriteFault there new count_before count = ⊥
 EndsWith Stopped there new count_before count = ⊥
 EndsWith OutOfMemory there new count_before count = ⊥
 
--- a request, a fault, or an end
+-- where it ended
+abbrev pub IfOver : Filled → (Ending → Type 0) → Type 0
+IfOver Full P = Unit {0}
+IfOver NotYet P = Unit {0}
+IfOver (Done ending) P = P ending
+
+-- a request, none yet, a fault, or an end
 abbrev pub Comes : Access → Stand → Came → Stand → ℕ → ℕ → Type 0
 Comes access old (Asked ask closes) new count_before count = (m : RequestMessage) × AsksFor access m ask × (closes ≡ asks_close m) × Takes old (m ∷ []) new
+Comes access old NothingYet new count_before count = Takes old [] new
 Comes access old (Refused fault) new count_before count = Takes old [] new × Refuses fault new.left
 Comes access old (Over ending) new count_before count = Takes old [] new × EndsWith ending old.there new count_before count × WaitsForMore new.left
+
+-- whether one read found that the other side has ended, or failed
+abbrev pub has_ended : Filled → Bool
+has_ended (Done Closed) = true
+has_ended (Done Truncated) = true
+has_ended (Done ReadFault) = true
+has_ended _ = false
+
+-- the other side has ended, or a read has failed
+abbrev pub IsGone : Option (List ℕ) → Option (List ℕ) → ℕ → ℕ → Type 0
+IsGone there there_now count_before count = IsDone there there_now ⊎ Rose count_before count

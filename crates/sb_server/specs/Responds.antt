@@ -1,12 +1,13 @@
 -- The responses to requests, and the entries of their calls. `IsReading` holds of what a clock may read.
-use Rattle.std.specs.Prelude.{◌≡◌, ◌⊎◌, ℕ, List, [], ◌∷◌, ◌++◌, Bool, true, false, ◌||◌, Option, Result, IfOk, IfErr, if◌then◌else◌}
+use Rattle.std.specs.Prelude.{◌≡◌, ◌⊎◌, ℕ, List, [], ◌∷◌, ◌++◌, Bool, true, false, ◌||◌, Option, Result, Ok, if◌then◌else◌}
 use Rattle.sb_machine.specs.History.{stops}
 use Rattle.sb_machine.specs.Ordered.{IsActInOrder}
 use Rattle.sb_machine.specs.declared.call.Call.{Call}
 use Rattle.sb_machine.specs.declared.history.Entry.{Entry}
 use Rattle.sb_machine.specs.declared.reply.Answered.{Answered}
+use Rattle.sb_machine.specs.declared.reply.Answered.TheVariants.{New}
 use Rattle.sb_machine.specs.declared.reply.Refusal.{Refusal}
-use Rattle.sb_desk.specs.Desks.{Sitting}
+use Rattle.sb_machine.specs.declared.reply.Reply.TheVariants.{Empty}
 use Rattle.sb_desk.specs.Entries.{made_by}
 use Rattle.sb_http.specs.Messages.{RequestMessage}
 use Rattle.sb_http.specs.Responses.{ResponseMessage, response_bytes}
@@ -17,14 +18,14 @@ use Rattle.sb_rest.specs.declared.access.Access.{Access}
 use Rattle.sb_rest.specs.Callers.{is_foreign, has_key}
 use Rattle.sb_rest.specs.Responses.{Gives, fault_response, line_response}
 use Rattle.sb_rest.specs.declared.call.RestFault.{RestFault}
+use Rattle.sb_rest.specs.declared.call.Wanted.{Wanted}
 use Rattle.sb_server.specs.declared.ask.Ask.{Ask}
 use Rattle.sb_server.specs.declared.ask.Asker.{Asker}
 use Rattle.sb_server.specs.declared.ask.Ask.TheVariants.{Once, Patient, Line, BadLine, Fault}
-use Rattle.sb_server.specs.declared.answer.Turn.{Turn}
-use Rattle.sb_server.specs.declared.answer.Turn.TheVariants.{Goes, Closes, Stops}
-use Rattle.sb_server.specs.declared.answer.Written.{Written}
+use Rattle.sb_server.specs.declared.telling.Turn.{Turn}
+use Rattle.sb_server.specs.declared.telling.Turn.TheVariants.{Goes, Closes, Stops}
 use Rattle.sb_server.specs.Asks.{AsksFor, asks_close}
-use Rattle.sb_server.specs.Waiting.{Waits, GoesBy}
+use Rattle.sb_server.specs.Waiting.{Waits, FoundNothing}
 
 -- ---- one response
 
@@ -72,19 +73,6 @@ RespondsTo IsReading seat (Line line) closes made out turn =
 RespondsTo IsReading seat (BadLine answer) closes made out turn = (made ≡ []) × (out ≡ line_bytes Plain answer closes) × (turn ≡ turn_of closes (stops answer))
 RespondsTo IsReading seat (Fault fault) closes made out turn = (made ≡ []) × (out ≡ fault_bytes fault closes) × (turn ≡ turn_of closes false)
 
--- these are the entries of its calls
-abbrev pub Acts : (ℕ → Type 0) → ℕ → Ask → List Entry → Type 0
-Acts IsReading seat (Once w asker) made = (answer : Result Answered Refusal) × IsOne IsReading seat w.call made answer
-Acts IsReading seat (Patient w asker limit) made = (answer : Result Answered Refusal) × Waits IsReading seat w.call limit made answer
-Acts IsReading seat (Line line) made = (answer : Result Answered Refusal) × IsOne IsReading seat line.timed.call made answer
-Acts IsReading seat (BadLine answer) made = made ≡ []
-Acts IsReading seat (Fault fault) made = made ≡ []
-
--- The pass went on by the entries of its calls, and this is the response, where there was memory for it.
-abbrev pub Answers : (ℕ → Type 0) → Sitting → Ask → Bool → Sitting → Written → Type 0
-Answers IsReading pass ask closes new written = (made : List Entry) × GoesBy pass made new
-    × IfOk written.bytes (λ v. RespondsTo IsReading pass.seat ask closes made v.items written.turn) × IfErr written.bytes (λ _. Acts IsReading pass.seat ask made)
-
 -- ---- the responses of a connection
 
 -- a response that ends the connection ends the list
@@ -101,11 +89,15 @@ pub record Responded (IsReading : ℕ → Type 0) (access : Access) (seat : ℕ)
   pub asks : AsksFor access m ask
   pub responds : RespondsTo IsReading seat ask (asks_close m) mine first turn
 
--- one request with the entries of its calls, and no response
-pub record Acted (IsReading : ℕ → Type 0) (access : Access) (seat : ℕ) (m : RequestMessage) (mine : List Entry) : Type 0 where
-  pub ask : Ask
-  pub asks : AsksFor access m ask
-  pub acts : Acts IsReading seat ask mine
+-- A receive that is given up, with its response, which tells that nothing was found and ends the connection: its calls,
+-- one or more, each found nothing before its end.
+pub record GivenUp (IsReading : ℕ → Type 0) (access : Access) (seat : ℕ) (m : RequestMessage) (mine : List Entry) (said : List ℕ) : Type 0 where
+  pub wanted : Wanted
+  pub asker : Asker
+  pub limit : ℕ
+  pub asks : AsksFor access m (Patient wanted asker limit)
+  pub found : FoundNothing IsReading seat wanted.call limit mine
+  pub says : AnswersCall wanted.call (Ok (New Empty)) asker true said
 
 -- the response to each request in order, and the entries of their calls
 abbrev pub Responds : (ℕ → Type 0) → Access → ℕ → List RequestMessage → List Entry → List ℕ → Turn → Type 0
@@ -124,6 +116,6 @@ abbrev pub MakesNone : (ℕ → Type 0) → Type 0
 MakesNone IsReading =
     (access : Access) (seat : ℕ) (m : RequestMessage) (mine : List Entry) (first : List ℕ) (turn : Turn) → IsUnwelcome access m → Responded IsReading access seat m mine first turn → mine ≡ []
 
--- nor does it where there is no memory to answer it
-abbrev pub ActsNever : (ℕ → Type 0) → Type 0
-ActsNever IsReading = (access : Access) (seat : ℕ) (m : RequestMessage) (mine : List Entry) → IsUnwelcome access m → Acted IsReading access seat m mine → mine ≡ []
+-- nor is it a receive that is given up
+abbrev pub GivesUpNone : (ℕ → Type 0) → Type 0
+GivesUpNone IsReading = (access : Access) (seat : ℕ) (m : RequestMessage) (mine : List Entry) (said : List ℕ) → IsUnwelcome access m → GivenUp IsReading access seat m mine said → mine ≡ []

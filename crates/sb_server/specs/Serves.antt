@@ -1,13 +1,16 @@
 -- Workers at several doors (listening sockets).
 use Rattle.std.specs.Prelude.{◌≡◌, ◌⊎◌, ℕ, List, [], ◌∷◌, ◌++◌, map, Bool, true, false, Option, Some, None, if◌then◌else◌}
-use Rattle.std.specs.List.{list_any}
+use Rattle.std.specs.List.{list_all, list_any}
 use Rattle.sb_desk.specs.Desks.{Open, Sitting, IsOf}
 use Rattle.sb_desk.specs.Lists.{Each}
+use Rattle.sb_rest.specs.declared.access.Access.{Access}
 use Rattle.sb_server.specs.declared.ending.ServeEnding.{ServeEnding}
 use Rattle.sb_server.specs.declared.ending.ServeEnding.TheVariants.{Done, DoorFault, OutOfMemory}
 use Rattle.sb_server.specs.declared.job.Job.{Job}
+use Rattle.sb_server.specs.declared.stage.Stage.TheVariants.{Wants}
 use Rattle.sb_server.specs.declared.work.Stop.{Stop}
 use Rattle.sb_server.specs.declared.work.Stop.TheVariants.{Fault, Stopped, OutOfMemory as NoMemory}
+use Rattle.sb_server.specs.Stages.{IsAt, IsSound, stop_at, is_over}
 use Rattle.sb_server.specs.Works.{Visit, Works, StopsBy, is_stop}
 
 -- a worker: its pass and its door, before and after it worked, and why it ended
@@ -19,37 +22,59 @@ pub record Worker (D : Type 0) : Type 0 where
   pub stop : Stop
 
 -- What a worker did. It stopped with the namespace only where its pass has seen that.
-pub record Working {D X : Type 0} (Serves : Sitting → Visit X → Sitting → Type 0) (waiting taken : D → Option (List X)) (ended : D → Bool) (count out : D → ℕ) (desk : Open) (most : ℕ) (w : Worker D) : Type 0 where
+pub record Working {D X : Type 0} (ServesOne : Sitting → Visit X → Sitting → Type 0) (waiting taken : D → Option (List X)) (ended : D → Bool) (count out : D → ℕ) (desk : Open) (most : ℕ) (w : Worker D) : Type 0 where
   pub of : IsOf desk w.pass_after
   pub visits : List (Visit X)
-  pub works : Works Serves w.pass (waiting w.door) (taken w.door) w.pass_after (waiting w.door_after) (taken w.door_after) visits
+  pub works : Works ServesOne w.pass (waiting w.door) (taken w.door) w.pass_after (waiting w.door_after) (taken w.door_after) visits
   pub stops : StopsBy w.stop most visits (ended w.door_after) (count w.door) (count w.door_after)
   pub out_is : out w.door_after ≡ out w.door
   pub stopped : w.stop ≡ Stopped → list_any is_stop w.pass_after.seen ≡ true
 
 -- ---- one job
 
--- the worker has a pass of the desk
-pub record HasPass {D : Type 0} (desk : Open) (job : Job D) : Type 0 where
+-- the worker has a pass of the desk, and has served nobody yet of so many
+pub record HasPass {D X : Type 0} (desk : Open) (most : ℕ) (job : Job D X) : Type 0 where
   pub pass : Sitting
   pub has : job.pass ≡ Some pass
   pub of : IsOf desk pass
+  pub fresh : job.stage ≡ Wants most
 
 -- its worker did this
-pub record Did {D : Type 0} (Works : Worker D → Type 0) (old new : Job D) : Type 0 where
+pub record Did {D X : Type 0} (Works : Worker D → Type 0) (old new : Job D X) : Type 0 where
   pub worker : Worker D
   pub had : old.pass ≡ Some worker.pass
   pub at : old.door ≡ worker.door
   pub has : new.pass ≡ Some worker.pass_after
   pub left : new.door ≡ worker.door_after
   pub stop : new.stop ≡ worker.stop
+  pub over : is_over new.stage ≡ true
   pub does : Works worker
+
+-- a worker that goes on: a pass of the desk, and its door's connection where it has one
+pub record IsAtWork {D X : Type 0} (out : D → ℕ) (desk : Open) (job : Job D X) : Type 0 where
+  pub pass : Sitting
+  pub has : job.pass ≡ Some pass
+  pub of : IsOf desk pass
+  pub sound : IsSound job.stage (out job.door)
+
+-- a worker as far as it has come, from how it began
+pub record HasCome {D X : Type 0} (IsReading : ℕ → Type 0) (access : Access) (there given : X → Option (List ℕ)) (reads writes : X → ℕ) (waiting taken : D → Option (List X)) (ended : D → Bool) (count out : D → ℕ) (most : ℕ) (began now : Job D X) : Type 0 where
+  pub pass : Sitting
+  pub pass_now : Sitting
+  pub had : began.pass ≡ Some pass
+  pub has : now.pass ≡ Some pass_now
+  pub at : IsAt IsReading access there given reads writes waiting taken ended count out most pass began.door pass_now now.door now.stage
+  pub stop_is : now.stop ≡ stop_at now.stage now.stop
+
+-- each worker is over
+abbrev pub are_over : {D X : Type 0} → List (Job D X) → Bool
+are_over jobs = list_all (λ job. is_over job.stage) jobs
 
 -- ---- all jobs, which stand the last door first
 
 -- a worker is at the door
-abbrev pub IsManned : {D : Type 0} → Job D → Type 0
-IsManned job = (pass : Sitting) × (job.pass ≡ Some pass)
+abbrev pub IsManned : {D X : Type 0} → ℕ → Job D X → Type 0
+IsManned most job = (pass : Sitting) × (job.pass ≡ Some pass) × (job.stage ≡ Wants most)
 
 -- the pass, where there is one, before these
 abbrev pub and_pass : Option Sitting → List Sitting → List Sitting
@@ -57,17 +82,17 @@ and_pass None passes = passes
 and_pass (Some pass) passes = pass ∷ passes
 
 -- the passes of their workers, in the order of the doors
-abbrev pub passes_in : {D : Type 0} → List (Job D) → List Sitting
+abbrev pub passes_in : {D X : Type 0} → List (Job D X) → List Sitting
 passes_in [] = []
 passes_in (job ∷ jobs) = passes_in jobs ++ and_pass job.pass []
 
 -- the doors, in their order
-abbrev pub doors_in : {D : Type 0} → List (Job D) → List D
+abbrev pub doors_in : {D X : Type 0} → List (Job D X) → List D
 doors_in [] = []
 doors_in (job ∷ jobs) = doors_in jobs ++ job.door ∷ []
 
 -- how each worker ended
-abbrev pub stops_in : {D : Type 0} → List (Job D) → List Stop
+abbrev pub stops_in : {D X : Type 0} → List (Job D X) → List Stop
 stops_in jobs = map (λ job. job.stop) jobs
 
 -- ---- how serving ended

@@ -14,12 +14,12 @@ use Rattle.sb_http.specs.Responses.{ResponseMessage, response_bytes}
 use Rattle.sb_http.specs.Stages.{whole, held}
 use Rattle.sb_http.specs.Streams.{Requests}
 use Rattle.sb_rest.specs.declared.access.Access.{Access}
-use Rattle.sb_server.specs.declared.answer.Turn.{Turn}
-use Rattle.sb_server.specs.declared.answer.Turn.TheVariants.{Goes, Closes, Stops}
+use Rattle.sb_server.specs.declared.telling.Turn.{Turn}
+use Rattle.sb_server.specs.declared.telling.Turn.TheVariants.{Goes, Closes, Stops}
 use Rattle.sb_server.specs.declared.ending.Ending.{Ending}
-use Rattle.sb_server.specs.declared.ending.Ending.TheVariants.{Closed, BadHead, HeadTooLarge, BodyTooLarge, Truncated, LongConnection, ReadFault, WriteFault, Stopped, OutOfMemory}
+use Rattle.sb_server.specs.declared.ending.Ending.TheVariants.{Closed, BadHead, HeadTooLarge, BodyTooLarge, Truncated, LongConnection, ReadFault, Gone, WriteFault, Stopped, OutOfMemory}
 use Rattle.sb_server.specs.Reads.{Stand, HasRead, IsDone, WaitsForMore}
-use Rattle.sb_server.specs.Responds.{Acted, Responds}
+use Rattle.sb_server.specs.Responds.{GivenUp, Responds}
 use Rattle.sb_server.specs.Waiting.{GoesBy}
 
 -- How a connection began: whom the server answers, the pass, what it has left and what it was given, where it tells, and its counts of
@@ -106,20 +106,33 @@ pub record Parts (IsReading : ℕ → Type 0) (s : Start) (h : Here) : Type 0 wh
   pub all_is : IsAll h turn out all
   pub wrote : GainsPart s.given h.written all
 
--- all responses were written but that to the last request, of which nothing was
-pub record LacksLast (IsReading : ℕ → Type 0) (s : Start) (h : Here) : Type 0 where
+-- ---- who has gone
+
+-- These were due, where the other side has ended, or a read has failed, while a receive waited: the responses to all
+-- requests but the last, and that of the last, a receive that is given up.
+pub record Leaves (IsReading : ℕ → Type 0) (s : Start) (h : Here) (all : List ℕ) : Type 0 where
   pub fed : List ℕ
   pub ms : List RequestMessage
   pub m : RequestMessage
   pub made : List Entry
   pub mine : List Entry
   pub out : List ℕ
+  pub said : List ℕ
   pub requests : Requests fed (ms ++ m ∷ []) h.stand.left
   pub read : HasRead s.there fed h.stand.there
   pub goes : GoesBy s.pass (made ++ mine) h.pass
   pub responds : Responds IsReading s.access s.pass.seat ms made out Goes
-  pub acted : Acted IsReading s.access s.pass.seat m mine
-  pub wrote : Gains s.given h.written out
+  pub given_up : GivenUp IsReading s.access s.pass.seat m mine said
+  pub all_is : all ≡ out ++ said
+  pub cause : IsDone s.there h.stand.there ⊎ Rose s.reads h.reads
+
+-- all of it was written
+abbrev pub HasGone : (ℕ → Type 0) → Start → Here → Type 0
+HasGone IsReading s h = (all : List ℕ) × Leaves IsReading s h all × Gains s.given h.written all
+
+-- a front of it was
+abbrev pub LeavesPart : (ℕ → Type 0) → Start → Here → Type 0
+LeavesPart IsReading s h = (all : List ℕ) × Leaves IsReading s h all × GainsPart s.given h.written all
 
 -- ---- how it ends
 
@@ -127,7 +140,7 @@ pub record LacksLast (IsReading : ℕ → Type 0) (s : Start) (h : Here) : Type 
 abbrev pub ReadsOut : (ℕ → Type 0) → Start → Here → Type 0
 ReadsOut IsReading s h = Talks IsReading s h Goes × WaitsForMore h.stand.left
 
--- each ending by its cause; want of memory may come for each response
+-- each ending by its cause; want of memory comes only where each request that was taken is answered
 abbrev pub Ends : (ℕ → Type 0) → Start → Here → Ending → Type 0
 Ends IsReading s h Closed = Talks IsReading s h Closes ⊎ (ReadsOut IsReading s h × IsDone s.there h.stand.there × (h.stand.left ≡ whole []))
 Ends IsReading s h Stopped = Talks IsReading s h Stops
@@ -137,17 +150,14 @@ Ends IsReading s h ReadFault = ReadsOut IsReading s h × Rose s.reads h.reads
 Ends IsReading s h BadHead = IsRefused IsReading s h HeadBad
 Ends IsReading s h HeadTooLarge = IsRefused IsReading s h HeadLarge
 Ends IsReading s h BodyTooLarge = IsRefused IsReading s h BodyLarge
-Ends IsReading s h WriteFault = Parts IsReading s h × Rose s.writes h.writes
-Ends IsReading s h OutOfMemory = Talks IsReading s h Goes ⊎ LacksLast IsReading s h
+Ends IsReading s h Gone = HasGone IsReading s h
+Ends IsReading s h WriteFault = (Parts IsReading s h ⊎ LeavesPart IsReading s h) × Rose s.writes h.writes
+Ends IsReading s h OutOfMemory = Talks IsReading s h Goes
 
 -- it goes on, or ends
 abbrev pub TurnsTo : (ℕ → Type 0) → Start → Here → Option Ending → Type 0
 TurnsTo IsReading s h None = Talks IsReading s h Goes
 TurnsTo IsReading s h (Some ending) = Ends IsReading s h ending
-
--- one request more, of a connection whatever it began with
-abbrev pub Turns : (ℕ → Type 0) → Access → Here → Option Ending → Here → Type 0
-Turns IsReading access old ending new = (s : Start) → s.access ≡ access → Talks IsReading s old Goes → TurnsTo IsReading s new ending
 
 -- how it goes on after a response
 abbrev pub ending_of : Turn → Option Ending

@@ -68,6 +68,15 @@ pub record Waits (IsReading : ℕ → Type 0) (seat : ℕ) (call : Call) (limit 
   pub until : is_empty answer ≡ true → first_reading before last + limit ≤ last.reading
   pub read : AreRead IsReading (before ++ last ∷ [])
 
+-- These are the entries of a receive that was given up: its calls, one or more, each found nothing, and each was made
+-- before the limit, in ms, had passed since the first reading. Each was made at a reading of the clock.
+pub record FoundNothing (IsReading : ℕ → Type 0) (seat : ℕ) (call : Call) (limit : ℕ) (made : List Entry) : Type 0 where
+  pub before : List Round
+  pub last : Round
+  pub made_is : made ≡ rounds_made seat call before ++ round_made seat call last
+  pub empty : AreEmpty (first_reading before last + limit) (before ++ last ∷ [])
+  pub read : AreRead IsReading (before ++ last ∷ [])
+
 -- a receive that waits, so far
 pub record Waiting (IsReading : ℕ → Type 0) (pass : Sitting) (call : Call) (limit first now : ℕ) (answer : Result Answered Refusal) (new : Sitting) : Type 0 where
   pub before : List Round

@@ -9,7 +9,7 @@ use Rattle.sb_outside.specs.Causes.{Rose}
 use Rattle.sb_outside.specs.Streams.{Gains}
 use Rattle.sb_rest.specs.declared.access.Access.{Access}
 use Rattle.sb_server.specs.declared.ending.Ending.{Ending}
-use Rattle.sb_server.specs.declared.ending.Ending.TheVariants.{Closed, BadHead, HeadTooLarge, BodyTooLarge, Truncated, LongConnection, ReadFault, WriteFault, Stopped as NodeStopped, OutOfMemory as NoMemory}
+use Rattle.sb_server.specs.declared.ending.Ending.TheVariants.{Closed, BadHead, HeadTooLarge, BodyTooLarge, Truncated, LongConnection, ReadFault, Gone, WriteFault, Stopped as NodeStopped, OutOfMemory as NoMemory}
 use Rattle.sb_server.specs.declared.work.Stop.{Stop}
 use Rattle.sb_server.specs.declared.work.Stop.TheVariants.{Enough, Ended, Fault, Stopped, OutOfMemory}
 use Rattle.sb_server.specs.Reads.{Stand}
@@ -64,6 +64,7 @@ stop_of BodyTooLarge = None
 stop_of Truncated = None
 stop_of LongConnection = None
 stop_of ReadFault = None
+stop_of Gone = None
 stop_of WriteFault = None
 
 -- a worker goes on behind it

@@ -1,101 +1,75 @@
-// The response to what a request asks for.
-ghost use Rattle.std.specs.Prelude.{◌≡◌, false, IfOk};
-ghost use Rattle.sb_machine.specs.History.{stops};
+// The calls of what a request asks for.
+ghost use Rattle.std.specs.Prelude.{◌≡◌};
 ghost use Rattle.sb_machine.specs.Ordered.{IsActInOrder};
-ghost use Rattle.sb_desk.specs.Desks.{IsOf};
-ghost use Rattle.sb_http.specs.Responses.{said_in, response_bytes};
-ghost use Rattle.sb_server.specs.declared.ask.Ask.TheVariants.{Once, Patient, Line};
+ghost use Rattle.sb_desk.specs.Desks.{Sitting, IsOf};
+ghost use Rattle.sb_server.specs.declared.ask.Ask.TheVariants.{Patient as Asks};
+ghost use Rattle.sb_server.specs.Doings.{Begins, IsBegunInOrder, IsPatient, IsSettled};
 ghost use Rattle.sb_server.specs.Responds as responds;
 
 use crate::ask::{Ask, Asker};
-use crate::waiting::{call_once, receive_waiting};
+use crate::doing::Begun;
+use crate::patience::Patience;
+use crate::telling::{Said, telling_of};
+use crate::waiting::{call_once, is_done};
 use sb_desk::{Desk, Pass, Served};
-use sb_http::{Response, write_response};
-use sb_lines::{Form, reply_line};
-use sb_machine::{Answer, Call, Refusal};
+use sb_lines::Form;
 use sb_outside::Clock;
-use sb_rest::{RestFault, Wanted, fault_response, line_response, response_of};
-use std::alloc::{AllocError, Global};
+use sb_rest::Wanted;
 use std::sync::Wait;
 
-/// What comes after a response.
-#[derive(Clone, Copy, PartialEq, Eq)]
-pub enum Turn {
-    /// The next request.
-    Goes,
-    /// The end of the connection.
-    Closes,
-    /// The same, since the namespace acts no more.
-    Stops,
-}
-
-/// The bytes of a response, where there was memory for them, and what comes after it.
-#[derive(Drop)]
-pub struct Written {
-    pub bytes: Result<Vec<u8>, AllocError>,
-    pub turn: Turn,
-}
-
-/// Makes the calls that are asked for at this pass, and gives the response.
+/// Makes the calls that are asked for at this pass, and says what is to be told of them; of a receive
+/// that waits it makes the first.
 pub(crate) fn answer<V: Served, R: Wait, C: Clock>(
     rt: &R,
-    alloc: Global,
     desk: &Desk<V>,
     pass: Pass,
     clock: &C,
     ask: Ask,
     closes: bool,
-) -> (Pass, Written)
+) -> (Pass, Begun)
     requires desk { IsOf desk.now pass }
     requires order { responds.IsInOrder ask }
-    ensures answers { responds.Answers (C.reads clock.now) pass ask closes result.0 result.1 }
+    ensures begins { Begins (C.reads clock.now) pass ask closes result.0 result.1 }
     ensures desk { IsOf desk.now result.0 }
+    ensures in_order { IsBegunInOrder result.1 }
 {
     match ask {
         Ask::Once { wanted, asker } => {
-            answer_once(rt, alloc, desk, pass, clock, wanted, asker, closes)
+            let (pass, answer) = call_once(rt, desk, pass, clock.now(), &wanted.call);
+            let said = Said::Call {
+                wanted,
+                asker,
+                answer,
+            };
+            (pass, Begun::Done(telling_of(said, closes)))
         }
         Ask::Patient {
             wanted,
             asker,
             limit_ms,
-        } => answer_patient(
-            rt, alloc, desk, pass, clock, wanted, asker, limit_ms, closes,
-        ),
-        Ask::Line { line } => answer_line(rt, alloc, desk, pass, clock, line, closes),
-        Ask::BadLine { answer } => (pass, write_line(alloc, Form::Plain, answer, closes)),
-        Ask::Fault { fault } => (pass, write_fault(alloc, fault, closes)),
+        } => ask_first(rt, desk, pass, clock, wanted, asker, limit_ms, closes),
+        Ask::Line { line } => {
+            let (pass, answer) = call_once(rt, desk, pass, clock.now(), &line.timed.call);
+            let form = line.form;
+            drop(line);
+            let said = Said::Line { form, answer };
+            (pass, Begun::Done(telling_of(said, closes)))
+        }
+        Ask::BadLine { answer } => {
+            let form = Form::Plain;
+            let said = Said::Line { form, answer };
+            (pass, Begun::Done(telling_of(said, closes)))
+        }
+        Ask::Fault { fault } => {
+            let said = Said::Fault { fault };
+            (pass, Begun::Done(telling_of(said, closes)))
+        }
     }
 }
 
-// A call that is answered at once.
-fn answer_once<V: Served, R: Wait, C: Clock>(
+// The first call of a receive that waits.
+fn ask_first<V: Served, R: Wait, C: Clock>(
     rt: &R,
-    alloc: Global,
-    desk: &Desk<V>,
-    pass: Pass,
-    clock: &C,
-    wanted: Wanted,
-    asker: Asker,
-    closes: bool,
-) -> (Pass, Written)
-    requires desk { IsOf desk.now pass }
-    requires order { IsActInOrder wanted.call.act }
-    ensures answers { responds.Answers (C.reads clock.now) pass (Once wanted asker) closes result.0 result.1 }
-    ensures desk { IsOf desk.now result.0 }
-{
-    let (pass, answer) = call_once(rt, desk, pass, clock.now(), &wanted.call);
-    let bytes = call_bytes(alloc, &wanted.call, &answer, &asker, closes);
-    let turn = turn_of(closes, stops(&answer));
-    drop(wanted);
-    drop(answer);
-    (pass, Written { bytes, turn })
-}
-
-// A receive that waits.
-fn answer_patient<V: Served, R: Wait, C: Clock>(
-    rt: &R,
-    alloc: Global,
     desk: &Desk<V>,
     pass: Pass,
     clock: &C,
@@ -103,132 +77,86 @@ fn answer_patient<V: Served, R: Wait, C: Clock>(
     asker: Asker,
     limit_ms: u64,
     closes: bool,
-) -> (Pass, Written)
+) -> (Pass, Begun)
     requires desk { IsOf desk.now pass }
     requires order { IsActInOrder wanted.call.act }
-    ensures answers { responds.Answers (C.reads clock.now) pass (Patient wanted asker limit_ms) closes result.0 result.1 }
+    ensures begins { Begins (C.reads clock.now) pass (Asks wanted asker limit_ms) closes result.0 result.1 }
     ensures desk { IsOf desk.now result.0 }
+    ensures in_order { IsBegunInOrder result.1 }
 {
-    let (pass, answer) = receive_waiting(rt, desk, pass, clock, limit_ms, &wanted.call);
-    let bytes = call_bytes(alloc, &wanted.call, &answer, &asker, closes);
-    let turn = turn_of(closes, stops(&answer));
-    drop(wanted);
-    drop(answer);
-    (pass, Written { bytes, turn })
+    let first_ms = clock.now();
+    let (pass, answer) = call_once(rt, desk, pass, first_ms, &wanted.call);
+    let patience = Patience {
+        wanted,
+        asker,
+        limit_ms,
+        closes,
+        first_ms,
+        asked_ms: first_ms,
+        answer,
+    };
+    (pass, settle(patience))
 }
 
-// A script line. Its own reading of a clock counts for nothing here.
-fn answer_line<V: Served, R: Wait, C: Clock>(
+/// Makes the next call of a receive that waits.
+pub(crate) fn ask_again<V: Served, R: Wait, C: Clock>(
     rt: &R,
-    alloc: Global,
     desk: &Desk<V>,
     pass: Pass,
     clock: &C,
-    line: sb_lines::Line,
-    closes: bool,
-) -> (Pass, Written)
+    patience: Patience,
+) -> (Pass, Begun)
     requires desk { IsOf desk.now pass }
-    requires order { IsActInOrder line.timed.call.act }
-    ensures answers { responds.Answers (C.reads clock.now) pass (Line line) closes result.0 result.1 }
+    requires order { IsActInOrder patience.wanted.call.act }
+    ensures begins { (old : Sitting) → IsPatient (C.reads clock.now) old patience pass
+        → Begins (C.reads clock.now) old (Asks patience.wanted patience.asker patience.limit_ms) patience.closes result.0 result.1 }
     ensures desk { IsOf desk.now result.0 }
+    ensures in_order { IsBegunInOrder result.1 }
 {
-    let (pass, answer) = call_once(rt, desk, pass, clock.now(), &line.timed.call);
-    let form = line.form;
-    drop(line);
-    (pass, write_line(alloc, form, answer, closes))
-}
-
-// The bytes of a response, which also ends the connection where its request asks for that.
-pub(crate) fn bytes_of(
-    alloc: Global,
-    response: Response,
-    closes: bool,
-) -> Result<Vec<u8>, AllocError>
-    ensures { IfOk result (λ v. v.items ≡ response_bytes (responds.closed closes (said_in response))) }
-{
-    let mut response = response;
-    response.closes = response.closes || closes;
-    write_response(alloc, &response)
-}
-
-// The bytes of the response to a call.
-fn call_bytes(
-    alloc: Global,
-    call: &Call,
-    answer: &Answer,
-    asker: &Asker,
-    closes: bool,
-) -> Result<Vec<u8>, AllocError>
-    ensures { IfOk result (λ v. responds.AnswersCall call.now answer.now asker.now closes v.items) }
-{
-    let host = asker.host.as_slice();
-    let response = response_of(alloc, call, answer, host, asker.json)?;
-    bytes_of(alloc, response, closes)
-}
-
-// The bytes of the response to a script line.
-fn line_bytes(
-    alloc: Global,
-    form: Form,
-    answer: &Answer,
-    closes: bool,
-) -> Result<Vec<u8>, AllocError>
-    ensures { IfOk result (λ v. v.items ≡ responds.line_bytes form answer.now closes) }
-{
-    let line = reply_line(alloc, form, answer)?;
-    let response = line_response(alloc, line);
-    bytes_of(alloc, response, closes || stops(answer))
-}
-
-// The bytes of the response to a request that is no call.
-fn fault_bytes(alloc: Global, fault: RestFault, closes: bool) -> Result<Vec<u8>, AllocError>
-    ensures { IfOk result (λ v. v.items ≡ responds.fault_bytes fault closes) }
-{
-    let response = fault_response(alloc, fault)?;
-    bytes_of(alloc, response, closes)
-}
-
-// The response to a script line that was answered so.
-fn write_line(alloc: Global, form: Form, answer: Answer, closes: bool) -> Written
-    ensures bytes { IfOk result.bytes (λ v. v.items ≡ responds.line_bytes form answer closes) }
-    ensures turn { result.turn ≡ responds.turn_of closes (stops answer) }
-{
-    Written {
-        bytes: line_bytes(alloc, form, &answer, closes),
-        turn: turn_of(closes, stops(&answer)),
-    }
-}
-
-// The response to a request that is no call.
-fn write_fault(alloc: Global, fault: RestFault, closes: bool) -> Written
-    ensures bytes { IfOk result.bytes (λ v. v.items ≡ responds.fault_bytes fault closes) }
-    ensures turn { result.turn ≡ responds.turn_of closes false }
-{
-    Written {
-        bytes: fault_bytes(alloc, fault, closes),
-        turn: turn_of(closes, false),
-    }
-}
-
-// Whether the namespace acts no more.
-fn stops(answer: &Answer) -> bool
-    ensures { result ≡ stops answer.now }
-{
-    matches!(
+    let Patience {
+        wanted,
+        asker,
+        limit_ms,
+        closes,
+        first_ms,
+        asked_ms: _,
+        answer: _,
+    } = patience;
+    let asked_ms = clock.now();
+    let (pass, answer) = call_once(rt, desk, pass, asked_ms, &wanted.call);
+    let patience = Patience {
+        wanted,
+        asker,
+        limit_ms,
+        closes,
+        first_ms,
+        asked_ms,
         answer,
-        Err(Refusal::DiskFault) | Err(Refusal::Stopped { faults: _ })
-    )
+    };
+    (pass, settle(patience))
 }
 
-// What comes after a response.
-fn turn_of(closes: bool, stops: bool) -> Turn
-    ensures { result ≡ responds.turn_of closes stops }
+// What is to be told, where a receive waits no longer.
+fn settle(patience: Patience) -> Begun
+    ensures { IsSettled patience result }
 {
-    if stops {
-        return Turn::Stops;
+    let p = patience;
+    if !is_done(&p.answer, p.first_ms, p.limit_ms, p.asked_ms) {
+        return Begun::Waits(p);
     }
-    if closes {
-        return Turn::Closes;
-    }
-    Turn::Goes
+    let Patience {
+        wanted,
+        asker,
+        limit_ms: _,
+        closes,
+        first_ms: _,
+        asked_ms: _,
+        answer,
+    } = p;
+    let said = Said::Call {
+        wanted,
+        asker,
+        answer,
+    };
+    Begun::Done(telling_of(said, closes))
 }

@@ -1,7 +1,6 @@
 // How a connection ends, and how serving does.
 
-/// How a connection ended, for its server. Each response but that of a fault of the connection or of
-/// want of memory was written in full.
+/// How a connection ended, for its server. Each response but where a write failed was written in full.
 #[derive(Clone, Copy, PartialEq, Eq)]
 pub enum Ending {
     /// The other side ended between two requests, or a response ended the connection.
@@ -17,6 +16,9 @@ pub enum Ending {
     /// 2^32 bytes were taken.
     LongConnection,
     ReadFault,
+    /// The other side ended, or a read failed, while a receive waited: that was answered as if it had
+    /// found nothing by its end.
+    Gone,
     WriteFault,
     /// The namespace acts no more: so the last response says.
     Stopped,

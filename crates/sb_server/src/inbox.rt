@@ -1,7 +1,7 @@
 // What comes in: pieces of bytes, and requests out of them.
-ghost use Rattle.std.specs.Prelude.{◌≡◌, ◌≤◌, ◌-◌, [], Option, List, ℕ, length, slice_range, IfOk, IfSome};
+ghost use Rattle.std.specs.Prelude.{◌≡◌, ◌≤◌, ◌-◌, [], Option, List, ℕ, length, slice_range, IfOk, true};
 
-use crate::came::{Came, Took, take_one};
+use crate::came::{Came, Filled, Took, has_ended, take_one};
 use crate::ending::Ending;
 use sb_http::Incoming;
 use sb_outside::Conn;
@@ -43,7 +43,7 @@ fn part_of(buf: &Vec<u8>, from: usize, to: usize) -> &[u8]
 
 impl Inbox {
     ghost use Rattle.sb_http.specs.Streams.{Requests};
-    ghost use Rattle.sb_server.specs.Reads.{Takes, Fills, EndsWith, Comes, stand_of};
+    ghost use Rattle.sb_server.specs.Reads.{Takes, Fills, EndsWith, IfOver, Comes, IsGone, stand_of};
 
     /// Nothing has come yet.
     pub(crate) fn new(alloc: Global) -> Result<Inbox, AllocError>
@@ -59,7 +59,7 @@ impl Inbox {
         })
     }
 
-    /// The next request, or how the connection ends.
+    /// The next request, none yet, or how the connection ends.
     pub(crate) fn next<N: Conn, R: Wait>(
         &mut self,
         rt: &R,
@@ -74,7 +74,7 @@ impl Inbox {
         ensures writes { N.writes conn.new ≡ N.writes conn.old }
     {
         for _ in rt.forever() {
-            match take_one(alloc, routes, access, &mut self.incoming) {
+            match take_one(alloc, routes, access, conn, &mut self.incoming) {
                 Took::One(ask, closes) => return Came::Asked(ask, closes),
                 Took::Fault(fault) => return Came::Refused(fault),
                 Took::NoneYet => {}
@@ -83,8 +83,10 @@ impl Inbox {
                 self.feed_piece();
                 continue;
             }
-            if let Some(ending) = self.fill(conn) {
-                return Came::Over(ending);
+            match self.fill(conn) {
+                Filled::Full => {}
+                Filled::NotYet => return Came::NothingYet,
+                Filled::Over(ending) => return Came::Over(ending),
             }
         }
         unreachable!()
@@ -98,30 +100,50 @@ impl Inbox {
         self.at += count;
     }
 
+    /// Reads on while a receive waits: whether the other side has ended, or a read has failed. What comes
+    /// is kept, as far as there is room.
+    pub(crate) fn watch<N: Conn>(&mut self, conn: &mut N) -> bool
+        ensures takes { Takes (stand_of self.old (N.left conn.old)) [] (stand_of self.new (N.left conn.new)) }
+        ensures gone { result ≡ true → IsGone (stand_of self.old (N.left conn.old)).there (stand_of self.new (N.left conn.new)).there (N.reads conn.old) (N.reads conn.new) }
+        ensures given { N.given conn.new ≡ N.given conn.old }
+        ensures later { N.reads conn.old ≤ N.reads conn.new }
+        ensures writes { N.writes conn.new ≡ N.writes conn.old }
+    {
+        if self.at < self.end {
+            self.feed_piece();
+            return false;
+        }
+        let filled = self.fill(conn);
+        has_ended(filled)
+    }
+
     // Reads another piece, or says how the connection ends.
-    fn fill<N: Conn>(&mut self, conn: &mut N) -> Option<Ending>
+    fn fill<N: Conn>(&mut self, conn: &mut N) -> Filled
         requires { self.old.at ≡ self.old.end }
         ensures fills { Fills (stand_of self.old (N.left conn.old)) (stand_of self.new (N.left conn.new)) }
-        ensures ends { IfSome result (λ ending. EndsWith ending (stand_of self.old (N.left conn.old)).there (stand_of self.new (N.left conn.new)) (N.reads conn.old) (N.reads conn.new)) }
+        ensures ends { IfOver result (λ ending. EndsWith ending (stand_of self.old (N.left conn.old)).there (stand_of self.new (N.left conn.new)) (N.reads conn.old) (N.reads conn.new)) }
         ensures given { N.given conn.new ≡ N.given conn.old }
         ensures later { N.reads conn.old ≤ N.reads conn.new }
         ensures writes { N.writes conn.new ≡ N.writes conn.old }
     {
         if self.taken >= MAX_TAKEN {
-            return Some(Ending::LongConnection);
+            return Filled::Over(Ending::LongConnection);
         }
-        let Ok(count) = conn.read(self.piece.as_mut_slice()) else {
-            return Some(Ending::ReadFault);
+        let Ok(read) = conn.read(self.piece.as_mut_slice()) else {
+            return Filled::Over(Ending::ReadFault);
+        };
+        let Some(count) = read else {
+            return Filled::NotYet;
         };
         self.at = 0;
         self.end = count;
         self.taken += count as u64;
         if count > 0 {
-            return None;
+            return Filled::Full;
         }
         if self.incoming.left() > 0 {
-            return Some(Ending::Truncated);
+            return Filled::Over(Ending::Truncated);
         }
-        Some(Ending::Closed)
+        Filled::Over(Ending::Closed)
     }
 }

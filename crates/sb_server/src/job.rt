@@ -1,45 +1,53 @@
 // A door with its worker.
-ghost use Rattle.std.specs.Prelude.{◌≡◌, ◌+◌, ◌≤◌, ◌<◌, [], ◌∷◌, ◌++◌, length, vec_capacity, Some};
+ghost use Rattle.std.specs.Prelude.{◌≡◌, ◌+◌, ◌≤◌, ◌<◌, [], ◌∷◌, ◌++◌, length, vec_capacity, true, Some};
 ghost use Rattle.std.specs.List.{list_any};
 ghost use Rattle.sb_desk.specs.Desks.{Sitting};
 ghost use Rattle.sb_desk.specs.Lists.{Each};
 ghost use Rattle.sb_server.specs.Serves as serves;
+ghost use Rattle.sb_server.specs.declared.stage.Stage.TheVariants.{Wants};
 
 use crate::ending::ServeEnding;
+use crate::stage::{Stage, let_go};
 use crate::work::Stop;
 use sb_desk::Pass;
 
-/// A door with its worker's pass, and why that worker ended.
+/// A door with its worker: that one's pass, where it stands, and why it ended.
 #[derive(Drop)]
-pub(crate) struct Job<D> {
+pub(crate) struct Job<D, N> {
     pub(crate) pass: Option<Pass>,
     pub(crate) door: D,
+    pub(crate) stage: Stage<N>,
     pub(crate) stop: Stop,
+    // At which reading it is looked at again, if nothing else happens.
+    pub(crate) again: u64,
 }
 
-/// A job for each door, the last first, each with one of the last passes.
-pub(crate) fn pair_up<D>(
-    room: Vec<Job<D>>,
+/// A job for each door, the last first, each with one of the last passes. Each worker is to serve so
+/// many connections at most.
+pub(crate) fn pair_up<D, N>(
+    room: Vec<Job<D, N>>,
     passes: &mut Vec<Pass>,
     doors: &mut Vec<D>,
-) -> Vec<Job<D>>
+    most: u64,
+) -> Vec<Job<D, N>>
     requires room { (room.items ≡ []) × (length doors.old.items ≤ vec_capacity room) }
     requires enough { length doors.old.items ≤ length passes.old.items }
     ensures doors { (doors.old.items ≡ serves.doors_in result.items) × (doors.new.items ≡ []) }
     ensures passes { passes.old.items ≡ passes.new.items ++ serves.passes_in result.items }
-    ensures manned { Each serves.IsManned result.items }
+    ensures manned { Each (serves.IsManned most) result.items }
     ensures capacity { (vec_capacity doors.new ≡ vec_capacity doors.old) × (vec_capacity passes.new ≡ vec_capacity passes.old) }
 {
     let mut jobs = room;
     while let Some(door) = doors.pop() {
-        jobs.push_reserved(man(passes, door));
+        jobs.push_reserved(man(passes, door, most));
     }
     jobs
 }
 
 // A job at this door, with the last pass.
-fn man<D>(passes: &mut Vec<Pass>, door: D) -> Job<D>
+fn man<D, N>(passes: &mut Vec<Pass>, door: D, most: u64) -> Job<D, N>
     requires { 0 < length passes.old.items }
+    ensures stage { result.stage ≡ Wants most }
     ensures door { result.door ≡ door }
     ensures pass { (pass : Sitting) × (result.pass ≡ Some pass) × (passes.old.items ≡ passes.new.items ++ pass ∷ []) }
     ensures capacity { vec_capacity passes.new ≡ vec_capacity passes.old }
@@ -50,12 +58,15 @@ fn man<D>(passes: &mut Vec<Pass>, door: D) -> Job<D>
     Job {
         pass: Some(pass),
         door,
+        stage: Stage::Wants(most),
         stop: Stop::Enough,
+        again: 0,
     }
 }
 
-/// Gives passes and doors back, in their order.
-pub(crate) fn put_back<D>(jobs: Vec<Job<D>>, passes: &mut Vec<Pass>, doors: &mut Vec<D>)
+/// Gives passes and doors of workers that are over back, in their order.
+pub(crate) fn put_back<D, N>(jobs: Vec<Job<D, N>>, passes: &mut Vec<Pass>, doors: &mut Vec<D>)
+    requires over { serves.are_over jobs.items ≡ true }
     requires doors { length doors.old.items + length jobs.items ≤ vec_capacity doors.old }
     requires passes { length passes.old.items + length jobs.items ≤ vec_capacity passes.old }
     ensures doors { doors.new.items ≡ doors.old.items ++ serves.doors_in jobs.items }
@@ -66,8 +77,11 @@ pub(crate) fn put_back<D>(jobs: Vec<Job<D>>, passes: &mut Vec<Pass>, doors: &mut
         let Job {
             pass,
             door,
+            stage,
             stop: _,
+            again: _,
         } = job;
+        let_go(stage);
         doors.push_reserved(door);
         add_pass(passes, pass);
     }
@@ -86,7 +100,7 @@ fn add_pass(passes: &mut Vec<Pass>, pass: Option<Pass>)
 }
 
 /// How serving ended, by what its workers ended for.
-pub(crate) fn ending_of<D>(jobs: &[Job<D>]) -> ServeEnding
+pub(crate) fn ending_of<D, N>(jobs: &[Job<D, N>]) -> ServeEnding
     ensures { result ≡ serves.serve_ending (serves.stops_in jobs.now) }
 {
     if any_fault(jobs) {
@@ -98,7 +112,7 @@ pub(crate) fn ending_of<D>(jobs: &[Job<D>]) -> ServeEnding
     ServeEnding::Done
 }
 
-fn any_fault<D>(jobs: &[Job<D>]) -> bool
+fn any_fault<D, N>(jobs: &[Job<D, N>]) -> bool
     ensures { result ≡ list_any serves.is_fault (serves.stops_in jobs.now) }
 {
     for job in jobs {
@@ -109,7 +123,7 @@ fn any_fault<D>(jobs: &[Job<D>]) -> bool
     false
 }
 
-fn any_lost<D>(jobs: &[Job<D>]) -> bool
+fn any_lost<D, N>(jobs: &[Job<D, N>]) -> bool
     ensures { result ≡ list_any serves.is_lost (serves.stops_in jobs.now) }
 {
     for job in jobs {

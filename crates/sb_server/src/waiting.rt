@@ -80,8 +80,8 @@ fn is_over(first: u64, limit: u64, now: u64) -> bool
     }
 }
 
-// Whether a receive waits no longer.
-fn is_done(answer: &Answer, first: u64, limit: u64, now: u64) -> bool
+/// Whether a receive waits no longer.
+pub(crate) fn is_done(answer: &Answer, first: u64, limit: u64, now: u64) -> bool
     ensures done { OnTrue result (is_empty answer.now ≡ true → first + limit ≤ now) }
     ensures waits { OnFalse result ((is_empty answer.now ≡ true) × (now < first + limit)) }
 {

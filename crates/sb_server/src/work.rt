@@ -1,16 +1,27 @@
 // A worker: the connections of one door, one after the other.
-ghost use Rattle.std.specs.Prelude.{◌≡◌, List};
-ghost use Rattle.sb_desk.specs.Desks.{IsOf};
-ghost use Rattle.sb_server.specs.Works.{Visit, Works, ServesBy, StopsBy, MayStopBy, stop_of};
+ghost use Rattle.std.specs.Prelude.{◌≡◌, ◌≤◌, ℕ, List};
+ghost use Rattle.sb_desk.specs.Desks.{Sitting, IsOf};
+ghost use Rattle.sb_server.specs.declared.stage.Stage.TheVariants.{Wants, Serves};
+ghost use Rattle.sb_server.specs.Doings.{IsDoingInOrder};
+ghost use Rattle.sb_server.specs.Stages.{IsAt, IsSound};
+ghost use Rattle.sb_server.specs.Works.{Visit, Works, ServesBy, StopsBy};
 
-use crate::connection::serve_connection;
-use crate::ending::Ending;
+use crate::doing::{Doing, Next};
+use crate::inbox::Inbox;
+use crate::stage::{Guest, Stage, stage_behind};
+use crate::step::step;
 use sb_desk::{Desk, Pass, Served};
-use sb_outside::{Clock, Door};
+use sb_outside::{Clock, Door, Given};
 use sb_rest::Access;
 use sb_routes::Routes;
 use std::alloc::Global;
 use std::sync::Wait;
+
+// A receive that waits is asked again behind so many ms, if nothing wakes it before.
+const ASKS_EACH_MS: u64 = 100;
+
+// A response for which there was no memory is tried again behind so many ms.
+const TELLS_EACH_MS: u64 = 10;
 
 /// Why a worker ended.
 #[derive(Clone, Copy, PartialEq, Eq)]
@@ -46,18 +57,30 @@ pub fn serve_door<V: Served, R: Wait, C: Clock, D: Door>(
     ensures desk { IsOf desk.now result.0 }
 {
     let mut current = pass;
-    for _ in 0..most {
-        let (next, stop) = serve_next(rt, alloc, routes, access, desk, current, clock, door);
+    let mut stage = Stage::Wants(most);
+    for _ in rt.forever() {
+        let (next, went, again) = go_on(
+            rt, alloc, routes, access, desk, current, clock, door, stage,
+        );
         current = next;
-        if let Some(stop) = stop {
+        if let Stage::Over(stop) = went {
             return (current, stop);
         }
+        pause_if(clock, again > 0);
+        stage = went;
     }
-    (current, Stop::Enough)
+    unreachable!()
 }
 
-// Takes the next connection of a door, serves it, and gives it back.
-fn serve_next<V: Served, R: Wait, C: Clock, D: Door>(
+fn pause_if<C: Clock>(clock: &C, waits: bool) {
+    if waits {
+        clock.pause();
+    }
+}
+
+/// Goes on with the work at a door, one step, and says at which reading the next one is to be made, if
+/// nothing else happens: 0 where it may be made at once.
+pub(crate) fn go_on<V: Served, R: Wait, C: Clock, D: Door>(
     rt: &R,
     alloc: Global,
     routes: &Routes,
@@ -66,39 +89,125 @@ fn serve_next<V: Served, R: Wait, C: Clock, D: Door>(
     pass: Pass,
     clock: &C,
     door: &mut D,
-) -> (Pass, Option<Stop>)
-    requires { IsOf desk.now pass }
-    ensures works { (vs : List (Visit D.Conn)) × Works (ServesBy (C.reads clock.now) access.now D.Conn.left D.Conn.given D.Conn.reads D.Conn.writes) pass (D.left door.old) (D.taken door.old) result.0 (D.left door.new) (D.taken door.new) vs
-        × MayStopBy result.1 vs (D.ended door.new) (D.count door.old) (D.count door.new) }
-    ensures out { D.out door.new ≡ D.out door.old }
+    stage: Stage<D::Conn>,
+) -> (Pass, Stage<D::Conn>, u64)
+    requires desk { IsOf desk.now pass }
+    requires sound { IsSound stage (D.out door.old) }
+    ensures goes { (most : ℕ) (p : Sitting) (d : D) → IsAt (C.reads clock.now) access.now D.Conn.left D.Conn.given D.Conn.reads D.Conn.writes D.left D.taken D.ended D.count D.out most p d pass door.old stage
+        → IsAt (C.reads clock.now) access.now D.Conn.left D.Conn.given D.Conn.reads D.Conn.writes D.left D.taken D.ended D.count D.out most p d result.0 door.new result.1 }
     ensures desk { IsOf desk.now result.0 }
+    ensures sound { IsSound result.1 (D.out door.new) }
 {
-    let Ok(given) = door.accept() else {
-        return (pass, Some(Stop::Fault));
-    };
-    let Some(conn) = given else {
-        return (pass, Some(Stop::Ended));
-    };
-    let mut conn = conn;
-    let (pass, ending) = serve_connection(rt, alloc, routes, access, desk, pass, clock, &mut conn);
-    door.done(conn);
-    (pass, stop_of(ending))
+    match stage {
+        Stage::Wants(left) => {
+            let stage = want(alloc, access, clock, door, left);
+            let again = again_at(&stage);
+            (pass, stage, again)
+        }
+        Stage::Serves(left, guest) => {
+            attend(
+                rt, alloc, routes, access, desk, pass, clock, door, left, guest,
+            )
+        }
+        Stage::Over(stop) => (pass, Stage::Over(stop), u64::MAX),
+    }
 }
 
-// Whether a worker ends behind a connection that ended so.
-fn stop_of(ending: Ending) -> Option<Stop>
-    ensures { result ≡ stop_of ending }
+// When a worker without a connection is to be looked at again: at once where it is over or has one.
+fn again_at<N>(stage: &Stage<N>) -> u64 {
+    if matches!(stage, Stage::Wants(_)) {
+        return u64::MAX;
+    }
+    0
+}
+
+// When a receive that waits asks again, and a response for which there was no memory is tried again; what
+// reads or writes goes on once it can.
+fn asks_at<C: Clock>(clock: &C, doing: &Doing) -> u64 {
+    match doing {
+        Doing::Asks(patience) => {
+            let end = patience.first_ms.saturating_add(patience.limit_ms);
+            patience.asked_ms.saturating_add(ASKS_EACH_MS).min(end)
+        }
+        Doing::Tells(_) => clock.now().saturating_add(TELLS_EACH_MS),
+        Doing::Reads | Doing::Writes(_) => u64::MAX,
+    }
+}
+
+// Takes the next connection of a door, if another one may be served.
+fn want<C: Clock, D: Door>(
+    alloc: Global,
+    access: &Access,
+    clock: &C,
+    door: &mut D,
+    left: u64,
+) -> Stage<D::Conn>
+    ensures goes { (most : ℕ) (p q : Sitting) (d : D) → IsAt (C.reads clock.now) access.now D.Conn.left D.Conn.given D.Conn.reads D.Conn.writes D.left D.taken D.ended D.count D.out most p d q door.old (Wants left)
+        → IsAt (C.reads clock.now) access.now D.Conn.left D.Conn.given D.Conn.reads D.Conn.writes D.left D.taken D.ended D.count D.out most p d q door.new result }
+    ensures sound { IsSound result (D.out door.new) }
 {
-    match ending {
-        Ending::Stopped => Some(Stop::Stopped),
-        Ending::OutOfMemory => Some(Stop::OutOfMemory),
-        Ending::Closed
-        | Ending::BadHead
-        | Ending::HeadTooLarge
-        | Ending::BodyTooLarge
-        | Ending::Truncated
-        | Ending::LongConnection
-        | Ending::ReadFault
-        | Ending::WriteFault => None,
+    let _ = access;
+    let _ = clock;
+    if left == 0 {
+        return Stage::Over(Stop::Enough);
+    }
+    let Ok(given) = door.accept() else {
+        return Stage::Over(Stop::Fault);
+    };
+    match given {
+        Given::One(conn) => {
+            let Ok(inbox) = Inbox::new(alloc) else {
+                door.done(conn);
+                return Stage::Over(Stop::OutOfMemory);
+            };
+            let doing = Doing::Reads;
+            Stage::Serves(left - 1, Guest { conn, inbox, doing })
+        }
+        Given::NoneYet => Stage::Wants(left),
+        Given::End => Stage::Over(Stop::Ended),
+    }
+}
+
+// Goes on with a connection, and gives it back once it is over.
+fn attend<V: Served, R: Wait, C: Clock, D: Door>(
+    rt: &R,
+    alloc: Global,
+    routes: &Routes,
+    access: &Access,
+    desk: &Desk<V>,
+    pass: Pass,
+    clock: &C,
+    door: &mut D,
+    left: u64,
+    guest: Guest<D::Conn>,
+) -> (Pass, Stage<D::Conn>, u64)
+    requires desk { IsOf desk.now pass }
+    requires out { 1 ≤ D.out door.old }
+    requires order { IsDoingInOrder guest.doing }
+    ensures goes { (most : ℕ) (p : Sitting) (d : D) → IsAt (C.reads clock.now) access.now D.Conn.left D.Conn.given D.Conn.reads D.Conn.writes D.left D.taken D.ended D.count D.out most p d pass door.old (Serves left guest)
+        → IsAt (C.reads clock.now) access.now D.Conn.left D.Conn.given D.Conn.reads D.Conn.writes D.left D.taken D.ended D.count D.out most p d result.0 door.new result.1 }
+    ensures desk { IsOf desk.now result.0 }
+    ensures sound { IsSound result.1 (D.out door.new) }
+{
+    let Guest { conn, inbox, doing } = guest;
+    let mut conn = conn;
+    let mut inbox = inbox;
+    let (pass, next) = step(
+        rt, alloc, routes, access, desk, pass, clock, &mut conn, &mut inbox, doing,
+    );
+    match next {
+        Next::On(doing) => (pass, Stage::Serves(left, Guest { conn, inbox, doing }), 0),
+        Next::Blocked(doing) => {
+            let again = asks_at(clock, &doing);
+            (
+                pass,
+                Stage::Serves(left, Guest { conn, inbox, doing }),
+                again,
+            )
+        }
+        Next::Over(ending) => {
+            door.done(conn);
+            (pass, stage_behind(ending, left), 0)
+        }
     }
 }

@@ -7,7 +7,7 @@ ghost use Rattle.sb_routes.specs.declared.routes.Address.TheVariants.{Entity};
 ghost use Rattle.sb_routes.specs.declared.routes.Route.TheVariants.{Head};
 ghost use Rattle.sb_http.specs.declared.fault.HttpFault.TheVariants.{HeadTooLarge};
 ghost use Rattle.sb_rest.specs.declared.call.RestFault.TheVariants.{BadMethod};
-ghost use Rattle.sb_server.specs.declared.answer.Turn.TheVariants.{Goes, Closes, Stops};
+ghost use Rattle.sb_server.specs.declared.telling.Turn.TheVariants.{Goes, Closes, Stops};
 ghost use Rattle.sb_server.specs.declared.ending.ServeEnding.TheVariants.{Done, DoorFault, OutOfMemory};
 ghost use Rattle.sb_server.specs.declared.work.Stop.TheVariants.{Enough, Ended, Fault, Stopped, OutOfMemory as NoMemory};
 ghost use Rattle.sb_rest.specs.Worked.{q};

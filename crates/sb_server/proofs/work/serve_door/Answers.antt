@@ -1,29 +1,21 @@
-use Rattle.std.proofs.Common.{refl, [], ◌++◌, ◌∙◌, rules}
-use Rattle.sb_server.proofs.Working.{works_none, works_on, stops_after, gone_none, gone_more, gone_enough}
+use Rattle.std.proofs.Common.{subst}
+use Rattle.sb_server.specs.declared.stage.Stage.{Stage}
+use Rattle.sb_server.specs.Stages.{IsAt}
+use Rattle.sb_server.proofs.Attending.{at_first}
 use Rattle.sb_server.proofs.work.serve_door.Goals as goal
 
 pub loop-init : goal.loop-init
-loop-init g c = record {
-  desk = c.requires;
-  out = refl;
-  works = ([], works_none _ _ _ _, gone_none _);
-}
+loop-init g c = record { desk = c.requires; sound = tt; at = at_first (g.C.Clock.reads c.args.clock.now) c.args.access.now g.D.Conn.Conn.left g.D.Conn.Conn.given g.D.Conn.Conn.reads g.D.Conn.Conn.writes g.D.Door.left g.D.Door.taken g.D.Door.ended g.D.Door.count g.D.Door.out c.args.most c.args.pass c.args.door.now }
 
-pub returns-in-Some-clause-works : goal.returns-in-Some-clause-works
-returns-in-Some-clause-works g c =
-    let before = c.loop.invariant.works in
-    let now = c.serve_next-next.ensures.works in
-    (before.0 ++ now.0, works_on _ _ _ _ _ _ _ _ _ _ before.0 now.0 before.1 now.1, stops_after c.in-Some.stop c.serve_next-next.result.1 c.args.most c.loop.counter before.0 now.0 _ _ _ _ c.in-Some.is now.2 before.2.size (search rules) before.2.on before.2.count)
+pub returns-in-Over-clause-works : goal.returns-in-Over-clause-works
+returns-in-Over-clause-works g c =
+    let o = subst (λ (x : Stage g.row.D-Conn.Denot). IsAt (g.C.Clock.reads c.args.clock.now) c.args.access.now g.D.Conn.Conn.left g.D.Conn.Conn.given g.D.Conn.Conn.reads g.D.Conn.Conn.writes g.D.Door.left g.D.Door.taken g.D.Door.ended g.D.Door.count g.D.Door.out c.args.most c.args.pass c.args.door.now c.go_on-next.result.0 c.go_on-next.new.door x) c.in-Over.is (c.go_on-next.ensures.goes c.args.most c.args.pass c.args.door.now c.loop.invariant.at) in
+    (o.visits, o.works, o.stops)
 
-pub returns-clause-works : goal.returns-clause-works
-returns-clause-works g c = let before = c.loop.invariant.works in (before.0, before.1, gone_enough before.0 c.loop.counter c.args.most _ _ _ (search rules) before.2)
+pub returns-in-Over-clause-out : goal.returns-in-Over-clause-out
+returns-in-Over-clause-out g c =
+    let o = subst (λ (x : Stage g.row.D-Conn.Denot). IsAt (g.C.Clock.reads c.args.clock.now) c.args.access.now g.D.Conn.Conn.left g.D.Conn.Conn.given g.D.Conn.Conn.reads g.D.Conn.Conn.writes g.D.Door.left g.D.Door.taken g.D.Door.ended g.D.Door.count g.D.Door.out c.args.most c.args.pass c.args.door.now c.go_on-next.result.0 c.go_on-next.new.door x) c.in-Over.is (c.go_on-next.ensures.goes c.args.most c.args.pass c.args.door.now c.loop.invariant.at) in
+    o.out_is
 
 pub loop-preserved : goal.loop-preserved
-loop-preserved g c =
-    let before = c.loop.invariant.works in
-    let now = c.serve_next-next.ensures.works in
-    record {
-      desk = c.serve_next-next.ensures.desk;
-      out = c.serve_next-next.ensures.out ∙ c.loop.invariant.out;
-      works = (before.0 ++ now.0, works_on _ _ _ _ _ _ _ _ _ _ before.0 now.0 before.1 now.1, gone_more c.serve_next-next.result.1 before.0 now.0 _ _ _ _ _ c.in_default.is before.2 now.2);
-    }
+loop-preserved g c = record { desk = c.go_on-next.ensures.desk; sound = c.go_on-next.ensures.sound; at = c.go_on-next.ensures.goes c.args.most c.args.pass c.args.door.now c.loop.invariant.at }

@@ -1,5 +1,6 @@
-use Rattle.std.proofs.Common.{rules, refl, []}
-use Rattle.sb_server.proofs.Reading.{takes_start, takes_on, takes_of}
+use Rattle.std.proofs.Common.{rules, refl, [], ◌∙◌}
+use Rattle.sb_server.specs.Reads.{stand_of}
+use Rattle.sb_server.proofs.Reading.{takes_start, takes_on, takes_of, takes_to}
 use Rattle.sb_server.proofs.inbox.Inbox.next.Goals as goal
 
 pub loop-init : goal.loop-init
@@ -12,8 +13,8 @@ loop-init g c = record {
 
 pub loop-preserved-then-self : goal.loop-preserved-then-self
 loop-preserved-then-self g c = record {
-  takes = takes_on _ _ _ [] [] (takes_on _ _ _ [] [] c.loop.invariant.takes (takes_of _ _ _ _ [] c.in-NoneYet.ensures.0)) (c.feed_piece.ensures (g.N.Conn.left c.loop.conn));
-  given = c.loop.invariant.given;
-  later = c.loop.invariant.later;
-  writes = c.loop.invariant.writes;
+  takes = takes_to (stand_of c.args.self.now (g.N.Conn.left c.args.conn.now)) [] c.feed_piece.new.self (g.N.Conn.left c.loop.conn) (g.N.Conn.left c.take_one.new.conn) c.take_one.ensures.left (takes_on _ _ _ [] [] (takes_on _ _ _ [] [] c.loop.invariant.takes (takes_of _ _ _ _ [] c.in-NoneYet.ensures.took.0)) (c.feed_piece.ensures (g.N.Conn.left c.loop.conn)));
+  given = c.take_one.ensures.given ∙ c.loop.invariant.given;
+  later = search rules;
+  writes = c.take_one.ensures.writes ∙ c.loop.invariant.writes;
 }

@@ -1,0 +1,111 @@
+-- A thread goes round its workers.
+use Rattle.std.proofs.Common.{◌≡◌, ℕ, zero, suc, ◌+◌, ◌<◌, List, [], ◌∷◌, length, sym, refl, ap, ◌∙◌, subst, arith, Bool, true, false, ◌&&◌, Option, Some, None}
+use Rattle.std.specs.Prelude.{All, slice_index_or, slice_set}
+use Rattle.std.specs.List.{list_all}
+use Rattle.sb_desk.specs.Desks.{Open, Sitting, IsOf}
+use Rattle.sb_rest.specs.declared.access.Access.{Access}
+use Rattle.sb_server.specs.declared.job.Job.{Job}
+use Rattle.sb_server.specs.declared.stage.Stage.{Stage}
+use Rattle.sb_server.specs.declared.stage.Stage.TheVariants.{Wants, Serves, Over}
+use Rattle.sb_server.specs.declared.work.Stop.{Stop}
+use Rattle.sb_server.specs.Serves.{Worker, Working, HasPass, Did, IsAtWork, HasCome}
+use Rattle.sb_server.specs.Stages.{IsAt, IsSound, IsOver, stop_at, is_over}
+use Rattle.sb_server.specs.Works.{ServesBy}
+use Rattle.sb_server.proofs.Attending.{at_first}
+use Rattle.sb_server.proofs.Outcomes.{stopped_seen}
+
+-- a fact of each, of which one was changed
+pub set_each : {T : Type 0} (P : ℕ → T → Type 0) (xs : List T) (i : ℕ) (v d : T) → P i v → ((k : ℕ) → k < length xs → P k (slice_index_or xs k d)) → (k : ℕ) → k < length xs → P k (slice_index_or (slice_set xs i v) k d)
+set_each P [] i v d pv all k lt = absurd (omega (arith, lt))
+set_each P (x ∷ xs) zero v d pv all zero lt = pv
+set_each P (x ∷ xs) zero v d pv all (suc k) lt = all (suc k) lt
+set_each P (x ∷ xs) (suc i) v d pv all zero lt = all 0 (omega arith)
+set_each P (x ∷ xs) (suc i) v d pv all (suc k) lt = set_each (λ j y. P (suc j) y) xs i v d pv (λ j h. all (suc j) (omega (arith, h))) k (omega (arith, lt))
+
+pub set_length : {T : Type 0} (xs : List T) (i : ℕ) (v : T) → length (slice_set xs i v) ≡ length xs
+set_length [] i v = refl
+set_length (x ∷ xs) zero v = refl
+set_length (x ∷ xs) (suc i) v = omega (arith, set_length xs i v)
+
+and_first : (a b : Bool) → (a && b) ≡ true → a ≡ true
+and_first true b e = refl
+and_first false b e = e
+
+and_second : (a b : Bool) → (a && b) ≡ true → b ≡ true
+and_second true b e = e
+and_second false b e = absurd cc
+
+pub all_of : {T : Type 0} (p : T → Bool) (xs : List T) → list_all p xs ≡ true → All (λ x. p x ≡ true) xs
+all_of p [] e k d lt = absurd (omega (arith, lt))
+all_of p (x ∷ xs) e zero d lt = and_first (p x) (list_all p xs) e
+all_of p (x ∷ xs) e (suc k) d lt = all_of p xs (and_second (p x) (list_all p xs) e) k d (omega (arith, lt))
+
+module _ {D X : Type 0} (IsReading : ℕ → Type 0) (access : Access) (there given : X → Option (List ℕ)) (reads writes : X → ℕ) (waiting taken : D → Option (List X)) (ended : D → Bool) (count out : D → ℕ) (most : ℕ) where
+  abbrev Come : Job D X → Job D X → Type 0
+  Come began now = HasCome IsReading access there given reads writes waiting taken ended count out most began now
+
+  -- how it begins
+  pub come_first : (desk : Open) (job : Job D X) → HasPass desk most job → Come job job
+  come_first desk job h = record {
+    pass = h.pass;
+    pass_now = h.pass;
+    had = h.has;
+    has = h.has;
+    at = subst (λ (s : Stage X). IsAt IsReading access there given reads writes waiting taken ended count out most h.pass job.door h.pass job.door s) (sym h.fresh) (at_first IsReading access there given reads writes waiting taken ended count out most h.pass job.door);
+    stop_is = sym (ap (λ (s : Stage X). stop_at s job.stop) h.fresh);
+  }
+
+  -- one worker made a step
+  pub come_on : (began old new : Job D X) (pass after : Sitting) → Come began old → old.pass ≡ Some pass → new.pass ≡ Some after
+      → ((p : Sitting) (d : D) → IsAt IsReading access there given reads writes waiting taken ended count out most p d pass old.door old.stage → IsAt IsReading access there given reads writes waiting taken ended count out most p d after new.door new.stage)
+      → new.stop ≡ stop_at new.stage new.stop → Come began new
+  come_on began old new pass after c had has goes stop = record {
+    pass = c.pass;
+    pass_now = after;
+    had = c.had;
+    has = has;
+    at = goes c.pass began.door (subst (λ (p : Sitting). IsAt IsReading access there given reads writes waiting taken ended count out most c.pass began.door p old.door old.stage) (some_same c.pass_now pass (sym c.has ∙ had)) c.at);
+    stop_is = stop;
+  }
+    where
+      some_same : (p q : Sitting) → Some p ≡ Some q → p ≡ q
+      some_same p q e = ap (λ (o : Option Sitting). elim o [ Some z ↦ z | None ↦ p ]) e
+
+  -- it is over
+  pub come_over : (desk : Open) (began now : Job D X) → Come began now → IsAtWork out desk now → is_over now.stage ≡ true → Did (Working (ServesBy IsReading access there given reads writes) waiting taken ended count out desk most) began now
+  come_over desk began now c w over = by now.stage refl over
+    where
+      some_same : (p q : Sitting) → Some p ≡ Some q → p ≡ q
+      some_same p q e = ap (λ (o : Option Sitting). elim o [ Some z ↦ z | None ↦ p ]) e
+
+      by : (stage : Stage X) → now.stage ≡ stage → is_over stage ≡ true → Did (Working (ServesBy IsReading access there given reads writes) waiting taken ended count out desk most) began now
+      by (Wants left) is e = absurd cc
+      by (Serves left guest) is e = absurd cc
+      by (Over stop) is e =
+          let o : IsOver IsReading access there given reads writes waiting taken ended count out most c.pass began.door c.pass_now now.door stop = subst (λ (s : Stage X). IsAt IsReading access there given reads writes waiting taken ended count out most c.pass began.door c.pass_now now.door s) is c.at in
+          let worker : Worker D = record { pass = c.pass; door = began.door; pass_after = c.pass_now; door_after = now.door; stop = stop } in
+          record {
+            worker = worker;
+            had = c.had;
+            at = refl;
+            has = c.has;
+            left = refl;
+            over = over;
+            stop = c.stop_is ∙ ap (λ (s : Stage X). stop_at s now.stop) is;
+            does = record {
+              of = subst (IsOf desk) (some_same w.pass c.pass_now (sym w.has ∙ c.has)) w.of;
+              visits = o.visits;
+              works = o.works;
+              stops = o.stops;
+              out_is = o.out_is;
+              stopped = stopped_seen IsReading access there given reads writes c.pass c.pass_now o.visits stop most (ended now.door) (count began.door) (count now.door) o.works.worked o.stops;
+            };
+          }
+
+pub stop_twice : {X : Type 0} (stage : Stage X) (stop other : Stop) → stop ≡ stop_at stage other → stop ≡ stop_at stage stop
+stop_twice (Wants left) stop other e = refl
+stop_twice (Serves left guest) stop other e = refl
+stop_twice (Over s) stop other e = e
+
+pub work_first : {D X : Type 0} (out : D → ℕ) (desk : Open) (most : ℕ) (job : Job D X) → HasPass desk most job → IsAtWork out desk job
+work_first {X = X} out desk most job h = record { pass = h.pass; has = h.has; of = h.of; sound = subst (λ (s : Stage X). IsSound s (out job.door)) (sym h.fresh) tt }

@@ -1,0 +1,6 @@
+use Rattle.sb_server.proofs.Going.{waiting_first}
+use Rattle.sb_server.proofs.Responding.{settled_begins}
+use Rattle.sb_server.proofs.answer.ask_first.Goals as goal
+
+pub returns-clause-begins : goal.returns-clause-begins
+returns-clause-begins g c = settled_begins (g.C.Clock.reads c.args.clock.now) c.args.pass c.call_once-pass.result.0 _ c.settle.result (waiting_first (g.C.Clock.reads c.args.clock.now) _ _ _ _ _ _ c.call_once-pass.ensures.goes c.now-first_ms.ensures) c.settle.ensures

@@ -1,0 +1,31 @@
+use Rattle.std.proofs.Common.{subst, sym}
+use Rattle.sb_server.specs.declared.doing.Next.{Next}
+use Rattle.sb_server.specs.declared.stage.Guest.{Guest}
+use Rattle.sb_server.specs.declared.stage.Stage.{Stage}
+use Rattle.sb_server.specs.Doings.{IsNext}
+use Rattle.sb_server.specs.Reads.{stand_of}
+use Rattle.sb_server.specs.Stages.{IsAt, here_of}
+use Rattle.sb_server.specs.Talks.{Here}
+use Rattle.sb_server.proofs.Attending.{at_step, at_over}
+use Rattle.sb_server.proofs.work.attend.Goals as goal
+
+pub returns-in-On-clause-goes : goal.returns-in-On-clause-goes
+returns-in-On-clause-goes g c = λ most p d w.
+    let new : Guest g.row.D-Conn.Denot = record { conn = c.step-pass.new.conn; inbox = c.step-pass.new.inbox; doing = c.in-On.doing } in
+    at_step (g.C.Clock.reads c.args.clock.now) c.args.access.now g.D.Conn.Conn.left g.D.Conn.Conn.given g.D.Conn.Conn.reads g.D.Conn.Conn.writes g.D.Door.left g.D.Door.taken g.D.Door.ended g.D.Door.count g.D.Door.out most p d c.args.pass c.step-pass.result.0 c.args.door.now c.args.left c.args.guest new w
+    (λ s same i. subst (λ (x : Next). IsNext (g.C.Clock.reads c.args.clock.now) s (here_of g.D.Conn.Conn.left g.D.Conn.Conn.given g.D.Conn.Conn.reads g.D.Conn.Conn.writes c.step-pass.result.0 new) x) c.in-On.is (c.step-pass.ensures.steps s same i))
+
+pub returns-in-Blocked-clause-goes : goal.returns-in-Blocked-clause-goes
+returns-in-Blocked-clause-goes g c = λ most p d w.
+    let new : Guest g.row.D-Conn.Denot = record { conn = c.step-pass.new.conn; inbox = c.step-pass.new.inbox; doing = c.in-Blocked.doing } in
+    at_step (g.C.Clock.reads c.args.clock.now) c.args.access.now g.D.Conn.Conn.left g.D.Conn.Conn.given g.D.Conn.Conn.reads g.D.Conn.Conn.writes g.D.Door.left g.D.Door.taken g.D.Door.ended g.D.Door.count g.D.Door.out most p d c.args.pass c.step-pass.result.0 c.args.door.now c.args.left c.args.guest new w
+    (λ s same i. subst (λ (x : Next). IsNext (g.C.Clock.reads c.args.clock.now) s (here_of g.D.Conn.Conn.left g.D.Conn.Conn.given g.D.Conn.Conn.reads g.D.Conn.Conn.writes c.step-pass.result.0 new) x) c.in-Blocked.is (c.step-pass.ensures.steps s same i))
+
+pub returns-in-Over-clause-goes : goal.returns-in-Over-clause-goes
+returns-in-Over-clause-goes g c = λ most p d w.
+    let conn = c.step-pass.new.conn in
+    let stand = stand_of c.step-pass.new.inbox (g.D.Conn.Conn.left conn) in
+    let n : Here = record { pass = c.step-pass.result.0; stand = stand; written = g.D.Conn.Conn.given conn; reads = g.D.Conn.Conn.reads conn; writes = g.D.Conn.Conn.writes conn } in
+    subst (λ (x : Stage g.row.D-Conn.Denot). IsAt (g.C.Clock.reads c.args.clock.now) c.args.access.now g.D.Conn.Conn.left g.D.Conn.Conn.given g.D.Conn.Conn.reads g.D.Conn.Conn.writes g.D.Door.left g.D.Door.taken g.D.Door.ended g.D.Door.count g.D.Door.out most p d c.step-pass.result.0 c.done.new.self x) (sym c.stage_behind.ensures)
+    (at_over (g.C.Clock.reads c.args.clock.now) c.args.access.now g.D.Conn.Conn.left g.D.Conn.Conn.given g.D.Conn.Conn.reads g.D.Conn.Conn.writes g.D.Door.left g.D.Door.taken g.D.Door.ended g.D.Door.count g.D.Door.out most p d c.args.pass c.step-pass.result.0 c.args.door.now c.done.new.self c.args.left c.args.guest stand conn c.in-Over.ending w
+    (λ s same i. subst (λ (x : Next). IsNext (g.C.Clock.reads c.args.clock.now) s n x) c.in-Over.is (c.step-pass.ensures.steps s same i)) c.done.ensures.left c.done.ensures.taken c.done.ensures.count c.done.ensures.out)

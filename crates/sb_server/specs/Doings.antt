@@ -1,0 +1,165 @@
+-- What a connection does now, as far as it has come, and what comes next.
+-- `IsReading` holds of what the worker's clock may read.
+use Rattle.std.specs.Prelude.{◌≡◌, ℕ, ◌+◌, ◌≤◌, ◌<◌, List, [], ◌∷◌, take, Bool, true, false, Option, Some, None, Result, Ok, Err, Vec}
+use Rattle.std.specs.declared.alloc.AllocError.{AllocError}
+use Rattle.std.specs.Global.{Global}
+use Rattle.sb_machine.specs.History.{stops}
+use Rattle.sb_machine.specs.Ordered.{IsActInOrder}
+use Rattle.sb_machine.specs.declared.history.Entry.{Entry}
+use Rattle.sb_desk.specs.Desks.{Sitting}
+use Rattle.sb_outside.specs.Causes.{Rose}
+use Rattle.sb_outside.specs.Streams.{Gains, GainsPart}
+use Rattle.sb_http.specs.Messages.{RequestMessage}
+use Rattle.sb_rest.specs.declared.access.Access.{Access}
+use Rattle.sb_server.specs.declared.telling.Turn.{Turn}
+use Rattle.sb_server.specs.declared.telling.Turn.TheVariants.{Goes}
+use Rattle.sb_server.specs.declared.telling.Said.{Said}
+use Rattle.sb_server.specs.declared.telling.Said.TheVariants.{Call as OfCall, Line as OfLine, Fault as OfFault}
+use Rattle.sb_server.specs.declared.telling.Telling.{Telling}
+use Rattle.sb_server.specs.declared.ask.Ask.{Ask}
+use Rattle.sb_server.specs.declared.ask.Ask.TheVariants.{Patient}
+use Rattle.sb_server.specs.declared.doing.Begun.{Begun}
+use Rattle.sb_server.specs.declared.doing.Begun.TheVariants.{Done, Waits}
+use Rattle.sb_server.specs.declared.doing.Doing.{Doing}
+use Rattle.sb_server.specs.declared.doing.Doing.TheVariants.{Reads, Asks, Tells, Writes}
+use Rattle.sb_server.specs.declared.doing.Next.{Next}
+use Rattle.sb_server.specs.declared.doing.Next.TheVariants.{On, Blocked, Over}
+use Rattle.sb_server.specs.declared.doing.Outgoing.{Outgoing}
+use Rattle.sb_server.specs.declared.patience.Patience.{Patience}
+use Rattle.sb_server.specs.declared.ending.Ending.{Ending}
+use Rattle.sb_server.specs.declared.ending.Ending.TheVariants.{WriteFault, OutOfMemory, Gone}
+use Rattle.sb_server.specs.Asks.{AsksFor, asks_close}
+use Rattle.sb_server.specs.Reads.{Takes}
+use Rattle.sb_server.specs.Responds.{AnswersCall, RespondsTo, fault_bytes, line_bytes, turn_of}
+use Rattle.sb_server.specs.Talks.{Start, Here, Talks, Ends, TurnsTo, ending_of}
+use Rattle.sb_server.specs.Waiting.{GoesBy, Waiting, is_empty}
+
+-- ---- what is to be told of a request
+
+-- this is its response
+abbrev pub Says : Said → Bool → List ℕ → Type 0
+Says (OfCall wanted asker answer) closes out = AnswersCall wanted.call answer asker closes out
+Says (OfLine form answer) closes out = out ≡ line_bytes form answer closes
+Says (OfFault fault) closes out = out ≡ fault_bytes fault closes
+
+-- whether the namespace acts no more
+abbrev pub stops_by : Said → Bool
+stops_by (OfCall wanted asker answer) = stops answer
+stops_by (OfLine form answer) = stops answer
+stops_by (OfFault fault) = false
+
+-- what is to be told where this came of it
+abbrev pub telling_of : Said → Bool → Telling
+telling_of said closes = record { said = said; closes = closes; after = ending_of (turn_of closes (stops_by said)) }
+
+-- what is to be told of a receive whose caller has gone
+abbrev pub farewell : Patience → Telling
+farewell p = record { said = OfCall p.wanted p.asker p.answer; closes = true; after = Some Gone }
+
+-- ---- a receive that waits
+
+-- behind `pass` its calls were made, the last of which found nothing before its end
+pub record IsPatient (IsReading : ℕ → Type 0) (pass : Sitting) (p : Patience) (new : Sitting) : Type 0 where
+  pub waiting : Waiting IsReading pass p.wanted.call p.limit_ms p.first_ms p.asked_ms p.answer new
+  pub empty : is_empty p.answer ≡ true
+  pub early : p.asked_ms < p.first_ms + p.limit_ms
+
+-- it goes on where its last call found nothing before its end, else its answer is told
+abbrev pub IsSettled : Patience → Begun → Type 0
+IsSettled p (Done told) = (told ≡ telling_of (OfCall p.wanted p.asker p.answer) p.closes) × (is_empty p.answer ≡ true → p.first_ms + p.limit_ms ≤ p.asked_ms)
+IsSettled p (Waits q) = (q ≡ p) × (is_empty p.answer ≡ true) × (p.asked_ms < p.first_ms + p.limit_ms)
+
+-- the pass went on by the entries of a request's calls, whose response this is to be
+abbrev pub Answers : (ℕ → Type 0) → Sitting → Ask → Bool → Sitting → Telling → Type 0
+Answers IsReading pass ask closes new told = (made : List Entry) × (turn : Turn) × GoesBy pass made new × (told.after ≡ ending_of turn)
+    × ((out : List ℕ) → Says told.said told.closes out → RespondsTo IsReading pass.seat ask closes made out turn)
+
+-- what came of a request's calls
+abbrev pub Begins : (ℕ → Type 0) → Sitting → Ask → Bool → Sitting → Begun → Type 0
+Begins IsReading pass ask closes new (Done told) = Answers IsReading pass ask closes new told
+Begins IsReading pass ask closes new (Waits p) = (ask ≡ Patient p.wanted p.asker p.limit_ms) × (p.closes ≡ closes) × IsPatient IsReading pass p new
+
+-- All requests but the last were answered; the last is a receive that waits, and nothing was written for it.
+pub record IsAsking (IsReading : ℕ → Type 0) (s : Start) (h : Here) (p : Patience) : Type 0 where
+  pub old : Here
+  pub m : RequestMessage
+  pub talks : Talks IsReading s old Goes
+  pub takes : Takes old.stand (m ∷ []) h.stand
+  pub reads : old.reads ≤ h.reads
+  pub writes : old.writes ≤ h.writes
+  pub written : h.written ≡ old.written
+  pub asks : AsksFor s.access m (Patient p.wanted p.asker p.limit_ms)
+  pub closes_is : p.closes ≡ asks_close m
+  pub patient : IsPatient IsReading old.pass p h.pass
+
+-- ---- a response that is due
+
+-- Its calls were made, and nothing was written for it. Once its response is written, whatever that is, or once a write
+-- has failed, the connection is one that goes on, or has ended, so.
+pub record IsDue (IsReading : ℕ → Type 0) (s : Start) (h : Here) (told : Telling) : Type 0 where
+  pub whole : (out : List ℕ) (w : Option (List ℕ)) (k : ℕ) → Says told.said told.closes out → h.writes ≤ k → Gains h.written w out → TurnsTo IsReading s (record h { written = w; writes = k }) told.after
+  pub part : (out : List ℕ) (w : Option (List ℕ)) (k : ℕ) → Says told.said told.closes out → Rose h.writes k → GainsPart h.written w out → Ends IsReading s (record h { written = w; writes = k }) WriteFault
+
+-- Some of its bytes were written behind what was given before. Once all are, or once a write has failed, the
+-- connection is one that goes on, or has ended, so.
+pub record Owes (IsReading : ℕ → Type 0) (s : Start) (h : Here) (out : Outgoing) : Type 0 where
+  pub before : Option (List ℕ)
+  pub wrote : Gains before h.written (take out.at out.bytes.items)
+  pub whole : (w : Option (List ℕ)) (k : ℕ) → h.writes ≤ k → Gains before w out.bytes.items → TurnsTo IsReading s (record h { written = w; writes = k }) out.after
+  pub part : (w : Option (List ℕ)) (k : ℕ) → Rose h.writes k → GainsPart before w out.bytes.items → Ends IsReading s (record h { written = w; writes = k }) WriteFault
+
+-- ---- what it does
+
+-- as far as it has come
+abbrev pub IsDoing : (ℕ → Type 0) → Start → Here → Doing → Type 0
+IsDoing IsReading s h Reads = Talks IsReading s h Goes
+IsDoing IsReading s h (Asks p) = IsAsking IsReading s h p
+IsDoing IsReading s h (Tells told) = IsDue IsReading s h told
+IsDoing IsReading s h (Writes out) = Owes IsReading s h out
+
+-- it goes on, or ends
+abbrev pub IsNext : (ℕ → Type 0) → Start → Here → Next → Type 0
+IsNext IsReading s h (On doing) = IsDoing IsReading s h doing
+IsNext IsReading s h (Blocked doing) = IsDoing IsReading s h doing
+IsNext IsReading s h (Over ending) = Ends IsReading s h ending
+
+-- one step, however a connection of this server began
+abbrev pub Steps : (ℕ → Type 0) → Access → Here → Doing → Here → Next → Type 0
+Steps IsReading access old doing new next = (s : Start) → s.access ≡ access → IsDoing IsReading s old doing → IsNext IsReading s new next
+
+-- ---- the calls of receives that wait are in order
+
+-- that of what a connection does
+abbrev pub IsDoingInOrder : Doing → Type 0
+IsDoingInOrder Reads = Unit {0}
+IsDoingInOrder (Asks p) = IsActInOrder p.wanted.call.act
+IsDoingInOrder (Tells told) = Unit {0}
+IsDoingInOrder (Writes out) = Unit {0}
+
+-- that of what comes next
+abbrev pub IsNextInOrder : Next → Type 0
+IsNextInOrder (On doing) = IsDoingInOrder doing
+IsNextInOrder (Blocked doing) = IsDoingInOrder doing
+IsNextInOrder (Over ending) = Unit {0}
+
+-- that of what came of a request's calls
+abbrev pub IsBegunInOrder : Begun → Type 0
+IsBegunInOrder (Done told) = Unit {0}
+IsBegunInOrder (Waits p) = IsActInOrder p.wanted.call.act
+
+-- ---- how it goes on
+
+-- a refusal is written, if there was memory for it
+abbrev pub refusing : Result (Vec ℕ Global) AllocError → Ending → Next
+refusing (Ok v) ending = On (Writes (record { bytes = v; at = 0; after = Some ending }))
+refusing (Err e) ending = Over OutOfMemory
+
+-- behind a response
+abbrev pub behind : Option Ending → Next
+behind None = On Reads
+behind (Some ending) = Over ending
+
+-- behind a request's calls
+abbrev pub next_of : Begun → Next
+next_of (Done told) = On (Tells told)
+next_of (Waits p) = Blocked (Asks p)

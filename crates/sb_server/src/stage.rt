@@ -1,0 +1,65 @@
+// Where a worker stands.
+ghost use Rattle.std.specs.Prelude.{◌≡◌, true};
+ghost use Rattle.sb_server.specs.Stages as stages;
+ghost use Rattle.sb_server.specs.Works.{stop_of};
+
+use crate::doing::Doing;
+use crate::ending::Ending;
+use crate::inbox::Inbox;
+use crate::work::Stop;
+
+/// A connection that is being served: what came of it and isn't answered yet, and what it does now.
+#[derive(Drop)]
+pub(crate) struct Guest<N> {
+    pub(crate) conn: N,
+    pub(crate) inbox: Inbox,
+    pub(crate) doing: Doing,
+}
+
+/// Where a worker stands. It says how many connections more are served at most.
+#[derive(Drop)]
+pub(crate) enum Stage<N> {
+    /// It wants a connection.
+    Wants(u64),
+    /// It serves one.
+    Serves(u64, Guest<N>),
+    Over(Stop),
+}
+
+// Whether a worker ends behind a connection that ended so.
+fn stop_of(ending: Ending) -> Option<Stop>
+    ensures { result ≡ stop_of ending }
+{
+    match ending {
+        Ending::Stopped => Some(Stop::Stopped),
+        Ending::OutOfMemory => Some(Stop::OutOfMemory),
+        Ending::Closed
+        | Ending::BadHead
+        | Ending::HeadTooLarge
+        | Ending::BodyTooLarge
+        | Ending::Truncated
+        | Ending::LongConnection
+        | Ending::ReadFault
+        | Ending::Gone
+        | Ending::WriteFault => None,
+    }
+}
+
+/// Where a worker stands behind a connection that ended so, if it may serve so many more.
+pub(crate) fn stage_behind<N>(ending: Ending, left: u64) -> Stage<N>
+    ensures { result ≡ stages.stage_behind (stop_of ending) left }
+{
+    match stop_of(ending) {
+        Some(stop) => Stage::Over(stop),
+        None => Stage::Wants(left),
+    }
+}
+
+/// Lets the stage of a worker go that is over, and so has no connection.
+pub(crate) fn let_go<N>(stage: Stage<N>)
+    requires { stages.is_over stage ≡ true }
+{
+    let Stage::Over(_) = stage else {
+        unreachable!()
+    };
+}
