@@ -7,13 +7,15 @@ PROGRAM is the built program (crates/sb_bus/out/sb_bus). A server is started on 
 received as docs/REST.md has it, settled by its Location, and the same two requests are sent whole, pipelined and cut
 after each byte. A thousand sends in one piece have the numbers 1 to 1,000. The largest message comes back byte for
 byte. A moment lies between two readings of the clock here. Two connections are open at once where a receive waits for
-a send. A server that can't take a connection, since it has no more files, ends with status 8. The one worker of a
-server is free again once its caller has said nothing for 60 seconds, or has taken nothing of its response for some
-minutes; --short leaves these two out. The exit status is 1 where something is answered otherwise.
+a send, also in one thread. A server that has no file left for a connection says so once, and takes it as soon as there
+is one. The one worker of a server is free again once its caller has said nothing for 60 seconds, or has taken nothing
+of its response for some minutes; --short leaves these two out. The exit status is 1 where something is answered
+otherwise.
 """
 import contextlib
 import os
 import re
+import resource
 import socket
 import subprocess
 import sys
@@ -22,7 +24,7 @@ import threading
 import time
 from concurrent.futures import ThreadPoolExecutor
 
-from lib import Caller, free_port, given_words, serving, start, tell, wants
+from lib import Caller, free_port, given_words, is_listening, serving, start, tell, wants
 
 SEND = b"POST /Q/messages HTTP/1.1\r\nHost: h\r\nContent-Length: 2\r\n\r\nhi"
 RECEIVE = b"POST /q/messages/head?timeout=0 HTTP/1.1\r\nHost: h\r\n\r\n"
@@ -145,6 +147,14 @@ def system_clock(port):
     wants(before <= enqueued <= between <= locked <= after, f"{enqueued} and {locked} at {before}, {between}, {after}")
 
 
+def two_in_one_thread(program):
+    """The same of a server with one thread."""
+    port = free_port()
+    with tempfile.TemporaryDirectory() as folder, serving(program, folder, port, "--threads", "1"):
+        client(program, port, ['{"do":"create-queue","name":"q"}'], 0)
+        two_at_once(port)
+
+
 def two_at_once(port):
     """A receive waits on one connection while another sends."""
     got = []
@@ -172,6 +182,7 @@ def all_rows(program, is_short):
         two_at_once(port)
         port_in_use(program, port)
     two_workers_end(program)
+    two_in_one_thread(program)
     out_of_files(program)
     if not is_short:
         each_at_once(lambda: silent_caller(program), lambda: caller_who_takes_nothing(program))
@@ -225,26 +236,56 @@ def caller_who_takes_nothing(program):
 
 
 def out_of_files(program):
-    """Two workers and files for one connection: the second can't be taken, and the end has status 8."""
+    """Three workers and files for two connections: the third is told once, and taken when one of them has ended."""
+    words, most = ["--workers", "3", "--threads", "1"], 29  # what three workers in a thread may come to
     with tempfile.TemporaryDirectory() as folder:
-        port, few = free_port(), os.path.join(folder, "few")
-        with serving(program, folder, port, "--workers", "2") as server, Caller(port) as caller:
-            caller.line({"do": "create-queue", "name": "q"})
-            files = max(int(number) for number in os.listdir(f"/proc/{server.pid}/fd")) + 1
-        with open(few, "w", encoding="ascii") as script:
-            script.write(f"#!/bin/sh\nulimit -n {files}\nexec '{program}' \"$@\"\n")
-        os.chmod(few, 0o755)
-        port = free_port()
-        with ending(few, folder, port, "--workers", "2", "--connections", "2") as server:
-            with Caller(port) as first:
-                first.line({"do": "counts", "entity": "q"})
-                second = Caller(port)
-                until(lambda: len(os.listdir(f"/proc/{server.pid}/task")) < 2)
-            with second:
-                reply = second.line({"do": "counts", "entity": "q"})
-            told, _ = server.communicate(timeout=20)
-    wants(reply.get("ok") == "counts", f"the worker that is left answered {reply}")
-    wants(server.returncode == 8, f"out of files: status {server.returncode}, {told!r}")
+        said = os.path.join(folder, "said")
+        with open(said, "wb") as stderr:
+            port = free_port()
+            with begun_with(program, folder, port, words, stderr, [], most) as server:
+                client(program, port, ['{"do":"create-queue","name":"q"}'], 0)
+                files = len(os.listdir(f"/proc/{server.pid}/fd"))
+            port = free_port()
+            spare = [os.open("/dev/null", os.O_RDONLY) for _ in range(most - files - 2)]
+            with begun_with(program, folder, port, words, stderr, spare, most):
+                for it in spare:
+                    os.close(it)
+                reply = third_of(port, lambda: told_in(said))
+        times = told_in(said)
+    wants(reply.get("ok") == "counts", f"the connection that waited for a file was answered {reply}")
+    wants(times == 1, f"a connection that waits for a file was told {times} times")
+
+
+def third_of(port, is_told):
+    """The reply to the third of three connections, which waits for a file."""
+    with Caller(port) as first:
+        with Caller(port) as second:
+            for it in (first, second):
+                it.line({"do": "counts", "entity": "q"})
+            third = Caller(port)
+            until(is_told)
+        with third:
+            return third.line({"do": "counts", "entity": "q"})
+
+
+@contextlib.contextmanager
+def begun_with(program, folder, port, words, stderr, files, most):
+    """A server that begins with these files, and may have so many."""
+    call = [program, "serve", "--data", folder, "--port", str(port), *words]
+    limit = lambda: resource.setrlimit(resource.RLIMIT_NOFILE, (most, most))
+    server = subprocess.Popen(call, stdout=subprocess.DEVNULL, stderr=stderr, pass_fds=files, preexec_fn=limit)
+    try:
+        until(lambda: is_listening(port))
+        yield server
+    finally:
+        server.kill()
+        server.wait()
+
+
+def told_in(said):
+    """How often a server has told that it has no file for a connection."""
+    with open(said, encoding="utf-8") as lines:
+        return lines.read().count("a connection can't be taken yet")
 
 
 def until(holds):

@@ -1,7 +1,7 @@
 // A look at the journal of a folder: its files are read alone, and the folder isn't locked.
 use crate::endings::say;
 use crate::outside::{Call, over_disks};
-use sb_outside::{NoDoor, NoLink, ReadOnly, made, read_disk};
+use sb_outside::{NoDoor, NoLink, PauseLobby, ReadOnly, made, read_disk};
 use std::io;
 use std::io::{Error, ErrorKind};
 use std::sync::Wait;
@@ -26,7 +26,15 @@ pub(crate) fn over_files<T: Threads + Wait + Sync>(call: &Call<T>, folder: &str)
         return NOT_MADE;
     };
     let mut doors: Vec<NoDoor> = Vec::new(rt.alloc());
-    let status = over_disks(call, disk_a, disk_b, &mut doors, &mut NoLink::new());
+    let status = over_disks(
+        call,
+        disk_a,
+        disk_b,
+        &mut doors,
+        &PauseLobby,
+        1,
+        &mut NoLink::new(),
+    );
     say(rt, status, folder)
 }
 

@@ -5,17 +5,17 @@ use crate::looking::over_files;
 use crate::watcher::Printing;
 use sb_app::top;
 use sb_model::Text;
+use sb_network::{files_allowed, open_halls, places_within};
 use sb_outside::{
-    Dialing, Disk, Door, Link, Listening, MemDisk, NoDoor, NoLink, PauseLobby, Reading, SystemClock,
+    Dialing, Disk, Door, Link, Lobby, MemDisk, NoDoor, NoLink, PauseLobby, Reading, SystemClock,
     Writing, disks_in, hold_streams, lock_folder, made,
 };
 use sb_rest::Access;
 use sb_words::{Command, Form, WordsFault, asked_text, fault_text, read_form};
-use std::net::{Ipv4Addr, OpenListener, TcpListener};
 use std::sync::Wait;
 use std::thread::Threads;
 use std::time::Duration;
-use std::{env, io};
+use std::{env, io, thread};
 
 // The status where something of the outside can't be had.
 const NOT_MADE: u8 = 11;
@@ -25,6 +25,9 @@ const OUTPUT_FAILED: u8 = 4;
 
 // The status for want of memory.
 const NO_MEMORY: u8 = 7;
+
+// How many threads serve where the words name no number and there are so many processors.
+const USUAL_THREADS: u16 = 4;
 
 const NANOS_A_SECOND: u64 = 1_000_000_000;
 
@@ -114,7 +117,7 @@ fn status_of<T: Threads + Wait + Sync>(call: &mut Call<T>, form: &Form) -> u8 {
         Command::Check if form.look => over_files(call, form.folder),
         Command::Run | Command::Check => {
             let mut doors: Vec<NoDoor> = Vec::new(call.rt.alloc());
-            over_folder(call, form.folder, &mut doors)
+            over_folder(call, form.folder, &mut doors, &PauseLobby, 1)
         }
         Command::Serve => {
             let Ok(access) = access_of(call.rt, form, &key) else {
@@ -142,37 +145,58 @@ fn access_of(rt: &HostRuntime, form: &Form, key: &[u8]) -> io::Result<Access> {
     Ok(access)
 }
 
-// A server over the files of a folder, with doors over a listener.
+// A server over the files of a folder, with a door for each worker over one listener.
 fn over_listener<T: Threads + Wait + Sync>(call: &Call<T>, form: &Form) -> u8 {
     let (rt, port) = (call.rt, form.port);
-    let bound = doors_at(rt, port, form.workers);
+    let threads = threads_for(call.threads, form);
+    let places = places_for(rt, form.workers, threads);
+    let (places, threads) = (usize::from(places), usize::from(threads));
+    let bound = open_halls(rt, rt.alloc(), port, places, threads);
     if let Err(error) = &bound {
         let _ = eprintln!(rt;
             "bus: 127.0.0.1:{port}: {error}; name another port, or end what has it"
         );
     }
-    let Ok(mut doors) = bound else {
+    let Ok((mut doors, halls)) = bound else {
         return NOT_MADE;
     };
     let _ = eprintln!(rt; "bus: listens on 127.0.0.1:{port}");
-    let status = over_folder(call, form.folder, &mut doors);
+    let status = over_folder(call, form.folder, &mut doors, &halls, threads);
     let _ = eprintln!(rt; "bus: the server ended with status {status}");
     status
 }
 
-// A door for each worker, all over one listener at this port.
-fn doors_at<'c>(
-    rt: &'c HostRuntime,
-    port: u16,
-    workers: u16,
-) -> io::Result<Vec<Listening<TcpListener, &'c HostRuntime>>> {
-    let listener = TcpListener::bind(rt, (Ipv4Addr::LOCALHOST, port))?;
-    let mut doors = Vec::new(rt.alloc());
-    for _ in 1..workers {
-        doors.push(Listening::new(listener.try_clone()?, rt))?;
+// How many threads serve by this form: as it names, or as there are processors, up to 4, and no more
+// than there are workers.
+fn threads_for<T: Threads>(threads: &T, form: &Form) -> u16 {
+    let wanted = match form.threads {
+        0 => processors(threads),
+        named => named,
+    };
+    wanted.min(form.workers).max(1)
+}
+
+// How many processors there are, up to 4; 4 where the system doesn't say it.
+fn processors<T: Threads>(threads: &T) -> u16 {
+    match thread::available_parallelism(threads) {
+        Ok(count) if count.get() < usize::from(USUAL_THREADS) => count.get() as u16,
+        _ => USUAL_THREADS,
     }
-    doors.push(Listening::new(listener, rt))?;
-    Ok(doors)
+}
+
+// How many of so many workers have files for their connections. Where these are fewer, a line on standard
+// error says so.
+fn places_for(rt: &HostRuntime, workers: u16, threads: u16) -> u16 {
+    let Some(files) = files_allowed(rt) else {
+        return workers;
+    };
+    let places = places_within(files, workers, threads);
+    if places < workers {
+        let _ = eprintln!(rt;
+            "bus: {workers} connections at once want more open files than the limit, {files}, allows; {places} are served at once"
+        );
+    }
+    places
 }
 
 // Calls the top over a link to the server at a port.
@@ -198,14 +222,16 @@ fn over_nothing<T: Threads + Wait + Sync, N: Link>(call: &Call<T>, link: &mut N)
         return NO_MEMORY;
     };
     let mut doors: Vec<NoDoor> = Vec::new(alloc);
-    over_disks(call, disk_a, disk_b, &mut doors, link)
+    over_disks(call, disk_a, disk_b, &mut doors, &PauseLobby, 1, link)
 }
 
 // Calls the top over the files of a folder, which is locked meanwhile, and these doors.
-fn over_folder<T: Threads + Wait + Sync, R: Door + Send>(
+fn over_folder<T: Threads + Wait + Sync, R: Door + Send, L: Lobby + Sync>(
     call: &Call<T>,
     folder: &str,
     doors: &mut Vec<R>,
+    lobby: &L,
+    threads: usize,
 ) -> u8
 where
     R::Conn: Send,
@@ -223,18 +249,34 @@ where
     let Some((disk_a, disk_b)) = disks_in(rt, rt.alloc(), folder, rt) else {
         return NOT_MADE;
     };
-    let status = over_disks(call, disk_a, disk_b, doors, &mut NoLink::new());
+    let status = over_disks(
+        call,
+        disk_a,
+        disk_b,
+        doors,
+        lobby,
+        threads,
+        &mut NoLink::new(),
+    );
     drop(lock);
     drop(streams);
     say(rt, status, folder)
 }
 
 /// Calls the top over these disks, doors and link, and the real clock and streams.
-pub(crate) fn over_disks<T: Threads + Wait + Sync, D: Disk + Send + Drop, R: Door + Send, N: Link>(
+pub(crate) fn over_disks<
+    T: Threads + Wait + Sync,
+    D: Disk + Send + Drop,
+    R: Door + Send,
+    L: Lobby + Sync,
+    N: Link,
+>(
     call: &Call<T>,
     disk_a: D,
     disk_b: D,
     doors: &mut Vec<R>,
+    lobby: &L,
+    threads: usize,
     link: &mut N,
 ) -> u8
 where
@@ -254,7 +296,7 @@ where
         &mut Reading::new(rt.stdin(), rt),
         &mut Writing::new(rt.stdout(), rt),
         doors,
-        &PauseLobby,
+        lobby,
         threads,
         &call.key,
         link,
