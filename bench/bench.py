@@ -1,31 +1,35 @@
 #!/usr/bin/env python3
 """Times the built program beside the disk that it writes to.
 
-usage: bench/bench.py [--program PROGRAM] [--calls N] [--repeat N] [--over OVER,..] [--json FILE]
-                      [--compare FILE] [SCENARIO..]
+usage: bench/bench.py [--program PROGRAM] [--calls N] [--repeat N] [--over OVER,..] [--idle N] [--waiting N]
+                      [--json FILE] [--compare FILE] [SCENARIO..]
 
 Each scenario (send, receive, lock-and-settle, batch, fan-out, session) is run over `run`, a line at a time
-through pipes, and over 1, 4 and 16 kept connections to a server, or as --over says (run,1,64). Of a row stand
-the calls a second, the median and the 99th of a hundred of their times in ms, and what each takes the server of
+through pipes, and over 1, 4 and 16 kept connections to a server, or as --over says (1,16,64,256,1000), beside
+--idle connections that say nothing and --waiting receives on another queue. The callers stand in 16 processes
+at most, and make one call each at least. Of a row stand the calls a second, the median and the 99th of a hundred of their times in ms, and what each takes the server of
 its own and in the kernel, in microseconds; of several repetitions the one of median rate. In the same run the
 disk is timed: records a second at one write and two syncs each, as the journal's, of the size of a message.
 --json keeps all in a file, and --compare says of each row how its rate stands to the disk beside that of such a
 file. It isn't part of the gate.
 """
 import argparse
+import contextlib
 import json
 import os
+import resource
 import statistics
 import subprocess
 import sys
 import tempfile
 import time
+from concurrent.futures import ThreadPoolExecutor
 
 sys.path.insert(0, os.path.join(os.path.dirname(os.path.realpath(__file__)), "..", "tools"))
 import lib
 
 BODY = "x" * 1024
-WORKERS = 16  # the most that a server has
+PROCESSES = 16  # that callers stand in at most
 QUEUE = [{"do": "create-queue", "name": "q"}]
 SESSIONS = [{"do": "create-queue", "name": "q", "requires_session": True}]
 SUBSCRIBED = [{"do": "create-topic", "name": "q"}]
@@ -110,8 +114,17 @@ def used(pid):
     return [int(it) / os.sysconf("SC_CLK_TCK") for it in fields[11:13]]
 
 
-def in_child(port, scenario, calls):
-    """A process that is one caller, and the pipe from which its times are read."""
+def by_callers(port, scenario, calls, many):
+    """The seconds of each of so many calls of each of so many callers at once."""
+    with contextlib.ExitStack() as stack:
+        callers = [stack.enter_context(lib.Caller(port)) for _ in range(many)]
+        with ThreadPoolExecutor(many) as pool:
+            took = pool.map(lambda caller: timed(caller, scenario, calls), callers)
+            return [seconds for some in took for seconds in some]
+
+
+def in_child(port, scenario, calls, many):
+    """A process that is so many callers, and the pipe from which their times are read."""
     reader, writer = os.pipe()
     child = os.fork()
     if child:
@@ -119,8 +132,8 @@ def in_child(port, scenario, calls):
         return child, reader
     status = 1
     try:
-        with lib.Caller(port) as caller, os.fdopen(writer, "w", encoding="ascii") as out:
-            json.dump(timed(caller, scenario, calls), out)
+        with os.fdopen(writer, "w", encoding="ascii") as out:
+            json.dump(by_callers(port, scenario, calls, many), out)
         status = 0
     except (OSError, lib.Failed) as fault:
         print(f"bench: {fault}", file=sys.stderr)
@@ -128,13 +141,28 @@ def in_child(port, scenario, calls):
         os._exit(status)
 
 
-def over_connections(program, folder, scenario, many, calls):
-    port = lib.free_port()
-    with lib.serving(program, folder, port, "--workers", str(WORKERS)) as server:
+@contextlib.contextmanager
+def beside(port, idle, waiting):
+    """So many connections that say nothing, and so many receives that wait on a queue of their own."""
+    with contextlib.ExitStack() as stack:
+        kept = [stack.enter_context(lib.Caller(port)) for _ in range(idle + waiting)]
+        if waiting:
+            with lib.Caller(port) as caller:
+                done(caller.line({"do": "create-queue", "name": "beside"}), "done")
+        for caller in kept[:waiting]:
+            head = b"DELETE /beside/messages/head?timeout=3600 HTTP/1.1\r\nHost: localhost\r\n\r\n"
+            caller.socket.sendall(head)
+        yield
+
+
+def over_connections(program, folder, scenario, many, calls, idle, waiting):
+    port, places = lib.free_port(), many + idle + waiting + 8
+    with lib.serving(program, folder, port, "--workers", str(places)) as server, beside(port, idle, waiting):
         with lib.Caller(port) as caller:
             prepare(caller, scenario, calls)
         before, begun = used(server.pid), time.monotonic()
-        callers = [in_child(port, scenario, calls // many) for _ in range(many)]
+        parts = [many // PROCESSES + (k < many % PROCESSES) for k in range(min(many, PROCESSES))]
+        callers = [in_child(port, scenario, max(1, calls // many), part) for part in parts]
         took = []
         for child, reader in callers:
             with os.fdopen(reader, encoding="ascii") as times:
@@ -154,13 +182,15 @@ def over_run(program, folder, scenario, calls):
     return took, seconds, before, after
 
 
-def measured(program, scenario, over, calls):
+def measured(program, scenario, over, calls, idle, waiting):
     """One repetition, as a row."""
     with tempfile.TemporaryDirectory(dir=os.environ.get("TMPDIR", "/var/tmp")) as folder:
         if over == "run":
             took, seconds, before, after = over_run(program, folder, scenario, calls)
         else:
-            took, seconds, before, after = over_connections(program, folder, scenario, int(over), calls)
+            took, seconds, before, after = over_connections(
+                program, folder, scenario, int(over), calls, idle, waiting
+            )
     own, kernel = ((now - then) / len(took) * 1e6 for now, then in zip(after, before))
     cuts = statistics.quantiles(took, n=100, method="inclusive")
     row = {"rate": len(took) / seconds, "median_ms": cuts[49] * 1000, "p99_ms": cuts[98] * 1000}
@@ -195,6 +225,8 @@ def words():
     given.add_argument("--calls", type=int, default=2000)
     given.add_argument("--repeat", type=int, default=3)
     given.add_argument("--over", default="run,1,4,16")
+    given.add_argument("--idle", type=int, default=0)
+    given.add_argument("--waiting", type=int, default=0)
     given.add_argument("--json")
     given.add_argument("--compare")
     return given.parse_args()
@@ -206,12 +238,16 @@ def main():
         with open(given.compare, encoding="utf-8") as file:
             kept = json.load(file)
     program = os.path.realpath(given.program)
+    hard = resource.getrlimit(resource.RLIMIT_NOFILE)[1]
+    resource.setrlimit(resource.RLIMIT_NOFILE, (hard, hard))
     subprocess.run([program, "--version"], stdout=subprocess.DEVNULL, check=True)  # so that it is built
     disk, rows = disk_rate(), {}
     print(f"disk: {disk:.0f} records a second at two syncs each", flush=True)
     for scenario in given.scenarios or SCENARIOS:
         for over in given.over.split(","):
-            some = [measured(program, scenario, over, given.calls) for _ in range(given.repeat)]
+            some = [
+                measured(program, scenario, over, given.calls, given.idle, given.waiting) for _ in range(given.repeat)
+            ]
             key = f"{scenario} over {over}"
             rows[key] = sorted(some, key=lambda row: row["rate"])[len(some) // 2]
             tell(key, rows[key], disk, kept)

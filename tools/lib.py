@@ -97,6 +97,10 @@ class Caller:
         """The status of the response to a request, its head and its body."""
         lines = [f"{method} {path} HTTP/1.1", "Host: localhost", f"Content-Length: {len(body)}", *headers]
         self.socket.sendall("\r\n".join([*lines, "", ""]).encode() + body)
+        return self.answer()
+
+    def answer(self):
+        """The status of the next response, its head and its body."""
         while b"\r\n\r\n" not in self.came:
             self.more()
         head, _, self.came = self.came.partition(b"\r\n\r\n")
