@@ -46,10 +46,10 @@ def is_listening(port):
         return f"0100007F:{port:04X} 00000000:0000 0A" in sockets.read()
 
 
-def start(program, folder, port, *words):
-    """A server once it listens; its standard output is a pipe."""
+def start(program, folder, port, *words, stderr=None):
+    """A server once it listens; its standard output is a pipe, its standard error goes to a file, where one is given."""
     call = [program, "serve", "--data", folder, "--port", str(port), *words]
-    server = subprocess.Popen(call, stdout=subprocess.PIPE, text=True)
+    server = subprocess.Popen(call, stdout=subprocess.PIPE, stderr=stderr, text=True)
     for _ in range(600):
         if is_listening(port):
             return server

@@ -7,7 +7,7 @@ PROGRAM is the built program (crates/sb_bus/out/sb_bus). A server is started on 
 received as docs/REST.md has it, settled by its Location, and the same two requests are sent whole, pipelined and cut
 after each byte. A thousand sends in one piece have the numbers 1 to 1,000. The largest message comes back byte for
 byte. A moment lies between two readings of the clock here. Two connections are open at once where a receive waits for
-a send, also in one thread. A server that has no file left for a connection says so once, and takes it as soon as there
+a send, also in one thread. What a server tells on standard error, with a log of its calls, is read. A server that has no file left for a connection says so once, and takes it as soon as there
 is one. The one worker of a server is free again once its caller has said nothing for 60 seconds, or has taken nothing
 of its response for some minutes; --short leaves these two out. The exit status is 1 where something is answered
 otherwise.
@@ -183,6 +183,7 @@ def all_rows(program, is_short):
         port_in_use(program, port)
     two_workers_end(program)
     two_in_one_thread(program)
+    lines_told(program)
     out_of_files(program)
     if not is_short:
         each_at_once(lambda: silent_caller(program), lambda: caller_who_takes_nothing(program))
@@ -318,6 +319,28 @@ def two_workers_end(program):
         told == '{"changing":1,"entries":2,"ok":"report","refused":1}\n' and server.returncode == 0,
         f"status {server.returncode}, {told!r}",
     )
+
+
+def lines_told(program):
+    """What a server says of itself on standard error, and with --log one line of each call."""
+    port = free_port()
+    with tempfile.TemporaryDirectory() as folder, tempfile.TemporaryFile("w+") as said:
+        server = start(program, folder, port, "--workers", "1", "--connections", "1", "--log", stderr=said)
+        with Caller(port) as caller:
+            caller.line({"do": "create-queue", "name": "q"})
+            caller.ask("POST", "/q/messages", b"hi")
+            caller.ask("DELETE", "/nobody's?a=b")
+        server.communicate(timeout=20)
+        said.seek(0)
+        lines = said.read().splitlines()
+    begin = r"\d{4}-\d\d-\d\dT\d\d:\d\d:\d\d\.\d{3}Z "
+    wanted = [
+        r"bus: opened 0 records in \d+\.\d{3} s", rf"bus: listens on 127\.0\.0\.1:{port}",
+        begin + r"POST /\$script 200 \d+ \d+", begin + rf"POST /q/messages 201 {len(SENT)} \d+",
+        begin + r"DELETE /nobody's\?a=b 404 \d+ \d+", "bus: the server ended with status 0",
+    ]
+    fits = len(lines) == len(wanted) and all(re.fullmatch(one, line) for one, line in zip(wanted, lines))
+    wants(fits, f"on standard error stands {lines}")
 
 
 def main():

@@ -39,7 +39,7 @@ pub fn hold_line<C: Clock>(clock: &C, days: u32, line: &ScriptLine) -> Result<()
 
 /// Holds a server back where the clock is more than so many days ahead of the moment of its namespace,
 /// with what it read; by 0 days it never is, and a moment up to 2020-01-01 is a script's. The watcher
-/// is told of the opening, and where the namespace's moment is ahead.
+/// is told of the opening, where the namespace's moment is ahead, and that the server isn't held back.
 pub fn hold_server<C: Clock, W: Watcher>(
     clock: &C,
     days: u32,
@@ -55,6 +55,7 @@ pub fn hold_server<C: Clock, W: Watcher>(
     if jumps(days, moment, reading) {
         return Err(Jump { moment, reading });
     }
+    watcher.tell(Notice::Serves);
     Ok(())
 }
 

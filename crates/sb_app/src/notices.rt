@@ -8,6 +8,8 @@ pub enum Notice {
     /// Behind the opening the clock read less than the moment up to which the namespace's time has
     /// come, both in ms since 1970: until the clock has caught up, time stands there.
     Ahead { moment_ms: u64, reading_ms: u64 },
+    /// It isn't held back: from here on its doors are used.
+    Serves,
     /// It ends with this status.
     Ended { status: u8 },
 }

@@ -61,6 +61,7 @@ const SENT: &[u8] = b"HTTP/1.1 201 Created\r\nContent-Length: 0\r\n\r\n";
 struct Heard {
     records: AtomicU64,
     ahead_ms: AtomicU64,
+    serves: AtomicU64,
     status: AtomicU64,
 }
 
@@ -69,8 +70,14 @@ impl Heard {
         Heard {
             records: AtomicU64::new(u64::MAX),
             ahead_ms: AtomicU64::new(0),
+            serves: AtomicU64::new(0),
             status: AtomicU64::new(u64::MAX),
         }
+    }
+
+    // How often it was told that a server serves.
+    fn served(&self) -> u64 {
+        self.serves.load(Ordering::SeqCst)
     }
 
     fn told(&self) -> (u64, u64, u64) {
@@ -92,6 +99,9 @@ impl Watcher for Heard {
             } => self
                 .ahead_ms
                 .store(moment_ms.saturating_sub(reading_ms), Ordering::SeqCst),
+            Notice::Serves => {
+                self.serves.fetch_add(1, Ordering::SeqCst);
+            }
             Notice::Ended { status } => self.status.store(u64::from(status), Ordering::SeqCst),
         }
     }
@@ -220,12 +230,14 @@ fn a_clock_two_years_on(rt: HostRuntime) -> Result<(), Fail> {
         let left = leaves(&rt, &rt, held, &heard)?;
         assert_eq!(rt; left.as_slice(), made.as_slice());
         assert_eq!(rt; heard.told(), (1, 0, 14));
+        assert_eq!(rt; heard.served(), 0);
     }
     for words in &[SERVE_EVER, SERVE_YEARS] {
         leaves(&rt, &rt, serves(*words, &made, THIRD), &heard)?;
     }
     leaves(&rt, &rt, serves(SERVE, &early, THIRD), &heard)?;
     assert_eq!(rt; heard.told(), (1, 0, 0));
+    assert_eq!(rt; heard.served(), 3);
     Ok(())
 }
 

@@ -7,8 +7,8 @@ use sb_app::top;
 use sb_model::Text;
 use sb_network::{files_allowed, open_halls, places_within};
 use sb_outside::{
-    Dialing, Disk, Door, Link, Lobby, MemDisk, NoDoor, NoLink, PauseLobby, Reading, SystemClock,
-    Writing, disks_in, hold_streams, lock_folder, made,
+    Dialing, Disk, Door, Link, Lobby, Logging, MemDisk, NoDoor, NoLink, PauseLobby, Reading,
+    SystemClock, Writing, disks_in, hold_streams, lock_folder, made,
 };
 use sb_rest::Access;
 use sb_words::{Command, Form, WordsFault, asked_text, fault_text, read_form};
@@ -42,6 +42,8 @@ pub(crate) struct Call<'c, T> {
     access: Access,
     // what a client shows
     key: Vec<u8>,
+    // at which port a server listens; 0 where there is none
+    port: u16,
 }
 
 /// The status that the program ends with. Words that ask for help or for the version are answered here,
@@ -92,6 +94,7 @@ fn status_by<T: Threads + Wait + Sync>(rt: &HostRuntime, threads: &T, words: &[&
         clock,
         access: Access::unlocked(rt.alloc()),
         key: Vec::new(rt.alloc()),
+        port: 0,
     };
     match read_form(rt.alloc(), words) {
         Ok(form) => status_of(&mut call, &form),
@@ -124,6 +127,7 @@ fn status_of<T: Threads + Wait + Sync>(call: &mut Call<T>, form: &Form) -> u8 {
                 return say(call.rt, NO_MEMORY, "");
             };
             call.access = access;
+            call.port = form.port;
             over_listener(call, form)
         }
         Command::Client => {
@@ -157,10 +161,12 @@ fn over_listener<T: Threads + Wait + Sync>(call: &Call<T>, form: &Form) -> u8 {
             "bus: 127.0.0.1:{port}: {error}; name another port, or end what has it"
         );
     }
-    let Ok((mut doors, halls)) = bound else {
+    let Ok((doors, halls)) = bound else {
         return NOT_MADE;
     };
-    let _ = eprintln!(rt; "bus: listens on 127.0.0.1:{port}");
+    let Ok(mut doors) = logging(rt, doors, form.log) else {
+        return say(rt, NO_MEMORY, "");
+    };
     let status = over_folder(call, form.folder, &mut doors, &halls, threads);
     let _ = eprintln!(rt; "bus: the server ended with status {status}");
     status
@@ -197,6 +203,22 @@ fn places_for(rt: &HostRuntime, workers: u16, threads: u16) -> u16 {
         );
     }
     places
+}
+
+// These doors, whose connections tell their calls in a log, where that is on.
+fn logging<'c, D: Door + Drop>(
+    rt: &'c HostRuntime,
+    doors: Vec<D>,
+    is_on: bool,
+) -> io::Result<Vec<Logging<D, &'c HostRuntime>>>
+where
+    D::Conn: Drop,
+{
+    let mut logging = Vec::with_capacity(rt.alloc(), doors.len())?;
+    for door in doors {
+        logging.push(Logging::new(door, rt.alloc(), rt, is_on))?;
+    }
+    Ok(logging)
 }
 
 // Calls the top over a link to the server at a port.
@@ -300,7 +322,7 @@ where
         threads,
         &call.key,
         link,
-        &Printing::new(rt),
+        &Printing::new(rt, &call.clock, call.port),
     );
     drop(disks);
     status

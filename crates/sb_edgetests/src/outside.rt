@@ -59,7 +59,7 @@ fn memory_and_a_file_agree(rt: HostRuntime) -> Result<(), Fail> {
 fn makes_each_object(rt: HostRuntime) -> Result<(), Fail> {
     let failing = vec![in rt.alloc(); 1]?;
     let mut disk = MemDisk::new(rt.alloc(), Vec::new(rt.alloc()), failing)?;
-    assert!(rt; disk.length() == Ok(Some(0)));
+    assert!(rt; disk.length() == Ok(0));
     assert!(rt; disk.length() == Err(DiskFault));
     let text = Bytes::of(rt.alloc(), b"line")?;
     let mut sink = MemSink::new(rt.alloc(), 4, Vec::new(rt.alloc()))?;
@@ -69,9 +69,9 @@ fn makes_each_object(rt: HostRuntime) -> Result<(), Fail> {
     let mut piece = [0u8; 8];
     assert!(rt; source.read(&mut piece) == Ok(3));
     assert!(rt; source.read(&mut piece) == Ok(1));
-    assert!(rt; source.read(&mut piece) == Ok(Some(0)));
-    assert!(rt; Reading::new(rt.stdin(), rt).read(&mut []) == Ok(Some(0)));
-    assert!(rt; Writing::new(rt.stdout(), rt).write(&[]) == Ok(Some(0)));
+    assert!(rt; source.read(&mut piece) == Ok(0));
+    assert!(rt; Reading::new(rt.stdin(), rt).read(&mut []) == Ok(0));
+    assert!(rt; Writing::new(rt.stdout(), rt).write(&[]) == Ok(0));
     assert_eq!(rt; reads(&StepClock::new(5, 2)), 7);
     let year_2020_ms = 1_577_836_800_000;
     let clock = SystemClock::new(rt)?;

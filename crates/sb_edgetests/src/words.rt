@@ -62,6 +62,7 @@ fn helps_with_each_command(rt: HostRuntime) -> Result<(), Fail> {
         ("help client", "1 to 7200 [default: 120]"),
         ("run -h", "Example: bus run"),
         ("help check", "--look"),
+        ("help serve", "--log"),
         ("--version", "bus 0.1.0"),
     ];
     for (line, wanted) in rows {

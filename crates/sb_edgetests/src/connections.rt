@@ -1,0 +1,232 @@
+// What no contract says of connections over streams: which answers of a stream are a fault, what a real socket
+// does whose other side ends, falls silent or is gone, and what a log tells of a call.
+use sb_outside::{
+    Conn, Connected, Door, Given, Listening, Logging, MemConn, MemDoor, MemSink, MemSource,
+    asked_words, call_line,
+};
+use std::io;
+use std::io::{ErrorKind, Read, Write};
+use std::net::{Ipv4Addr, OpenStream, TcpListener, TcpStream};
+use std::test::Fail;
+use std::time::Duration;
+
+// The first of the ports that are tried.
+const PORT: u16 = 43_300;
+
+// What a stream answers to one call.
+#[derive(Clone, Copy)]
+enum Step {
+    Moves(usize),
+    Fails(ErrorKind),
+}
+
+// A stream that answers its calls so, one after the other, and ends.
+#[derive(Drop)]
+struct Scripted<'s> {
+    steps: &'s [Step],
+    call: usize,
+}
+
+impl Scripted<'_> {
+    fn step(&mut self, most: usize) -> io::Result<usize> {
+        let call = self.call;
+        self.call = call.saturating_add(1);
+        match self.steps.get(call) {
+            Some(Step::Moves(count)) => Ok((*count).min(most)),
+            Some(Step::Fails(kind)) => Err(io::Error::from(*kind)),
+            None => Ok(0),
+        }
+    }
+}
+
+impl Read for Scripted<'_> {
+    fn read(&mut self, into: &mut [u8]) -> io::Result<usize> {
+        self.step(into.len())
+    }
+}
+
+impl Write for Scripted<'_> {
+    fn write(&mut self, bytes: &[u8]) -> io::Result<usize> {
+        self.step(bytes.len())
+    }
+
+    fn flush(&mut self) -> io::Result<()> {
+        Ok(())
+    }
+}
+
+// Each row: what the stream answers, and what comes of two reads of up to four bytes, and of two writes of
+// four; no number is a fault. A silent caller's time is over with `WouldBlock`.
+#[test]
+fn a_stream_fails(rt: HostRuntime) -> Result<(), Fail> {
+    let rows: [(&[Step], [Option<usize>; 2], [Option<usize>; 2]); 6] = [
+        (&[Step::Moves(3)], [Some(3), Some(0)], [Some(3), None]),
+        (
+            &[Step::Moves(9), Step::Moves(1)],
+            [Some(4), Some(1)],
+            [Some(4), Some(1)],
+        ),
+        (
+            &[Step::Fails(ErrorKind::Interrupted), Step::Moves(2)],
+            [Some(2), Some(0)],
+            [Some(2), None],
+        ),
+        (
+            &[Step::Fails(ErrorKind::ConnectionReset), Step::Moves(2)],
+            [None, Some(2)],
+            [None, Some(2)],
+        ),
+        (
+            &[Step::Moves(1), Step::Fails(ErrorKind::WouldBlock)],
+            [Some(1), None],
+            [Some(1), None],
+        ),
+        (
+            &[Step::Moves(1), Step::Fails(ErrorKind::TimedOut)],
+            [Some(1), None],
+            [Some(1), None],
+        ),
+    ];
+    for (steps, reads, writes) in rows {
+        let mut conn = Connected::new(Scripted { steps, call: 0 });
+        let mut piece = [0u8; 4];
+        for wanted in reads {
+            assert!(rt; conn.read(&mut piece).unwrap_or(None) == wanted);
+        }
+        let mut conn = Connected::new(Scripted { steps, call: 0 });
+        for wanted in writes {
+            assert!(rt; conn.write(&piece).unwrap_or(None) == wanted);
+        }
+    }
+    Ok(())
+}
+
+// A listener at some port.
+fn bound(rt: &HostRuntime) -> io::Result<(TcpListener, u16)> {
+    for port in PORT..PORT + 100 {
+        if let Ok(listener) = TcpListener::bind(rt, (Ipv4Addr::LOCALHOST, port)) {
+            return Ok((listener, port));
+        }
+    }
+    Err(io::Error::from(ErrorKind::AddrInUse))
+}
+
+// The next connection of a door.
+fn next<D: Door>(door: &mut D) -> Result<D::Conn, Fail>
+where
+    D::Conn: Drop,
+{
+    match door.accept() {
+        Ok(Given::One(conn)) => Ok(conn),
+        _ => Err(Fail::from("no connection")),
+    }
+}
+
+#[test]
+fn a_caller_ends_in_the_midst(rt: HostRuntime) -> Result<(), Fail> {
+    let (listener, port) = bound(&rt)?;
+    let mut door = Listening::new(listener, &rt);
+    let mut other = TcpStream::connect(&rt, (Ipv4Addr::LOCALHOST, port))?;
+    let mut conn = next(&mut door)?;
+    let mut piece = [0u8; 8];
+    other.write_all(b"GET")?;
+    assert!(rt; conn.read(&mut piece) == Ok(Some(3)));
+    assert!(rt; conn.write(b"bye") == Ok(Some(3)));
+    assert_eq!(rt; other.read(&mut piece)?, 3);
+    drop(other);
+    assert!(rt; conn.read(&mut piece) == Ok(Some(0)));
+    door.done(conn);
+    Ok(())
+}
+
+// What it was given and never read makes its end a reset.
+#[test]
+fn a_caller_is_gone(rt: HostRuntime) -> Result<(), Fail> {
+    let (listener, port) = bound(&rt)?;
+    let mut door = Listening::new(listener, &rt);
+    let other = TcpStream::connect(&rt, (Ipv4Addr::LOCALHOST, port))?;
+    let mut conn = next(&mut door)?;
+    assert!(rt; conn.write(b"unread") == Ok(Some(6)));
+    drop(other);
+    assert!(rt; conn.read(&mut [0u8; 8]).is_err());
+    let _ = conn.write(b"more");
+    assert!(rt; conn.write(b"more").is_err());
+    door.done(conn);
+    Ok(())
+}
+
+#[test]
+fn a_caller_is_silent(rt: HostRuntime) -> Result<(), Fail> {
+    let (listener, port) = bound(&rt)?;
+    let other = TcpStream::connect(&rt, (Ipv4Addr::LOCALHOST, port))?;
+    other.set_read_timeout(Some(Duration::from_millis(20)))?;
+    let mut conn = Connected::new(other);
+    assert!(rt; conn.read(&mut [0u8; 8]).is_err());
+    assert!(rt; conn.write(b"still here") == Ok(Some(10)));
+    drop(listener);
+    Ok(())
+}
+
+#[test]
+fn a_log_has_a_line(rt: HostRuntime) -> Result<(), Fail> {
+    let rows: [(u64, &[u8], &[u8], &[u8], &str); 4] = [
+        (
+            0,
+            b"GET",
+            b"/",
+            b"HTTP/1.1 404 Not Found\r\n\r\n",
+            "1970-01-01T00:00:00.000Z GET / 404 26 1500",
+        ),
+        (
+            1_795_852_800_123,
+            b"POST",
+            b"/orders/messages/head?timeout=5",
+            b"HTTP/1.1 201 Created\r\n\r\n",
+            "2026-11-28T08:00:00.123Z POST /orders/messages/head?timeout=5 201 24 1500",
+        ),
+        (
+            951_782_399_999,
+            b"PUT",
+            b"/a\nb\x7f\xc3\xa9~",
+            b"HTTP",
+            "2000-02-28T23:59:59.999Z PUT /a%0Ab%7F%C3%A9~ - 4 1500",
+        ),
+        (
+            253_402_300_800_000,
+            b"GET",
+            b"/%0A",
+            b"HTTP/1.1 200 OK\r\n\r\n",
+            "- GET /%0A 200 19 1500",
+        ),
+    ];
+    for (at_ms, method, path, response, wanted) in rows {
+        let words = asked_words(rt.alloc(), method, path)?;
+        let at = Duration::from_millis(at_ms);
+        let passed = Duration::from_micros(1500);
+        let line = call_line(rt.alloc(), at, words.as_str(), response, passed)?;
+        assert_eq!(rt; line.as_str(), wanted);
+    }
+    Ok(())
+}
+
+#[test]
+fn a_log_changes_nothing(rt: HostRuntime) -> Result<(), Fail> {
+    for is_on in [false, true] {
+        let source = MemSource::new(b"hi".to_vec(rt.alloc())?, 8, Vec::new(rt.alloc()));
+        let sink = MemSink::new(rt.alloc(), 8, Vec::new(rt.alloc()))?;
+        let mut given = Vec::new(rt.alloc());
+        given.push(MemConn::new(source, sink))?;
+        let door = MemDoor::new(rt.alloc(), given, Vec::new(rt.alloc()))?;
+        let mut door = Logging::new(door, rt.alloc(), &rt, is_on);
+        let mut conn = next(&mut door)?;
+        let mut piece = [0u8; 8];
+        assert!(rt; conn.read(&mut piece) == Ok(Some(2)));
+        conn.asked(b"GET", b"/");
+        conn.answered(b"HTTP/1.1 200 OK\r\n\r\n");
+        conn.answered(b"HTTP/1.1 400 Bad Request\r\n\r\n");
+        assert!(rt; conn.write(b"reply") == Ok(Some(5)));
+        door.done(conn);
+        assert!(rt; matches!(door.accept(), Ok(Given::End)));
+    }
+    Ok(())
+}
