@@ -1,29 +1,26 @@
 -- A worker goes on.
-use Rattle.std.proofs.Common.{◌≡◌, ℕ, zero, suc, ◌+◌, ◌-◌, ◌≤◌, ◌<◌, List, [], ◌∷◌, ◌++◌, length, length-append, sym, refl, ap, ◌∙◌, subst, arith, append-nil, Bool, true, Option, Some, None}
+use Rattle.std.proofs.Common.{◌≡◌, ℕ, ◌+◌, ◌-◌, ◌≤◌, List, [], ◌∷◌, ◌++◌, length, length-append, sym, refl, ◌∙◌, subst, arith, Bool, true, Option, Some, None}
 use Rattle.sb_desk.specs.Desks.{Sitting}
 use Rattle.sb_desk.specs.Lists.{Each}
-use Rattle.sb_outside.specs.Causes.{Rose, RoseByOne}
-use Rattle.sb_outside.specs.Doors.{GivesInOrder, EndsAtEnd, CountsOut}
+use Rattle.sb_outside.specs.Causes.{RoseByOne}
+use Rattle.sb_outside.specs.Doors.{GivesInOrder}
 use Rattle.sb_outside.specs.Streams.{Gains, Stays}
-use Rattle.sb_outside.specs.declared.door.Given.{Given}
 use Rattle.sb_outside.specs.declared.door.Given.TheVariants.{One, NoneYet, End}
 use Rattle.sb_http.specs.Streams.{Requests}
 use Rattle.sb_rest.specs.declared.access.Access.{Access}
-use Rattle.sb_server.specs.declared.telling.Turn.TheVariants.{Goes}
 use Rattle.sb_server.specs.declared.doing.Doing.TheVariants.{Reads}
 use Rattle.sb_server.specs.declared.ending.Ending.{Ending}
 use Rattle.sb_server.specs.declared.ending.Ending.TheVariants.{OutOfMemory as NoMemory}
-use Rattle.sb_server.specs.declared.inbox.Inbox.{Inbox}
 use Rattle.sb_server.specs.declared.stage.Guest.{Guest}
 use Rattle.sb_server.specs.declared.stage.Stage.{Stage}
 use Rattle.sb_server.specs.declared.stage.Stage.TheVariants.{Wants, Serves, Over}
 use Rattle.sb_server.specs.declared.work.Stop.{Stop}
-use Rattle.sb_server.specs.declared.work.Stop.TheVariants.{Enough, Ended, Fault, Stopped, OutOfMemory}
+use Rattle.sb_server.specs.declared.work.Stop.TheVariants.{Enough, Ended, Fault, OutOfMemory}
 use Rattle.sb_server.specs.Doings.{IsDoing}
 use Rattle.sb_server.specs.Reads.{Stand, stand_of}
-use Rattle.sb_server.specs.Stages.{start_of, here_of, IsWanting, IsServing, IsOver, IsAt, stage_behind}
-use Rattle.sb_server.specs.Talks.{Start, Here, Ends}
-use Rattle.sb_server.specs.Works.{Visit, Works, ServesBy, GoesOn, MayStopBy, StopsBy, stop_of}
+use Rattle.sb_server.specs.Stages.{start_of, here_of, IsWanting, IsServing, IsAt, stage_behind}
+use Rattle.sb_server.specs.Talks.{Start, Ends}
+use Rattle.sb_server.specs.Works.{Visit, Works, ServesBy, GoesOn, MayStopBy, stop_of}
 use Rattle.sb_server.proofs.Turning.{talks_from, no_inbox}
 use Rattle.sb_server.proofs.Working.{works_none, works_on, works_one, works_failed, works_ended, each_both, may_end, may_fail, may_stop, stops_after, gone_more, gone_enough, GoneOn}
 

@@ -8,7 +8,6 @@ use Rattle.sb_machine.specs.declared.reply.Refusal.{Refusal}
 use Rattle.sb_machine.specs.declared.reply.Reply.TheVariants.{Empty}
 use Rattle.sb_desk.specs.Desks.{Sitting}
 use Rattle.sb_desk.specs.Entries.{made_by, entries_by}
-use Rattle.sb_desk.specs.Lists.{Each}
 use Rattle.sb_desk.proofs.Logs.{by_append}
 use Rattle.sb_server.specs.Waiting.{GoesBy, GoesByCall, is_empty, Round, round_made, rounds_made, AreEmpty, first_reading, AreRead, Waits, FoundNothing, Waiting}
 

@@ -1,5 +1,5 @@
 -- One step of a connection: what it does next.
-use Rattle.std.proofs.Common.{◌≡◌, ◌⊎◌, ℕ, ◌+◌, ◌-◌, ◌≤◌, ◌<◌, List, [], ◌∷◌, ◌++◌, length, take, drop, take_all, sym, refl, ap, ◌∙◌, subst, inl, inr, arith, Bool, true, Option, Some, None, Result, Ok, Err}
+use Rattle.std.proofs.Common.{◌≡◌, ◌⊎◌, ℕ, ◌+◌, ◌-◌, ◌≤◌, List, [], ◌∷◌, ◌++◌, length, take, drop, take_all, sym, refl, ◌∙◌, subst, inl, inr, arith, Bool, true, Option, Some, None, Result, Ok, Err}
 use Rattle.std.specs.Prelude.{IfOk, Vec}
 use Rattle.std.specs.Global.{Global}
 use Rattle.std.specs.declared.alloc.AllocError.{AllocError}
@@ -25,13 +25,13 @@ use Rattle.sb_server.specs.declared.ending.Ending.{Ending}
 use Rattle.sb_server.specs.declared.ending.Ending.TheVariants.{WriteFault}
 use Rattle.sb_server.specs.Asks.{AsksFor, asks_close}
 use Rattle.sb_server.specs.Doings.{Says, Answers, IsPatient, Begins, IsAsking, IsDue, Owes, IsNext, IsNextInOrder, IsBegunInOrder, refusing, behind, next_of, farewell}
-use Rattle.sb_server.specs.Reads.{Stand, Takes, IsDone, IsGone}
+use Rattle.sb_server.specs.Reads.{Takes, IsDone, IsGone}
 use Rattle.sb_server.specs.Responds.{AnswersCall, GivenUp}
 use Rattle.sb_server.specs.Talks.{Start, Here, Talks, Ends, TurnsTo, refusal_bytes, refusal_ending}
 use Rattle.sb_server.specs.Waiting.{GoesBy, FoundNothing}
 use Rattle.sb_server.proofs.Going.{found_nothing, nothing_is}
 use Rattle.sb_server.proofs.Reading.{read_on, takes_on, done_before}
-use Rattle.sb_server.proofs.Turning.{Reaches, Asked, asked, asked_part, refused_as, refused_part, refused_lost, gone, gone_part, rose_later}
+use Rattle.sb_server.proofs.Turning.{Reaches, asked, asked_part, refused_as, refused_part, refused_lost, gone, gone_part, rose_later}
 use Rattle.sb_server.specs.declared.telling.Turn.TheVariants.{Goes}
 
 -- ---- a response is due

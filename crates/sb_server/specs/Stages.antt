@@ -1,12 +1,11 @@
 -- A worker as far as it has come.
-use Rattle.std.specs.Prelude.{◌≡◌, ℕ, ◌+◌, ◌≤◌, List, [], ◌∷◌, length, Bool, true, false, Option, Some, None}
-use Rattle.sb_desk.specs.Desks.{Open, Sitting, IsOf}
+use Rattle.std.specs.Prelude.{◌≡◌, ℕ, ◌+◌, ◌≤◌, List, length, Bool, true, false, Option, Some, None}
+use Rattle.sb_desk.specs.Desks.{Sitting}
 use Rattle.sb_desk.specs.Lists.{Each}
 use Rattle.sb_outside.specs.Doors.{GivesInOrder}
 use Rattle.sb_outside.specs.Streams.{Stays}
 use Rattle.sb_outside.specs.declared.door.Given.TheVariants.{One}
 use Rattle.sb_rest.specs.declared.access.Access.{Access}
-use Rattle.sb_server.specs.declared.ending.Ending.{Ending}
 use Rattle.sb_server.specs.declared.stage.Guest.{Guest}
 use Rattle.sb_server.specs.declared.stage.Stage.{Stage}
 use Rattle.sb_server.specs.declared.stage.Stage.TheVariants.{Wants, Serves, Over}
@@ -14,7 +13,7 @@ use Rattle.sb_server.specs.declared.work.Stop.{Stop}
 use Rattle.sb_server.specs.Doings.{IsDoing, IsDoingInOrder}
 use Rattle.sb_server.specs.Reads.{stand_of}
 use Rattle.sb_server.specs.Talks.{Start, Here}
-use Rattle.sb_server.specs.Works.{Visit, Works, ServesBy, GoesOn, StopsBy, stop_of}
+use Rattle.sb_server.specs.Works.{Visit, Works, ServesBy, GoesOn, StopsBy}
 
 -- a worker that has a connection has it of its door, and the call of a receive that waits is in order
 abbrev pub IsSound : {X : Type 0} → Stage X → ℕ → Type 0

@@ -1,4 +1,3 @@
-use Rattle.std.proofs.Common.{◌<◌}
 use Rattle.sb_server.proofs.Going.{waiting_next}
 use Rattle.sb_server.proofs.Responding.{settled_begins}
 use Rattle.sb_server.proofs.answer.ask_again.Goals as goal

@@ -1,4 +1,4 @@
-use Rattle.std.proofs.Common.{◌∙◌, sym, subst, refl, [], ◌∷◌, List, ℕ, Some, arith}
+use Rattle.std.proofs.Common.{sym, subst, refl, [], ◌∷◌, arith}
 use Rattle.sb_rest.specs.declared.access.Access.{Access}
 use Rattle.sb_server.specs.declared.doing.Next.{Next}
 use Rattle.sb_server.specs.declared.ending.Ending.{Ending}

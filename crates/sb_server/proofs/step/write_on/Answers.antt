@@ -1,6 +1,6 @@
-use Rattle.std.proofs.Common.{sym, subst, refl, rules}
+use Rattle.std.proofs.Common.{sym, subst, rules}
 use Rattle.sb_server.specs.declared.doing.Next.{Next}
-use Rattle.sb_server.specs.Doings.{IsNext, IsNextInOrder}
+use Rattle.sb_server.specs.Doings.{IsNext}
 use Rattle.sb_server.specs.Talks.{Here}
 use Rattle.sb_server.proofs.Stepping.{wrote_all, wrote_none, wrote_some, wrote_part, got_some, got_none}
 use Rattle.sb_server.proofs.step.write_on.Goals as goal
