@@ -237,7 +237,7 @@ fn access_of(rt: &HostRuntime, case: Case<'_>) -> Result<Access, Fail> {
 }
 
 // Serves over a disk with these bytes that fails at these calls, and gives the status.
-fn served<T: Threads + Wait + Sync>(
+pub(crate) fn served<T: Threads + Wait + Sync>(
     rt: &HostRuntime,
     threads: &T,
     words: &[&str],

@@ -1,9 +1,11 @@
 pub mod Going
 pub mod Texts
+pub mod Bodies
 pub mod Responding
 pub mod Reading
 pub mod Turning
 pub mod Stepping
+pub mod Calling
 pub mod Working
 pub mod Attending
 pub mod Words

@@ -1,7 +1,7 @@
 -- What serving tells of the entries of passes and of the faults of doors.
-use Rattle.std.proofs.Common.{◌≡◌, ℕ, ◌==◌, List, [], ◌∷◌, ◌++◌, map, filter, sym, refl, ap, ◌∙◌, subst, inl, inr, arith, Bool, true, false, ◌||◌, Option, Some, None, Result, Ok, Err}
+use Rattle.std.proofs.Common.{◌≡◌, ℕ, ◌==◌, List, [], ◌∷◌, ◌++◌, map, filter, sym, refl, ap, ◌∙◌, subst, inl, inr, arith, append-nil, Bool, true, false, ◌||◌, Option, Some, None, Result, Ok, Err}
 use Rattle.std.specs.Prelude.{if◌then◌else◌}
-use Rattle.std.specs.List.{list_any}
+use Rattle.std.specs.List.{flat_map, list_any}
 use Rattle.std.proofs.lemmas.Grind.{common_steps}
 use Rattle.std.proofs.lemmas.List.Folds.{list_any-append}
 use Rattle.sb_machine.specs.History.{stops}
@@ -15,20 +15,24 @@ use Rattle.sb_desk.specs.Desks.{Open, Sitting}
 use Rattle.sb_desk.specs.Entries.{made_by, entries_by, seat_of}
 use Rattle.sb_desk.specs.Lists.{Each}
 use Rattle.sb_outside.specs.Causes.{Rose}
+use Rattle.sb_input.specs.Lines.{lines_of}
 use Rattle.sb_http.specs.Messages.{RequestMessage}
 use Rattle.sb_rest.specs.declared.access.Access.{Access}
 use Rattle.sb_server.specs.declared.telling.Turn.{Turn}
 use Rattle.sb_server.specs.declared.telling.Turn.TheVariants.{Stops}
 use Rattle.sb_server.specs.declared.ask.Ask.{Ask}
-use Rattle.sb_server.specs.declared.ask.Ask.TheVariants.{Once, Patient, Line, BadLine, Fault as NoCall}
+use Rattle.sb_server.specs.declared.ask.Ask.TheVariants.{Once, Patient, Line, BadLine, Lines, Fault as NoCall}
 use Rattle.sb_server.specs.declared.ending.Ending.{Ending}
 use Rattle.sb_server.specs.declared.ending.Ending.TheVariants.{Closed, BadHead, HeadTooLarge, BodyTooLarge, Truncated, LongConnection, ReadFault, Gone, WriteFault, Stopped as NodeStopped, OutOfMemory as Lost}
 use Rattle.sb_server.specs.declared.ending.ServeEnding.{ServeEnding}
 use Rattle.sb_server.specs.declared.ending.ServeEnding.TheVariants.{Done, DoorFault, OutOfMemory}
 use Rattle.sb_server.specs.declared.work.Stop.{Stop}
 use Rattle.sb_server.specs.declared.work.Stop.TheVariants.{Enough, Ended, Fault, Stopped, OutOfMemory as Wanting}
-use Rattle.sb_server.specs.Asks.{AsksFor, Reads, line_in, asks_close}
-use Rattle.sb_server.specs.Responds.{IsOne, RespondsTo, Responds, turn_of}
+use Rattle.sb_server.specs.declared.body.LineAsk.{LineAsk}
+use Rattle.sb_server.specs.declared.body.LineAsk.TheVariants.{Call as LineCall, NoCall as LineNone}
+use Rattle.sb_server.specs.Asks.{AsksFor, Reads, asks_close}
+use Rattle.sb_server.specs.Bodies.{line_in, lines_in, asked_by, are_lines}
+use Rattle.sb_server.specs.Responds.{IsOne, RespondsTo, Responds, LineCalled, IsLineCalled, AreCalled, any_stops, turn_of}
 use Rattle.sb_server.specs.Serves.{Worker, Working, Served, is_fault, is_lost, serve_ending}
 use Rattle.sb_server.specs.Talks.{Start, Here, Talks, Ends}
 use Rattle.sb_server.specs.Waiting.{GoesBy, Waits, round_made, rounds_made}
@@ -106,6 +110,46 @@ no_line_goes said (BadCall key) r = refl
 no_line_goes said NoMemory r = refl
 no_line_goes said _ r = absurd r
 
+-- ---- several lines
+
+-- a line that is no call isn't answered that the namespace acts no more
+abbrev GoesBehind : LineAsk → Type 0
+GoesBehind (LineCall line) = Unit {0}
+GoesBehind (LineNone answer) = stops answer ≡ false
+
+asked_goes : (said : Result ScriptLine (List ℕ)) → GoesBehind (asked_by said)
+asked_goes (Ok line) = tt
+asked_goes (Err key) = refl
+
+each_asked_goes : (lines : List (List ℕ)) → Each GoesBehind (map (λ line. asked_by (line_in line)) lines)
+each_asked_goes [] = tt
+each_asked_goes (line ∷ lines) = (asked_goes (line_in line), each_asked_goes lines)
+
+one_of_both : (b : Bool) (xs ys : List LineAsk) → Each GoesBehind xs → Each GoesBehind ys → Each GoesBehind (if b then xs else ys)
+one_of_both true xs ys x y = x
+one_of_both false xs ys x y = y
+
+lines_go : (body : List ℕ) → Each GoesBehind (lines_in body)
+lines_go body = one_of_both (are_lines (lines_of body)) _ _ (each_asked_goes (lines_of body)) (refl, tt)
+
+line_stops : (IsReading : ℕ → Type 0) (seat : ℕ) (line : LineAsk) (made : List Entry) (answer : Result Answered Refusal) → IsLineCalled IsReading seat line made answer → GoesBehind line → stops answer ≡ true → list_any is_stop made ≡ true
+line_stops IsReading seat (LineCall line) made answer called goes e = one_stops IsReading seat line.timed.call made answer called e
+line_stops IsReading seat (LineNone refused) made answer called goes e = let ends : stops refused ≡ true = ap stops (sym called.1) ∙ e in absurd cc
+
+stop_by : (IsReading : ℕ → Type 0) (seat : ℕ) (c : LineCalled) (cs : List LineCalled) → IsLineCalled IsReading seat c.line c.made c.answer → GoesBehind c.line → (any_stops cs ≡ true → list_any is_stop (flat_map (λ c. c.made) cs) ≡ true)
+    → (b : Bool) → stops c.answer ≡ b → any_stops (c ∷ cs) ≡ true → list_any is_stop (c.made ++ flat_map (λ c. c.made) cs) ≡ true
+stop_by IsReading seat c cs called goes rest true is e = stop_left c.made (flat_map (λ c. c.made) cs) (line_stops IsReading seat c.line c.made c.answer called goes is)
+stop_by IsReading seat c cs called goes rest false is e = stop_right c.made (flat_map (λ c. c.made) cs) (rest (ap (λ b. b || any_stops cs) (sym is) ∙ e))
+
+called_stop : (IsReading : ℕ → Type 0) (seat : ℕ) (cs : List LineCalled) → Each (λ c. IsLineCalled IsReading seat c.line c.made c.answer) cs → Each GoesBehind (map (λ c. c.line) cs) → any_stops cs ≡ true → list_any is_stop (flat_map (λ c. c.made) cs) ≡ true
+called_stop IsReading seat [] each goes e = absurd cc
+called_stop IsReading seat (c ∷ cs) each goes e = stop_by IsReading seat c cs each.0 goes.0 (called_stop IsReading seat cs each.1 goes.1) (stops c.answer) refl e
+
+lines_stops : (IsReading : ℕ → Type 0) (seat : ℕ) (body : List ℕ) (lines : List LineAsk) (made : List Entry) (cs : List LineCalled) → lines ≡ lines_in body → AreCalled IsReading seat lines [] made cs → any_stops cs ≡ true → list_any is_stop made ≡ true
+lines_stops IsReading seat body lines made cs is called e =
+    let all : lines_in body ≡ map (λ c. c.line) cs = sym is ∙ (called.lines_are ∙ append-nil (map (λ c. c.line) cs)) in
+    ap (list_any is_stop) called.made_is ∙ called_stop IsReading seat cs called.each (subst (Each GoesBehind) all (lines_go body)) e
+
 answer_stops : (IsReading : ℕ → Type 0) (access : Access) (seat : ℕ) (m : RequestMessage) (ask : Ask) (closes : Bool) (made : List Entry) (out : List ℕ) → AsksFor access m ask → RespondsTo IsReading seat ask closes made out Stops → list_any is_stop made ≡ true
 answer_stops IsReading access seat m (Once w asker) closes made out a r = one_stops IsReading seat w.call made r.0 r.1 (turn_stops closes (stops r.0) r.3)
 answer_stops IsReading access seat m (Patient w asker limit) closes made out a r = waits_stops IsReading seat w.call limit made r.0 r.1 (turn_stops closes (stops r.0) r.3)
@@ -115,6 +159,7 @@ answer_stops IsReading access seat m (BadLine (Err refusal)) closes made out a r
     let goes = no_line_goes (line_in m.body) refusal a.1 in
     let ends = turn_stops closes (stops (Err refusal)) r.2 in
     absurd cc
+answer_stops IsReading access seat m (Lines lines) closes made out a r = lines_stops IsReading seat m.body lines made r.0 a.1 r.1 (turn_stops closes (any_stops r.0) r.3)
 answer_stops IsReading access seat m (NoCall fault) closes made out a r = let ends = turn_stops closes false r.2 in absurd cc
 
 responds_stop : (IsReading : ℕ → Type 0) (access : Access) (seat : ℕ) (ms : List RequestMessage) (made : List Entry) (out : List ℕ) → Responds IsReading access seat ms made out Stops → list_any is_stop made ≡ true

@@ -17,11 +17,11 @@ use Rattle.sb_server.specs.declared.telling.Turn.TheVariants.{Goes, Closes, Stop
 use Rattle.sb_server.specs.declared.telling.Said.TheVariants.{Call as OfCall, Line as OfLine, Fault as OfFault}
 use Rattle.sb_server.specs.declared.telling.Telling.{Telling}
 use Rattle.sb_server.specs.declared.doing.Begun.{Begun}
-use Rattle.sb_server.specs.declared.doing.Begun.TheVariants.{Done, Waits}
+use Rattle.sb_server.specs.declared.doing.Begun.TheVariants.{Done, Waits, Calls}
 use Rattle.sb_server.specs.declared.patience.Patience.{Patience}
 use Rattle.sb_server.specs.declared.ask.Ask.{Ask}
 use Rattle.sb_server.specs.declared.ask.Asker.{Asker}
-use Rattle.sb_server.specs.declared.ask.Ask.TheVariants.{Once, Patient, Line, BadLine, Fault}
+use Rattle.sb_server.specs.declared.ask.Ask.TheVariants.{Once, Patient, Line, BadLine, Lines, Fault}
 use Rattle.sb_server.specs.Asks.{AsksFor}
 use Rattle.sb_server.specs.Doings.{Answers, Begins, IsSettled, telling_of}
 use Rattle.sb_server.specs.Responds.{IsInOrder, Responds, Responded, IsLast, turn_of}
@@ -34,6 +34,7 @@ asks_in_order access m (Once w asker) x = x.in_order
 asks_in_order access m (Patient w asker limit) x = x.0.in_order
 asks_in_order access m (Line line) x = x.1.1
 asks_in_order access m (BadLine answer) x = tt
+asks_in_order access m (Lines lines) x = x.2
 asks_in_order access m (Fault fault) x = tt
 
 goes_or_ends : (t : Turn) → (t ≡ Goes) ⊎ (t ≡ Goes → ⊥)
@@ -106,6 +107,7 @@ settled_begins IsReading pass new p (Done told) w x =
     let waits = waiting_done IsReading pass new p.wanted.call p.limit_ms p.first_ms p.asked_ms p.answer w x.1 in
     subst (λ (t : Telling). Answers IsReading pass (Patient p.wanted p.asker p.limit_ms) p.closes new t) (sym x.0)
     (waits.0, turn_of p.closes (stops p.answer), waits.1, refl, λ out says. (p.answer, waits.2, says, refl))
+settled_begins IsReading pass new p (Calls script) w x = absurd x
 settled_begins IsReading pass new p (Waits q) w x =
     subst (λ (r : Patience). Begins IsReading pass (Patient p.wanted p.asker p.limit_ms) p.closes new (Waits r)) (sym x.0)
     (refl, refl, record { waiting = w; empty = x.1; early = x.2 })

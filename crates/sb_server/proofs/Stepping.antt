@@ -1,5 +1,5 @@
 -- One step of a connection: what it does next.
-use Rattle.std.proofs.Common.{◌≡◌, ◌⊎◌, ℕ, ◌+◌, ◌-◌, ◌≤◌, List, [], ◌∷◌, ◌++◌, length, take, drop, take_all, sym, refl, ◌∙◌, subst, inl, inr, arith, Bool, true, Option, Some, None, Result, Ok, Err}
+use Rattle.std.proofs.Common.{◌≡◌, ◌⊎◌, ℕ, ◌+◌, ◌-◌, ◌≤◌, List, [], ◌∷◌, ◌++◌, length, take, drop, take_all, sym, refl, ◌∙◌, subst, inl, inr, arith, Bool, true, false, Option, Some, None, Result, Ok, Err}
 use Rattle.std.specs.Prelude.{IfOk, Vec}
 use Rattle.std.specs.Global.{Global}
 use Rattle.std.specs.declared.alloc.AllocError.{AllocError}
@@ -16,20 +16,22 @@ use Rattle.sb_http.specs.Messages.{RequestMessage}
 use Rattle.sb_http.specs.declared.fault.HttpFault.{HttpFault}
 use Rattle.sb_server.specs.declared.ask.Ask.{Ask}
 use Rattle.sb_server.specs.declared.ask.Ask.TheVariants.{Patient}
+use Rattle.sb_server.specs.declared.body.LineAsk.{LineAsk}
+use Rattle.sb_server.specs.declared.script.Script.{Script}
 use Rattle.sb_server.specs.declared.doing.Begun.{Begun}
-use Rattle.sb_server.specs.declared.doing.Begun.TheVariants.{Done, Waits}
+use Rattle.sb_server.specs.declared.doing.Begun.TheVariants.{Done, Waits, Calls}
 use Rattle.sb_server.specs.declared.doing.Outgoing.{Outgoing}
 use Rattle.sb_server.specs.declared.patience.Patience.{Patience}
 use Rattle.sb_server.specs.declared.telling.Telling.{Telling}
 use Rattle.sb_server.specs.declared.ending.Ending.{Ending}
 use Rattle.sb_server.specs.declared.ending.Ending.TheVariants.{WriteFault}
 use Rattle.sb_server.specs.Asks.{AsksFor, asks_close}
-use Rattle.sb_server.specs.Doings.{Says, Answers, IsPatient, Begins, IsAsking, IsDue, Owes, IsNext, IsNextInOrder, IsBegunInOrder, refusing, behind, next_of, farewell}
+use Rattle.sb_server.specs.Doings.{Says, Answers, IsPatient, IsFresh, HasCalled, Begins, IsAsking, IsDue, Owes, IsNext, IsNextInOrder, IsBegunInOrder, refusing, behind, next_of, farewell}
 use Rattle.sb_server.specs.Reads.{Takes, IsDone, IsGone}
 use Rattle.sb_server.specs.Responds.{AnswersCall, GivenUp}
 use Rattle.sb_server.specs.Talks.{Start, Here, Talks, Ends, TurnsTo, refusal_bytes, refusal_ending}
 use Rattle.sb_server.specs.Waiting.{GoesBy, FoundNothing}
-use Rattle.sb_server.proofs.Going.{found_nothing, nothing_is}
+use Rattle.sb_server.proofs.Going.{goes_by_none, found_nothing, nothing_is}
 use Rattle.sb_server.proofs.Reading.{read_on, takes_on, done_before}
 use Rattle.sb_server.proofs.Turning.{Reaches, asked, asked_part, refused_as, refused_part, refused_lost, gone, gone_part, rose_later}
 use Rattle.sb_server.specs.declared.telling.Turn.TheVariants.{Goes}
@@ -37,7 +39,7 @@ use Rattle.sb_server.specs.declared.telling.Turn.TheVariants.{Goes}
 -- ---- a response is due
 
 -- the calls of a request were made
-due_asked : (IsReading : ℕ → Type 0) (s : Start) (h n : Here) (m : RequestMessage) (ask : Ask) (closes : Bool) (told : Telling)
+pub due_asked : (IsReading : ℕ → Type 0) (s : Start) (h n : Here) (m : RequestMessage) (ask : Ask) (closes : Bool) (told : Telling)
     → Talks IsReading s h Goes → Reaches h n (m ∷ []) → AsksFor s.access m ask → closes ≡ asks_close m → Answers IsReading h.pass ask closes n.pass told → n.written ≡ h.written → h.writes ≤ n.writes
     → IsDue IsReading s n told
 due_asked IsReading s h n m ask closes told t x asks is a written writes = record {
@@ -113,6 +115,10 @@ pub refused_next : (IsReading : ℕ → Type 0) (s : Start) (h n : Here) (fault 
 refused_next IsReading s h n fault (Ok v) is t x cause pass written writes = owes_refused IsReading s h n fault v is t x cause pass written writes
 refused_next IsReading s h n fault (Err e) is t x cause pass written writes = refused_lost IsReading s h n t x pass written writes
 
+-- none of several lines was called yet
+fresh_called : (IsReading : ℕ → Type 0) (pass : Sitting) (lines : List LineAsk) (script : Script) → script.left.items ≡ lines → script.text.items ≡ [] → script.stopped ≡ false → HasCalled IsReading pass lines script [] [] pass
+fresh_called IsReading pass lines script left text stopped = record { made = []; goes = goes_by_none pass; called = record { lines_are = sym left; made_is = refl; each = tt }; text_is = text; stopped_is = stopped }
+
 pub begun_next : (IsReading : ℕ → Type 0) (s : Start) (h n : Here) (m : RequestMessage) (ask : Ask) (closes : Bool) (begun : Begun)
     → Talks IsReading s h Goes → Reaches h n (m ∷ []) → AsksFor s.access m ask → closes ≡ asks_close m → Begins IsReading h.pass ask closes n.pass begun → n.written ≡ h.written → h.writes ≤ n.writes
     → IsNext IsReading s n (next_of begun)
@@ -129,6 +135,24 @@ begun_next IsReading s h n m ask closes (Waits p) t x asks is begins same writes
   closes_is = begins.1 ∙ is;
   patient = begins.2;
 }
+begun_next IsReading s h n m ask closes (Calls script) t x asks is begins same writes =
+    let fresh : IsFresh ask closes script = begins.0 in
+    let called : HasCalled IsReading h.pass fresh.0 script [] [] h.pass = fresh_called IsReading h.pass fresh.0 script fresh.2 fresh.3 fresh.4 in (
+      [],
+      record {
+        old = h;
+        m = m;
+        lines = fresh.0;
+        talks = t;
+        takes = x.takes;
+        reads = x.reads;
+        writes = writes;
+        written = same;
+        asks = subst (AsksFor s.access m) fresh.1 asks;
+        closes_is = fresh.5 ∙ is;
+        called = subst (λ (q : Sitting). HasCalled IsReading h.pass fresh.0 script [] [] q) (sym begins.1) called;
+      },
+    )
 
 -- a receive that waits was asked again
 pub asking_next : (IsReading : ℕ → Type 0) (s : Start) (h n : Here) (p : Patience) (begun : Begun) → IsAsking IsReading s h p → Reaches h n []
@@ -191,6 +215,7 @@ behind_in_order (Some ending) = tt
 pub next_in_order : (begun : Begun) → IsBegunInOrder begun → IsNextInOrder (next_of begun)
 next_in_order (Done told) o = tt
 next_in_order (Waits p) o = o
+next_in_order (Calls script) o = o
 
 -- ---- what a write answered
 

@@ -11,7 +11,7 @@ use Rattle.sb_rest.specs.Callers.{is_foreign, has_key}
 use Rattle.sb_rest.specs.Calls.{call_of, routed}
 use Rattle.sb_server.specs.declared.telling.Turn.{Turn}
 use Rattle.sb_server.specs.declared.ask.Ask.{Ask}
-use Rattle.sb_server.specs.declared.ask.Ask.TheVariants.{Once, Patient, Line, BadLine, Fault}
+use Rattle.sb_server.specs.declared.ask.Ask.TheVariants.{Once, Patient, Line, BadLine, Lines, Fault}
 use Rattle.sb_server.specs.Asks.{AsksFor}
 use Rattle.sb_server.specs.Responds.{RespondsTo, GivenUp, IsUnwelcome}
 
@@ -39,8 +39,9 @@ pub responds_none : (IsReading : ℕ → Type 0) (access : Access) (seat : ℕ) 
     → IsUnwelcome access m → AsksFor access m ask → RespondsTo IsReading seat ask closes made out turn → made ≡ []
 responds_none IsReading access seat m (Once w asker) closes made out turn u a r = absurd (subst IsNone a.call (none_called access m u))
 responds_none IsReading access seat m (Patient w asker limit) closes made out turn u a r = absurd (subst IsNone a.0.call (none_called access m u))
-responds_none IsReading access seat m (Line timed) closes made out turn u a r = absurd (subst IsNone a.0 (none_called access m u))
+responds_none IsReading access seat m (Line line) closes made out turn u a r = absurd (subst IsNone a.0.0 (none_called access m u))
 responds_none IsReading access seat m (BadLine answer) closes made out turn u a r = r.0
+responds_none IsReading access seat m (Lines lines) closes made out turn u a r = absurd (subst IsNone a.0.0 (none_called access m u))
 responds_none IsReading access seat m (Fault fault) closes made out turn u a r = r.0
 
 pub given_up_none : (IsReading : ℕ → Type 0) (access : Access) (seat : ℕ) (m : RequestMessage) (mine : List Entry) (said : List ℕ) → IsUnwelcome access m → GivenUp IsReading access seat m mine said → mine ≡ []

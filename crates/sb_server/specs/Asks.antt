@@ -1,7 +1,6 @@
 -- What a request asks for, and whether its connection ends with the response.
-use Rattle.std.specs.Prelude.{◌≡◌, ℕ, ◌*◌, ◌-◌, ◌^◌, min, List, [], length, take, drop, codes, Bool, true, false, not, ◌&&◌, ◌||◌, ◌==◌, if◌then◌else◌, is_none, Result, Ok, Err}
+use Rattle.std.specs.Prelude.{◌≡◌, ℕ, ◌*◌, ◌-◌, ◌^◌, min, List, [], length, take, drop, codes, Bool, true, false, not, ◌&&◌, ◌||◌, ◌==◌, is_none, Result, Ok, Err}
 use Rattle.std.specs.List.{list_all, list_any, position_or_len}
-use Rattle.std.specs.Str.{is_utf8}
 use Rattle.form_urlencoded.specs.Form.{split}
 use Rattle.sb_machine.specs.Ordered.{IsActInOrder}
 use Rattle.sb_machine.specs.declared.call.Act.{Act}
@@ -10,9 +9,9 @@ use Rattle.sb_machine.specs.declared.call.Call.{Call}
 use Rattle.sb_machine.specs.declared.reply.Answered.{Answered}
 use Rattle.sb_machine.specs.declared.reply.Refusal.{Refusal}
 use Rattle.sb_machine.specs.declared.reply.Refusal.TheVariants.{BadCall, OutOfMemory as NoMemory}
+use Rattle.sb_desk.specs.Lists.{Each}
 use Rattle.sb_http.specs.Fields.{Field, same_word}
 use Rattle.sb_http.specs.Messages.{RequestMessage}
-use Rattle.sb_lines.specs.Lines.{line_of}
 use Rattle.sb_lines.specs.declared.line.Line.{Line as ScriptLine}
 use Rattle.sb_rest.specs.Batches.{is_blank}
 use Rattle.sb_rest.specs.declared.access.Access.{Access}
@@ -24,7 +23,8 @@ use Rattle.sb_rest.specs.declared.call.RestFault.TheVariants.{Foreign, NoKey, No
 use Rattle.sb_rest.specs.declared.call.Wanted.{Wanted}
 use Rattle.sb_server.specs.declared.ask.Ask.{Ask}
 use Rattle.sb_server.specs.declared.ask.Asker.{Asker}
-use Rattle.sb_server.specs.declared.ask.Ask.TheVariants.{Once, Patient, Line, BadLine, Fault}
+use Rattle.sb_server.specs.declared.ask.Ask.TheVariants.{Once, Patient, Line, BadLine, Lines, Fault}
+use Rattle.sb_server.specs.Bodies.{has_lines, line_in, lines_in, IsLineInOrder}
 
 -- ---- the head
 
@@ -71,10 +71,6 @@ waits call = is_receive call.act && is_none call.by
 abbrev pub ms_in : ℕ → ℕ
 ms_in s = min (s * 1000) (2 ^ 64 - 1)
 
--- the call of a script line, and the form of its reply
-abbrev pub line_in : List ℕ → Result ScriptLine (List ℕ)
-line_in body = if is_utf8 body then line_of body else Err []
-
 -- the call that is said, or why there is none; want of memory may come with each
 abbrev pub Reads : Result ScriptLine (List ℕ) → Result ScriptLine Refusal → Type 0
 Reads said (Ok line) = (said ≡ Ok line) × IsActInOrder line.timed.call.act
@@ -86,6 +82,12 @@ Reads said (Err _) = ⊥
 abbrev pub IsNoLine : Result ScriptLine (List ℕ) → Result Answered Refusal → Type 0
 IsNoLine said (Ok reply) = ⊥
 IsNoLine said (Err refusal) = Reads said (Err refusal)
+
+-- what a body asks for as one line
+abbrev pub IsLineAsk : List ℕ → Ask → Type 0
+IsLineAsk body (Line line) = Reads (line_in body) (Ok line)
+IsLineAsk body (BadLine answer) = IsNoLine (line_in body) answer
+IsLineAsk body _ = ⊥
 
 -- why a request is no call; want of memory may come with each
 abbrev pub IsFault : Access → RestFault → RequestMessage → Type 0
@@ -105,10 +107,15 @@ pub record IsCall (access : Access) (m : RequestMessage) (w : Wanted) (asker : A
   pub json_is : asker.json ≡ wants_json m.head.fields
   pub waits_is : waits w.call ≡ is_patient
 
+-- a body of script lines, which may be several, or one line alone
+abbrev pub IsScript : Access → RequestMessage → Bool → Type 0
+IsScript access m are_several = (call_of access m ≡ Err Script) × (has_lines m.head.fields ≡ are_several)
+
 -- the request asks for this, of a server that answers these
 abbrev pub AsksFor : Access → RequestMessage → Ask → Type 0
 AsksFor access m (Once w asker) = IsCall access m w asker false
 AsksFor access m (Patient w asker limit) = IsCall access m w asker true × (limit ≡ ms_in w.timeout)
-AsksFor access m (Line line) = (call_of access m ≡ Err Script) × Reads (line_in m.body) (Ok line)
-AsksFor access m (BadLine answer) = (call_of access m ≡ Err Script) × IsNoLine (line_in m.body) answer
+AsksFor access m (Line line) = IsScript access m false × IsLineAsk m.body (Line line)
+AsksFor access m (BadLine answer) = IsScript access m false × IsLineAsk m.body (BadLine answer)
+AsksFor access m (Lines lines) = IsScript access m true × (lines ≡ lines_in m.body) × Each IsLineInOrder lines
 AsksFor access m (Fault fault) = IsFault access fault m

@@ -1,36 +1,43 @@
 -- What a connection does now, as far as it has come, and what comes next.
 -- `IsReading` holds of what the worker's clock may read.
-use Rattle.std.specs.Prelude.{◌≡◌, ℕ, ◌+◌, ◌≤◌, ◌<◌, List, [], ◌∷◌, take, Bool, true, false, Option, Some, None, Result, Ok, Err, Vec}
+use Rattle.std.specs.Prelude.{◌≡◌, ℕ, ◌+◌, ◌≤◌, ◌<◌, List, [], ◌∷◌, ◌++◌, take, Bool, true, false, Option, Some, None, Result, Ok, Err, Vec}
 use Rattle.std.specs.declared.alloc.AllocError.{AllocError}
 use Rattle.std.specs.Global.{Global}
 use Rattle.sb_machine.specs.History.{stops}
 use Rattle.sb_machine.specs.Ordered.{IsActInOrder}
 use Rattle.sb_machine.specs.declared.history.Entry.{Entry}
+use Rattle.sb_machine.specs.declared.reply.Answered.{Answered}
+use Rattle.sb_machine.specs.declared.reply.Refusal.{Refusal}
 use Rattle.sb_desk.specs.Desks.{Sitting}
+use Rattle.sb_desk.specs.Lists.{Each}
 use Rattle.sb_outside.specs.Causes.{Rose}
 use Rattle.sb_outside.specs.Streams.{Gains, GainsPart}
 use Rattle.sb_http.specs.Messages.{RequestMessage}
+use Rattle.sb_lines.specs.declared.form.Form.{Form}
 use Rattle.sb_rest.specs.declared.access.Access.{Access}
 use Rattle.sb_server.specs.declared.telling.Turn.{Turn}
 use Rattle.sb_server.specs.declared.telling.Turn.TheVariants.{Goes}
 use Rattle.sb_server.specs.declared.telling.Said.{Said}
-use Rattle.sb_server.specs.declared.telling.Said.TheVariants.{Call as OfCall, Line as OfLine, Fault as OfFault}
+use Rattle.sb_server.specs.declared.telling.Said.TheVariants.{Call as OfCall, Line as OfLine, Lines as OfLines, Fault as OfFault}
 use Rattle.sb_server.specs.declared.telling.Telling.{Telling}
 use Rattle.sb_server.specs.declared.ask.Ask.{Ask}
-use Rattle.sb_server.specs.declared.ask.Ask.TheVariants.{Patient}
+use Rattle.sb_server.specs.declared.body.LineAsk.{LineAsk}
+use Rattle.sb_server.specs.declared.ask.Ask.TheVariants.{Patient, Lines}
 use Rattle.sb_server.specs.declared.doing.Begun.{Begun}
-use Rattle.sb_server.specs.declared.doing.Begun.TheVariants.{Done, Waits}
+use Rattle.sb_server.specs.declared.doing.Begun.TheVariants.{Done, Waits, Calls as WillCall}
 use Rattle.sb_server.specs.declared.doing.Doing.{Doing}
-use Rattle.sb_server.specs.declared.doing.Doing.TheVariants.{Reads, Asks, Tells, Writes}
+use Rattle.sb_server.specs.declared.doing.Doing.TheVariants.{Reads, Asks, Calls, Says as WillSay, Tells, Writes}
 use Rattle.sb_server.specs.declared.doing.Next.{Next}
 use Rattle.sb_server.specs.declared.doing.Next.TheVariants.{On, Blocked, Over}
 use Rattle.sb_server.specs.declared.doing.Outgoing.{Outgoing}
 use Rattle.sb_server.specs.declared.patience.Patience.{Patience}
+use Rattle.sb_server.specs.declared.script.Script.{Script}
 use Rattle.sb_server.specs.declared.ending.Ending.{Ending}
 use Rattle.sb_server.specs.declared.ending.Ending.TheVariants.{WriteFault, OutOfMemory, Gone}
 use Rattle.sb_server.specs.Asks.{AsksFor, asks_close}
 use Rattle.sb_server.specs.Reads.{Takes}
-use Rattle.sb_server.specs.Responds.{AnswersCall, RespondsTo, fault_bytes, line_bytes, turn_of}
+use Rattle.sb_server.specs.Bodies.{IsLineInOrder}
+use Rattle.sb_server.specs.Responds.{LineCalled, AreCalled, AnswersCall, RespondsTo, any_stops, fault_bytes, form_of, line_bytes, lines_bytes, replies_to, turn_of}
 use Rattle.sb_server.specs.Talks.{Start, Here, Talks, Ends, TurnsTo, ending_of}
 use Rattle.sb_server.specs.Waiting.{GoesBy, Waiting, is_empty}
 
@@ -40,12 +47,14 @@ use Rattle.sb_server.specs.Waiting.{GoesBy, Waiting, is_empty}
 abbrev pub Says : Said → Bool → List ℕ → Type 0
 Says (OfCall wanted asker answer) closes out = AnswersCall wanted.call answer asker closes out
 Says (OfLine form answer) closes out = out ≡ line_bytes form answer closes
+Says (OfLines text stopped) closes out = out ≡ lines_bytes text.items stopped closes
 Says (OfFault fault) closes out = out ≡ fault_bytes fault closes
 
 -- whether the namespace acts no more
 abbrev pub stops_by : Said → Bool
 stops_by (OfCall wanted asker answer) = stops answer
 stops_by (OfLine form answer) = stops answer
+stops_by (OfLines text stopped) = stopped
 stops_by (OfFault fault) = false
 
 -- what is to be told where this came of it
@@ -67,6 +76,7 @@ pub record IsPatient (IsReading : ℕ → Type 0) (pass : Sitting) (p : Patience
 -- it goes on where its last call found nothing before its end, else its answer is told
 abbrev pub IsSettled : Patience → Begun → Type 0
 IsSettled p (Done told) = (told ≡ telling_of (OfCall p.wanted p.asker p.answer) p.closes) × (is_empty p.answer ≡ true → p.first_ms + p.limit_ms ≤ p.asked_ms)
+IsSettled p (WillCall script) = ⊥
 IsSettled p (Waits q) = (q ≡ p) × (is_empty p.answer ≡ true) × (p.asked_ms < p.first_ms + p.limit_ms)
 
 -- the pass went on by the entries of a request's calls, whose response this is to be
@@ -74,9 +84,24 @@ abbrev pub Answers : (ℕ → Type 0) → Sitting → Ask → Bool → Sitting �
 Answers IsReading pass ask closes new told = (made : List Entry) × (turn : Turn) × GoesBy pass made new × (told.after ≡ ending_of turn)
     × ((out : List ℕ) → Says told.said told.closes out → RespondsTo IsReading pass.seat ask closes made out turn)
 
+-- ---- several lines
+
+-- behind `pass` these lines were called, those that are left weren't, and the replies to these stand
+pub record HasCalled (IsReading : ℕ → Type 0) (pass : Sitting) (lines : List LineAsk) (script : Script) (cs said : List LineCalled) (new : Sitting) : Type 0 where
+  pub made : List Entry
+  pub goes : GoesBy pass made new
+  pub called : AreCalled IsReading pass.seat lines script.left.items made cs
+  pub text_is : script.text.items ≡ replies_to said
+  pub stopped_is : script.stopped ≡ any_stops said
+
+-- none of the lines of a request was called yet
+abbrev pub IsFresh : Ask → Bool → Script → Type 0
+IsFresh ask closes script = (lines : List LineAsk) × (ask ≡ Lines lines) × (script.left.items ≡ lines) × (script.text.items ≡ []) × (script.stopped ≡ false) × (script.closes ≡ closes)
+
 -- what came of a request's calls
 abbrev pub Begins : (ℕ → Type 0) → Sitting → Ask → Bool → Sitting → Begun → Type 0
 Begins IsReading pass ask closes new (Done told) = Answers IsReading pass ask closes new told
+Begins IsReading pass ask closes new (WillCall script) = IsFresh ask closes script × (new ≡ pass)
 Begins IsReading pass ask closes new (Waits p) = (ask ≡ Patient p.wanted p.asker p.limit_ms) × (p.closes ≡ closes) × IsPatient IsReading pass p new
 
 -- All requests but the last were answered; the last is a receive that waits, and nothing was written for it.
@@ -91,6 +116,29 @@ pub record IsAsking (IsReading : ℕ → Type 0) (s : Start) (h : Here) (p : Pat
   pub asks : AsksFor s.access m (Patient p.wanted p.asker p.limit_ms)
   pub closes_is : p.closes ≡ asks_close m
   pub patient : IsPatient IsReading old.pass p h.pass
+
+-- All requests but the last were answered; the last is of several lines, of which these were called, the replies to these stand, and nothing was written.
+pub record IsCalling (IsReading : ℕ → Type 0) (s : Start) (h : Here) (script : Script) (cs said : List LineCalled) : Type 0 where
+  pub old : Here
+  pub m : RequestMessage
+  pub lines : List LineAsk
+  pub talks : Talks IsReading s old Goes
+  pub takes : Takes old.stand (m ∷ []) h.stand
+  pub reads : old.reads ≤ h.reads
+  pub writes : old.writes ≤ h.writes
+  pub written : h.written ≡ old.written
+  pub asks : AsksFor s.access m (Lines lines)
+  pub closes_is : script.closes ≡ asks_close m
+  pub called : HasCalled IsReading old.pass lines script cs said h.pass
+
+-- each that was called has its reply
+abbrev pub IsCallingOn : (ℕ → Type 0) → Start → Here → Script → Type 0
+IsCallingOn IsReading s h script = (cs : List LineCalled) × IsCalling IsReading s h script cs cs
+
+-- the last that was called was answered so, and has no reply yet
+abbrev pub IsSaying : (ℕ → Type 0) → Start → Here → Script → Form → Result Answered Refusal → Type 0
+IsSaying IsReading s h script form answer =
+    (said : List LineCalled) × (last : LineCalled) × IsCalling IsReading s h script (said ++ last ∷ []) said × (form ≡ form_of last.line) × (answer ≡ last.answer)
 
 -- ---- a response that is due
 
@@ -114,6 +162,8 @@ pub record Owes (IsReading : ℕ → Type 0) (s : Start) (h : Here) (out : Outgo
 abbrev pub IsDoing : (ℕ → Type 0) → Start → Here → Doing → Type 0
 IsDoing IsReading s h Reads = Talks IsReading s h Goes
 IsDoing IsReading s h (Asks p) = IsAsking IsReading s h p
+IsDoing IsReading s h (Calls script) = IsCallingOn IsReading s h script
+IsDoing IsReading s h (WillSay script form answer) = IsSaying IsReading s h script form answer
 IsDoing IsReading s h (Tells told) = IsDue IsReading s h told
 IsDoing IsReading s h (Writes out) = Owes IsReading s h out
 
@@ -127,12 +177,14 @@ IsNext IsReading s h (Over ending) = Ends IsReading s h ending
 abbrev pub Steps : (ℕ → Type 0) → Access → Here → Doing → Here → Next → Type 0
 Steps IsReading access old doing new next = (s : Start) → s.access ≡ access → IsDoing IsReading s old doing → IsNext IsReading s new next
 
--- ---- the calls of receives that wait are in order
+-- ---- the calls of receives that wait, and of lines, are in order
 
 -- that of what a connection does
 abbrev pub IsDoingInOrder : Doing → Type 0
 IsDoingInOrder Reads = Unit {0}
 IsDoingInOrder (Asks p) = IsActInOrder p.wanted.call.act
+IsDoingInOrder (Calls script) = Each IsLineInOrder script.left.items
+IsDoingInOrder (WillSay script form answer) = Each IsLineInOrder script.left.items
 IsDoingInOrder (Tells told) = Unit {0}
 IsDoingInOrder (Writes out) = Unit {0}
 
@@ -146,6 +198,7 @@ IsNextInOrder (Over ending) = Unit {0}
 abbrev pub IsBegunInOrder : Begun → Type 0
 IsBegunInOrder (Done told) = Unit {0}
 IsBegunInOrder (Waits p) = IsActInOrder p.wanted.call.act
+IsBegunInOrder (WillCall script) = Each IsLineInOrder script.left.items
 
 -- ---- how it goes on
 
@@ -163,3 +216,4 @@ behind (Some ending) = Over ending
 abbrev pub next_of : Begun → Next
 next_of (Done told) = On (Tells told)
 next_of (Waits p) = Blocked (Asks p)
+next_of (WillCall script) = On (Calls script)

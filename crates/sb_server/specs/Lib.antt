@@ -1,5 +1,6 @@
--- A server over connections, in the order to read it: Asks (what a request asks for), Waiting, Responds (its call and its response), Reads, Talks
--- (one connection), Works (one after the other), Serves (several workers).
+-- A server over connections, in the order to read it: Bodies, Asks (what a request asks for), Waiting, Responds (its calls and its response), Reads,
+-- Talks (one connection), Works (one after the other), Serves (several workers).
+pub mod Bodies
 pub mod Waiting
 pub mod Asks
 pub mod Responds

@@ -1,5 +1,6 @@
 -- The responses to requests, and the entries of their calls. `IsReading` holds of what a clock may read.
-use Rattle.std.specs.Prelude.{◌≡◌, ◌⊎◌, ℕ, List, [], ◌∷◌, ◌++◌, Bool, true, false, ◌||◌, Option, Result, Ok, if◌then◌else◌}
+use Rattle.std.specs.Prelude.{◌≡◌, ◌⊎◌, ℕ, List, [], ◌∷◌, ◌++◌, map, codes, Bool, true, false, ◌||◌, Option, Result, Ok, if◌then◌else◌}
+use Rattle.std.specs.List.{flat_map, list_any}
 use Rattle.sb_machine.specs.History.{stops}
 use Rattle.sb_machine.specs.Ordered.{IsActInOrder}
 use Rattle.sb_machine.specs.declared.call.Call.{Call}
@@ -9,7 +10,9 @@ use Rattle.sb_machine.specs.declared.reply.Answered.TheVariants.{New}
 use Rattle.sb_machine.specs.declared.reply.Refusal.{Refusal}
 use Rattle.sb_machine.specs.declared.reply.Reply.TheVariants.{Empty}
 use Rattle.sb_desk.specs.Entries.{made_by}
+use Rattle.sb_desk.specs.Lists.{Each}
 use Rattle.sb_http.specs.Messages.{RequestMessage}
+use Rattle.sb_http.specs.declared.response.Status.TheVariants.{Ok as HttpOk}
 use Rattle.sb_http.specs.Responses.{ResponseMessage, response_bytes}
 use Rattle.sb_lines.specs.Replies.{answer_line}
 use Rattle.sb_lines.specs.declared.form.Form.{Form}
@@ -21,10 +24,13 @@ use Rattle.sb_rest.specs.declared.call.RestFault.{RestFault}
 use Rattle.sb_rest.specs.declared.call.Wanted.{Wanted}
 use Rattle.sb_server.specs.declared.ask.Ask.{Ask}
 use Rattle.sb_server.specs.declared.ask.Asker.{Asker}
-use Rattle.sb_server.specs.declared.ask.Ask.TheVariants.{Once, Patient, Line, BadLine, Fault}
+use Rattle.sb_server.specs.declared.ask.Ask.TheVariants.{Once, Patient, Line, BadLine, Lines, Fault}
+use Rattle.sb_server.specs.declared.body.LineAsk.{LineAsk}
+use Rattle.sb_server.specs.declared.body.LineAsk.TheVariants.{Call as LineCall, NoCall}
 use Rattle.sb_server.specs.declared.telling.Turn.{Turn}
 use Rattle.sb_server.specs.declared.telling.Turn.TheVariants.{Goes, Closes, Stops}
 use Rattle.sb_server.specs.Asks.{AsksFor, asks_close}
+use Rattle.sb_server.specs.Bodies.{lines_type, IsLineInOrder}
 use Rattle.sb_server.specs.Waiting.{Waits, FoundNothing}
 
 -- ---- one response
@@ -50,6 +56,48 @@ AnswersCall call answer asker closes out = (said : ResponseMessage) × Gives cal
 abbrev pub line_bytes : Form → Result Answered Refusal → Bool → List ℕ
 line_bytes form answer closes = response_bytes (closed (closes || stops answer) (line_response (answer_line form answer)))
 
+-- ---- the response to several lines
+
+-- a line, the entries of its call, and its answer
+pub record LineCalled : Type 0 where
+  pub line : LineAsk
+  pub made : List Entry
+  pub answer : Result Answered Refusal
+
+-- each is called as a line alone is; one that is no call makes no entry, and is answered by why
+abbrev pub IsLineCalled : (ℕ → Type 0) → ℕ → LineAsk → List Entry → Result Answered Refusal → Type 0
+IsLineCalled IsReading seat (LineCall line) made answer = IsOne IsReading seat line.timed.call made answer
+IsLineCalled IsReading seat (NoCall refused) made answer = (made ≡ []) × (answer ≡ refused)
+
+-- of these lines those before the rest were called, in their order, and these are the entries of their calls
+pub record AreCalled (IsReading : ℕ → Type 0) (seat : ℕ) (lines rest : List LineAsk) (made : List Entry) (cs : List LineCalled) : Type 0 where
+  pub lines_are : lines ≡ map (λ c. c.line) cs ++ rest
+  pub made_is : made ≡ flat_map (λ c. c.made) cs
+  pub each : Each (λ c. IsLineCalled IsReading seat c.line c.made c.answer) cs
+
+-- the form of the reply to a line
+abbrev pub form_of : LineAsk → Form
+form_of (LineCall line) = line.form
+form_of (NoCall answer) = Plain
+
+-- the lines of the replies, in the order of the lines
+abbrev pub replies_to : List LineCalled → List ℕ
+replies_to cs = flat_map (λ c. answer_line (form_of c.line) c.answer) cs
+
+-- whether the namespace acts no more
+abbrev pub any_stops : List LineCalled → Bool
+any_stops cs = list_any (λ c. stops c.answer) cs
+
+-- the response with these lines
+abbrev pub lines_response : List ℕ → ResponseMessage
+lines_response text = record { status = HttpOk; fields = (codes "Content-Type", lines_type) ∷ []; body = text; ends = false }
+
+-- the bytes of the response with these lines, which ends the connection too where the namespace acts no more
+abbrev pub lines_bytes : List ℕ → Bool → Bool → List ℕ
+lines_bytes text stopped closes = response_bytes (closed (closes || stopped) (lines_response text))
+
+-- ---- any request
+
 -- the response to a request that is no call
 abbrev pub fault_bytes : RestFault → Bool → List ℕ
 fault_bytes fault closes = response_bytes (closed closes (fault_response fault))
@@ -60,6 +108,7 @@ IsInOrder (Once w asker) = IsActInOrder w.call.act
 IsInOrder (Patient w asker limit) = IsActInOrder w.call.act
 IsInOrder (Line line) = IsActInOrder line.timed.call.act
 IsInOrder (BadLine answer) = Unit {0}
+IsInOrder (Lines lines) = Each IsLineInOrder lines
 IsInOrder (Fault fault) = Unit {0}
 
 -- this is the response, these are the entries of its calls, and so it goes on
@@ -71,6 +120,8 @@ RespondsTo IsReading seat (Patient w asker limit) closes made out turn =
 RespondsTo IsReading seat (Line line) closes made out turn =
     (answer : Result Answered Refusal) × IsOne IsReading seat line.timed.call made answer × (out ≡ line_bytes line.form answer closes) × (turn ≡ turn_of closes (stops answer))
 RespondsTo IsReading seat (BadLine answer) closes made out turn = (made ≡ []) × (out ≡ line_bytes Plain answer closes) × (turn ≡ turn_of closes (stops answer))
+RespondsTo IsReading seat (Lines lines) closes made out turn =
+    (cs : List LineCalled) × AreCalled IsReading seat lines [] made cs × (out ≡ lines_bytes (replies_to cs) (any_stops cs) closes) × (turn ≡ turn_of closes (any_stops cs))
 RespondsTo IsReading seat (Fault fault) closes made out turn = (made ≡ []) × (out ≡ fault_bytes fault closes) × (turn ≡ turn_of closes false)
 
 -- ---- the responses of a connection

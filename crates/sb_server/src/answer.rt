@@ -8,6 +8,7 @@ ghost use Rattle.sb_server.specs.Responds as responds;
 
 use crate::ask::{Ask, Asker};
 use crate::doing::Begun;
+use crate::lines::script_of;
 use crate::patience::Patience;
 use crate::telling::{Said, telling_of};
 use crate::waiting::{call_once, is_done};
@@ -15,12 +16,14 @@ use sb_desk::{Desk, Pass, Served};
 use sb_lines::Form;
 use sb_outside::Clock;
 use sb_rest::Wanted;
+use std::alloc::Global;
 use std::sync::Wait;
 
 /// Makes the calls that are asked for at this pass, and says what is to be told of them; of a receive
-/// that waits it makes the first.
+/// that waits it makes the first, and of several script lines none yet.
 pub(crate) fn answer<V: Served, R: Wait, C: Clock>(
     rt: &R,
+    alloc: Global,
     desk: &Desk<V>,
     pass: Pass,
     clock: &C,
@@ -60,6 +63,7 @@ pub(crate) fn answer<V: Served, R: Wait, C: Clock>(
             let said = Said::Line { form, answer };
             (pass, Begun::Done(telling_of(said, closes)))
         }
+        Ask::Lines { lines } => (pass, Begun::Calls(script_of(alloc, lines, closes))),
         Ask::Fault { fault } => {
             let said = Said::Fault { fault };
             (pass, Begun::Done(telling_of(said, closes)))

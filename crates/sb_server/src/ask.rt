@@ -1,16 +1,17 @@
 // What a request asks for.
-ghost use Rattle.std.specs.Prelude.{◌≡◌, [], Ok, Err};
+ghost use Rattle.std.specs.Prelude.{◌≡◌, Ok, Err};
 ghost use Rattle.sb_machine.specs.Ordered.{IsActInOrder};
 ghost use Rattle.sb_http.specs.Said.{said_by};
-ghost use Rattle.sb_lines.specs.Lines.{line_of};
 ghost use Rattle.sb_rest.specs.Calls.{call_of};
 ghost use Rattle.sb_rest.specs.declared.call.RestFault.TheVariants.{Script};
 ghost use Rattle.sb_server.specs.Asks as asks;
 
+use crate::body::{LineAsk, line_in, lines_in};
+use crate::head::has_lines;
 use sb_http::Request;
-use sb_lines::{LineFault, read_line};
+use sb_lines::LineFault;
 use sb_machine::{Act, Answer, Call, Refusal};
-use sb_model::Text;
+use sb_model::Rows;
 use sb_outside::Bytes;
 use sb_rest::{Access, RestFault, Wanted, call_of, host_of, wants_json};
 use sb_routes::Routes;
@@ -47,6 +48,10 @@ pub enum Ask {
     BadLine {
         answer: Answer,
     },
+    /// Script lines, each of which is called, in their order.
+    Lines {
+        lines: Rows<LineAsk>,
+    },
     /// No call.
     Fault {
         fault: RestFault,
@@ -59,7 +64,7 @@ pub(crate) fn ask_of(alloc: Global, routes: &Routes, access: &Access, request: &
 {
     match call_of(alloc, routes, access, request) {
         Ok(wanted) => called(alloc, access, request, wanted),
-        Err(RestFault::Script) => line_ask(alloc, access, request),
+        Err(RestFault::Script) => script_ask(alloc, access, request),
         Err(RestFault::Foreign) => Ask::Fault {
             fault: RestFault::Foreign,
         },
@@ -126,47 +131,33 @@ fn called(alloc: Global, access: &Access, request: &Request, wanted: Wanted) -> 
     Ask::Once { wanted, asker }
 }
 
-// A body as a script line.
-fn line_ask(alloc: Global, access: &Access, request: &Request) -> Ask
+// A body as one script line, or as several.
+fn script_ask(alloc: Global, access: &Access, request: &Request) -> Ask
     requires { call_of access.now (said_by request.now) ≡ Err Script }
     ensures { asks.AsksFor access.now (said_by request.now) result }
 {
-    match line_in(alloc, request.body) {
-        Ok(line) => Ask::Line { line },
-        Err(refusal) => Ask::BadLine {
-            answer: Err(refusal),
+    if !has_lines(request) {
+        return line_ask(alloc, request.body);
+    }
+    match lines_in(alloc, request.body) {
+        Ok(lines) => Ask::Lines { lines },
+        Err(_) => Ask::Fault {
+            fault: RestFault::OutOfMemory,
         },
     }
 }
 
-// What a script line asks for, or why it is none.
-#[tactic(auto, using(crate::proofs::Texts::text_tests))]
-fn line_in(alloc: Global, body: &[u8]) -> Result<sb_lines::Line, Refusal>
-    ensures { asks.Reads (asks.line_in body.now) result }
+// A body as a script line.
+fn line_ask(alloc: Global, body: &[u8]) -> Ask
+    ensures { asks.IsLineAsk body.now result }
 {
-    match std::str::from_utf8(body) {
-        Ok(text) => text_in(alloc, text),
-        Err(_) => no_text(alloc),
+    match line_in(alloc, body) {
+        Ok(line) => Ask::Line { line },
+        Err(LineFault::BadKey { key }) => Ask::BadLine {
+            answer: Err(Refusal::BadCall { key }),
+        },
+        Err(LineFault::OutOfMemory) => Ask::BadLine {
+            answer: Err(Refusal::OutOfMemory),
+        },
     }
-}
-
-// The same of a text.
-fn text_in(alloc: Global, text: &str) -> Result<sb_lines::Line, Refusal>
-    ensures { asks.Reads (line_of text.now) result }
-{
-    match read_line(alloc, text) {
-        Ok(line) => Ok(line),
-        Err(LineFault::BadKey { key }) => Err(Refusal::BadCall { key }),
-        Err(LineFault::OutOfMemory) => Err(Refusal::OutOfMemory),
-    }
-}
-
-// The same of what is no text: it has no key.
-fn no_text(alloc: Global) -> Result<sb_lines::Line, Refusal>
-    ensures { asks.Reads (Err []) result }
-{
-    let Ok(key) = Text::of(alloc, "") else {
-        return Err(Refusal::OutOfMemory);
-    };
-    Err(Refusal::BadCall { key })
 }

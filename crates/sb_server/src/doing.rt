@@ -4,7 +4,10 @@ ghost use Rattle.sb_server.specs.Doings as doings;
 
 use crate::ending::Ending;
 use crate::patience::Patience;
+use crate::script::Script;
 use crate::telling::Telling;
+use sb_lines::Form;
+use sb_machine::Answer;
 
 /// A response that is being written: how many of its bytes were written, and how the connection ends
 /// behind it, if it does.
@@ -21,6 +24,10 @@ pub(crate) enum Doing {
     Reads,
     /// A receive waits for a message.
     Asks(Patience),
+    /// Script lines are called, one after another.
+    Calls(Script),
+    /// A script line was called and answered so, and its reply, of this form, doesn't stand yet.
+    Says(Script, Form, Answer),
     /// A request's calls were made, and there is no response yet, for want of memory.
     Tells(Telling),
     Writes(Outgoing),
@@ -34,11 +41,13 @@ pub(crate) enum Next {
     Over(Ending),
 }
 
-/// What came of a request's calls: what is to be told, or a receive that waits.
+/// What came of a request's calls: what is to be told, a receive that waits, or script lines that are to be
+/// called.
 #[derive(Drop)]
 pub(crate) enum Begun {
     Done(Telling),
     Waits(Patience),
+    Calls(Script),
 }
 
 /// What comes next behind a request's calls.
@@ -48,6 +57,7 @@ pub(crate) fn next_of(begun: Begun) -> Next
     match begun {
         Begun::Done(telling) => Next::On(Doing::Tells(telling)),
         Begun::Waits(patience) => Next::Blocked(Doing::Asks(patience)),
+        Begun::Calls(script) => Next::On(Doing::Calls(script)),
     }
 }
 

@@ -1,4 +1,4 @@
-// What the head of a request says of its connection.
+// What the head of a request says of its connection and its body.
 ghost use Rattle.std.specs.Prelude.{◌≡◌, ◌==◌, ◌||◌, ◌<◌, false, map, length, take, drop, All, MatchOption};
 ghost use Rattle.std.specs.List.{list_all, list_any};
 ghost use Rattle.httparse.specs.Spans.{IsHeaderWithin, header_bytes};
@@ -6,12 +6,16 @@ ghost use Rattle.sb_http.specs.Said.{said_by};
 ghost use Rattle.sb_http.specs.Version.{minor_of};
 ghost use Rattle.sb_rest.specs.Batches.{is_blank};
 ghost use Rattle.sb_server.specs.Asks as asks;
+ghost use Rattle.sb_server.specs.Bodies as bodies;
 
 use httparse::spans::HeaderSpan;
 use sb_http::{Request, Version, is_word};
 use sb_routes::cut;
 
 const CLOSE: &[u8] = b"close";
+
+/// The media type of JSON values on a line each.
+pub(crate) const LINES_TYPE: &[u8] = b"application/x-ndjson";
 
 /// Whether the connection ends for the request's sake: the request is of HTTP/1.0, or has a line
 /// `Connection` that lists `close` (RFC 9112, section 9.6).
@@ -119,4 +123,41 @@ fn has_close(text: &[u8], lines: &[HeaderSpan]) -> bool
         }
     }
     false
+}
+
+// ---- the body
+
+fn is_lines_word(value: &[u8]) -> bool
+    ensures { result ≡ bodies.is_lines_word value.now }
+{
+    is_word(LINES_TYPE, front(value, LINES_TYPE.len()))
+        && are_blank(behind(value, LINES_TYPE.len()))
+}
+
+#[tactic(auto, unfolding(crate::specs::Bodies::is_lines_type))]
+fn is_lines_type(value: &[u8]) -> bool
+    ensures { result ≡ bodies.is_lines_type value.now }
+{
+    is_lines_word(cut(value, b';').0)
+}
+
+fn has_lines_in(text: &[u8], lines: &[HeaderSpan]) -> bool
+    requires { All (IsHeaderWithin (length text.now)) lines.now }
+    ensures { result ≡ bodies.has_lines (map (header_bytes text.now) lines.now) }
+{
+    let mut so_far = false;
+    for line in lines {
+        if is_word(b"content-type", line.name.of(text)) {
+            so_far = is_lines_type(line.value.of(text));
+        }
+    }
+    so_far
+}
+
+/// Whether the body of a request is of script lines, one or more: its last Content-Type is
+/// `application/x-ndjson`, in any case and with any parameters.
+pub(crate) fn has_lines(request: &Request) -> bool
+    ensures { result ≡ bodies.has_lines (said_by request.now).head.fields }
+{
+    has_lines_in(request.text, request.lines)
 }

@@ -1,4 +1,5 @@
 // What holds of all connections.
+ghost use Rattle.sb_server.specs.Bodies.{LinesHaveNoFeed, LinesJoin};
 ghost use Rattle.sb_server.specs.Responds.{GivesUpNone, MakesNone};
 
 use sb_outside::Clock;
@@ -10,3 +11,9 @@ pub fn unwelcome_makes_no_entry<C: Clock>(clock: &C)
 {
     let _ = clock;
 }
+
+/// The lines of a body have no line feed, and joined again by line feeds they are the body.
+pub fn lines_are_the_body()
+    ensures joined { LinesJoin }
+    ensures no_feed { LinesHaveNoFeed }
+{}

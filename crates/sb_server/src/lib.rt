@@ -16,6 +16,7 @@
 
 mod answer;
 mod ask;
+mod body;
 mod came;
 mod connection;
 mod doing;
@@ -25,7 +26,9 @@ mod head;
 mod inbox;
 mod job;
 mod laws;
+mod lines;
 mod patience;
+mod script;
 mod stage;
 mod step;
 mod telling;
@@ -36,7 +39,7 @@ mod worked;
 pub use connection::serve_connection;
 pub use doors::serve;
 pub use ending::{Ending, ServeEnding};
-pub use laws::unwelcome_makes_no_entry;
+pub use laws::{lines_are_the_body, unwelcome_makes_no_entry};
 pub use waiting::receive_waiting;
 pub use work::{Stop, serve_door};
-pub use worked::worked_connections;
+pub use worked::{worked_bodies, worked_connections};

@@ -14,6 +14,7 @@ use crate::came::Came;
 use crate::doing::{Doing, Next, Outgoing, behind, next_of};
 use crate::ending::Ending;
 use crate::inbox::Inbox;
+use crate::lines::{call_on, say_on};
 use crate::patience::Patience;
 use crate::telling::{Telling, farewell, response_to};
 use sb_desk::{Desk, Pass, Served};
@@ -47,6 +48,11 @@ pub(crate) fn step<V: Served, R: Wait, C: Clock, N: Conn>(
     match doing {
         Doing::Reads => read_on(rt, alloc, routes, access, desk, pass, clock, conn, inbox),
         Doing::Asks(patience) => wait_on(rt, access, desk, pass, clock, conn, inbox, patience),
+        Doing::Calls(script) => call_on(rt, access, desk, pass, clock, script),
+        Doing::Says(script, form, answer) => {
+            let next = say_on(alloc, access, clock, script, form, answer);
+            (pass, next)
+        }
         Doing::Tells(telling) => {
             let next = tell_on(alloc, access, clock, conn, telling);
             (pass, next)
@@ -78,7 +84,7 @@ fn read_on<V: Served, R: Wait, C: Clock, N: Conn>(
 {
     match inbox.next(rt, alloc, routes, access, conn) {
         Came::Asked(ask, closes) => {
-            let (pass, begun) = answer(rt, desk, pass, clock, ask, closes);
+            let (pass, begun) = answer(rt, alloc, desk, pass, clock, ask, closes);
             (pass, next_of(begun))
         }
         Came::NothingYet => (pass, Next::Blocked(Doing::Reads)),

@@ -8,8 +8,9 @@ ghost use Rattle.sb_server.specs.Talks as talks;
 
 use crate::ask::Asker;
 use crate::ending::Ending;
+use crate::head::LINES_TYPE;
 use crate::patience::Patience;
-use sb_http::{Response, write_response};
+use sb_http::{Header, Response, Status, write_response};
 use sb_lines::{Form, reply_line};
 use sb_machine::{Answer, Call, Refusal};
 use sb_rest::{RestFault, Wanted, fault_response, line_response, response_of};
@@ -39,6 +40,12 @@ pub(crate) enum Said {
     Line {
         form: Form,
         answer: Answer,
+    },
+    /// Script lines were answered by these lines, and perhaps one of them tells that the namespace acts no
+    /// more.
+    Lines {
+        text: Vec<u8>,
+        stopped: bool,
     },
     /// It was no call.
     Fault {
@@ -103,6 +110,7 @@ pub(crate) fn response_to(alloc: Global, telling: &Telling) -> Result<Vec<u8>, A
             answer,
         } => call_bytes(alloc, &wanted.call, answer, asker, closes),
         Said::Line { form, answer } => line_bytes(alloc, *form, answer, closes),
+        Said::Lines { text, stopped } => lines_bytes(alloc, text, *stopped, closes),
         Said::Fault { fault } => fault_bytes(alloc, fault, closes),
     }
 }
@@ -145,6 +153,35 @@ fn line_bytes(
     bytes_of(alloc, response, closes || stops(answer))
 }
 
+// The response with these lines.
+fn lines_response(alloc: Global, text: &[u8]) -> Result<Response, AllocError>
+    ensures { IfOk result (λ r. said_in r ≡ responds.lines_response text.now) }
+{
+    let header = Header {
+        name: b"Content-Type".to_vec(alloc)?,
+        value: LINES_TYPE.to_vec(alloc)?,
+    };
+    Ok(Response {
+        status: Status::Ok,
+        headers: vec![in alloc; header]?,
+        body: text.to_vec(alloc)?,
+        closes: false,
+    })
+}
+
+// The bytes of the response to several script lines.
+fn lines_bytes(
+    alloc: Global,
+    text: &[u8],
+    stopped: bool,
+    closes: bool,
+) -> Result<Vec<u8>, AllocError>
+    ensures { IfOk result (λ v. v.items ≡ responds.lines_bytes text.now stopped closes) }
+{
+    let response = lines_response(alloc, text)?;
+    bytes_of(alloc, response, closes || stopped)
+}
+
 // The same fault once more.
 fn copy_of(fault: &RestFault) -> Result<RestFault, AllocError>
     ensures { IfOk result (λ f. f ≡ fault.now) }
@@ -172,8 +209,8 @@ fn fault_bytes(alloc: Global, fault: &RestFault, closes: bool) -> Result<Vec<u8>
     bytes_of(alloc, response, closes)
 }
 
-// Whether the namespace acts no more.
-fn stops(answer: &Answer) -> bool
+/// Whether the namespace acts no more.
+pub(crate) fn stops(answer: &Answer) -> bool
     ensures { result ≡ stops answer.now }
 {
     matches!(
@@ -193,6 +230,7 @@ fn stops_by(said: &Said) -> bool
             answer,
         } => stops(answer),
         Said::Line { form: _, answer } => stops(answer),
+        Said::Lines { text: _, stopped } => *stopped,
         Said::Fault { fault: _ } => false,
     }
 }

@@ -121,7 +121,7 @@ fn again_at<N>(stage: &Stage<N>) -> u64 {
     0
 }
 
-// When a receive that waits asks again, and a response for which there was no memory is tried again; what
+// When a receive that waits asks again, and what there was no memory to tell is tried again; what
 // reads or writes goes on once it can.
 fn asks_at<C: Clock>(clock: &C, doing: &Doing) -> u64 {
     match doing {
@@ -129,7 +129,8 @@ fn asks_at<C: Clock>(clock: &C, doing: &Doing) -> u64 {
             let end = patience.first_ms.saturating_add(patience.limit_ms);
             patience.asked_ms.saturating_add(ASKS_EACH_MS).min(end)
         }
-        Doing::Tells(_) => clock.now().saturating_add(TELLS_EACH_MS),
+        Doing::Says(_, _, _) | Doing::Tells(_) => clock.now().saturating_add(TELLS_EACH_MS),
+        Doing::Calls(_) => 0,
         Doing::Reads | Doing::Writes(_) => u64::MAX,
     }
 }

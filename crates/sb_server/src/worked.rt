@@ -1,5 +1,7 @@
 // Connections, worked out by hand.
-ghost use Rattle.std.specs.Prelude.{◌≡◌, ◌∷◌, [], codes, true, false, None, Some};
+ghost use Rattle.std.specs.Prelude.{◌≡◌, ◌∷◌, [], codes, replicate, true, false, None, Some, Err};
+ghost use Rattle.sb_machine.specs.declared.reply.Refusal.TheVariants.{BadCall};
+ghost use Rattle.sb_input.specs.Lines.{lines_of};
 ghost use Rattle.sb_machine.specs.declared.call.Act.TheVariants.{Receive};
 ghost use Rattle.sb_machine.specs.declared.call.Mode.TheVariants.{Lock};
 ghost use Rattle.sb_machine.specs.declared.call.Part.TheVariants.{Main};
@@ -11,8 +13,10 @@ ghost use Rattle.sb_server.specs.declared.telling.Turn.TheVariants.{Goes, Closes
 ghost use Rattle.sb_server.specs.declared.ending.ServeEnding.TheVariants.{Done, DoorFault, OutOfMemory};
 ghost use Rattle.sb_server.specs.declared.work.Stop.TheVariants.{Enough, Ended, Fault, Stopped, OutOfMemory as NoMemory};
 ghost use Rattle.sb_rest.specs.Worked.{q};
+ghost use Rattle.sb_server.specs.declared.body.LineAsk.TheVariants.{NoCall};
+ghost use Rattle.sb_server.specs.Bodies.{are_lines, has_lines, lines_in};
 ghost use Rattle.sb_server.specs.Asks.{is_close, lists_close, ms_in, waits};
-ghost use Rattle.sb_server.specs.Responds.{fault_bytes, turn_of};
+ghost use Rattle.sb_server.specs.Responds.{fault_bytes, lines_bytes, turn_of};
 ghost use Rattle.sb_server.specs.Serves.{serve_ending};
 ghost use Rattle.sb_server.specs.Talks.{refusal_bytes};
 
@@ -33,4 +37,20 @@ pub fn worked_connections()
     ensures door_first { serve_ending (NoMemory ∷ Fault ∷ Stopped ∷ []) ≡ DoorFault }
     ensures lost { serve_ending (Enough ∷ NoMemory ∷ []) ≡ OutOfMemory }
     ensures done { serve_ending (Enough ∷ Ended ∷ Stopped ∷ []) ≡ Done }
+{}
+
+/// The same of bodies of several script lines.
+pub fn worked_bodies()
+    ensures folded { has_lines ((codes "content-TYPE", codes "Application/X-NDJSON ;charset=utf-8") ∷ []) ≡ true }
+    ensures last_type { has_lines ((codes "Content-Type", codes "application/x-ndjson") ∷ (codes "Content-Type", codes "application/json") ∷ []) ≡ false }
+    ensures longer_type { has_lines ((codes "Content-Type", codes "application/x-ndjsons") ∷ []) ≡ false }
+    ensures no_type { has_lines ((codes "Accept", codes "application/x-ndjson") ∷ []) ≡ false }
+    ensures ended { lines_of (codes "a\nb\n") ≡ codes "a" ∷ codes "b" ∷ [] }
+    ensures separated { lines_of (codes "a\r\nb") ≡ codes "a\r" ∷ codes "b" ∷ [] }
+    ensures blank { are_lines (codes "a" ∷ codes " \t\r" ∷ codes "b" ∷ []) ≡ false }
+    ensures hundred { are_lines (replicate 100 (codes "a")) ≡ true }
+    ensures too_many { are_lines (replicate 101 (codes "a")) ≡ false }
+    ensures none { lines_in [] ≡ NoCall (Err (BadCall [])) ∷ [] }
+    ensures two_feeds { lines_in (codes "\n\n") ≡ NoCall (Err (BadCall [])) ∷ [] }
+    ensures response { lines_bytes (codes "{}\n") true false ≡ codes "HTTP/1.1 200 OK\r\nContent-Type: application/x-ndjson\r\nContent-Length: 3\r\nConnection: close\r\n\r\n{}\n" }
 {}

@@ -1,0 +1,96 @@
+-- Which bodies are of script lines, and what they ask for.
+use Rattle.std.specs.Prelude.{◌≡◌, ◌⊎◌, ℕ, List, [], ◌∷◌, ◌++◌, length, take, drop, fold, map, codes, Bool, false, not, nat_le, ◌&&◌, Result, Ok, Err, if◌then◌else◌}
+use Rattle.std.specs.List.{flat_map, list_all, list_any}
+use Rattle.std.specs.Str.{is_utf8}
+use Rattle.sb_machine.specs.Ordered.{IsActInOrder}
+use Rattle.sb_machine.specs.declared.reply.Refusal.TheVariants.{BadCall}
+use Rattle.sb_desk.specs.Lists.{Each}
+use Rattle.form_urlencoded.specs.Form.{split_once}
+use Rattle.sb_http.specs.Fields.{Field, same_word}
+use Rattle.sb_input.specs.Lines.{lines_of, is_blank, NoFeed}
+use Rattle.sb_lines.specs.Lines.{line_of}
+use Rattle.sb_lines.specs.declared.line.Line.{Line as ScriptLine}
+use Rattle.sb_rest.specs.Batches.{is_blank as is_space_or_tab}
+use Rattle.sb_rest.specs.Headers.{type_name}
+use Rattle.sb_server.specs.declared.body.LineAsk.{LineAsk}
+use Rattle.sb_server.specs.declared.body.LineAsk.TheVariants.{Call, NoCall}
+
+-- ---- the media type
+
+-- the media type of JSON values on a line each
+abbrev pub lines_type : List ℕ
+lines_type = codes "application/x-ndjson"
+
+-- the type in any case, and no more than blanks behind it
+abbrev pub is_lines_word : List ℕ → Bool
+is_lines_word v = same_word lines_type (take (length lines_type) v) && list_all is_space_or_tab (drop (length lines_type) v)
+
+-- parameters may stand behind a semicolon (RFC 9110, 8.3.1)
+unfoldable pub is_lines_type : List ℕ → Bool
+is_lines_type v = is_lines_word (split_once 59 v).0
+
+-- whether the body is of lines, by this field or by those before
+abbrev pub or_lines : Bool → Field → Bool
+or_lines so_far f = if same_word type_name f.0 then is_lines_type f.1 else so_far
+
+-- of several Content-Type lines the last counts
+abbrev pub has_lines_from : Bool → List Field → Bool
+has_lines_from so_far fields = fold or_lines so_far fields
+
+-- whether a body is of lines, one or more
+abbrev pub has_lines : List Field → Bool
+has_lines fields = has_lines_from false fields
+
+-- ---- one line
+
+-- the call of a script line and the form of its reply, or the key at fault
+abbrev pub line_in : List ℕ → Result ScriptLine (List ℕ)
+line_in line = if is_utf8 line then line_of line else Err []
+
+-- ---- several lines
+
+-- a line that is no call is answered by the refusal of its key
+abbrev pub asked_by : Result ScriptLine (List ℕ) → LineAsk
+asked_by (Ok line) = Call line
+asked_by (Err key) = NoCall (Err (BadCall key))
+
+-- as many lines may be in one body
+abbrev pub max_lines : ℕ
+max_lines = 100
+
+-- one line or more, up to that number, none of white space alone
+abbrev pub are_lines : List (List ℕ) → Bool
+are_lines lines = nat_le 1 (length lines) && (nat_le (length lines) max_lines && not (list_any is_blank lines))
+
+-- each of these lines; else they are as one that is no call, whose key is that of no JSON object
+abbrev pub asked_by_each : List (List ℕ) → List LineAsk
+asked_by_each lines = if are_lines lines then map (λ line. asked_by (line_in line)) lines else asked_by (Err []) ∷ []
+
+-- what the lines of a body ask for; each ends at a line feed, which the last may lack
+abbrev pub lines_in : List ℕ → List LineAsk
+lines_in body = asked_by_each (lines_of body)
+
+-- the lists of its call are in order
+abbrev pub IsLineInOrder : LineAsk → Type 0
+IsLineInOrder (Call line) = IsActInOrder line.timed.call.act
+IsLineInOrder (NoCall answer) = Unit {0}
+
+-- ---- lines one after another
+
+-- the next line of a text, up to its line feed or the end, and what is behind it
+abbrev pub IsNextLine : List ℕ → List ℕ → List ℕ → Type 0
+IsNextLine text line behind = lines_of text ≡ line ∷ lines_of behind
+
+-- ---- laws
+
+-- each line with a line feed behind it
+abbrev pub with_feeds : List (List ℕ) → List ℕ
+with_feeds lines = flat_map (λ line. line ++ 10 ∷ []) lines
+
+-- so the lines of a body are that body, or that with a line feed behind its last line, which had none
+abbrev pub LinesJoin : Type 0
+LinesJoin = (body : List ℕ) → (with_feeds (lines_of body) ≡ body) ⊎ (with_feeds (lines_of body) ≡ body ++ 10 ∷ [])
+
+-- none of them has a line feed
+abbrev pub LinesHaveNoFeed : Type 0
+LinesHaveNoFeed = (body : List ℕ) → Each NoFeed (lines_of body)
