@@ -21,6 +21,10 @@ const TRIES_AGAIN_MS: u64 = 100;
 // Behind so many reads and writes it is looked who else may go on.
 const GLANCES_EACH: u64 = 8;
 
+// So many connections are taken between two looks at who may go on, so that a flood of callers keeps those
+// who are served waiting for a short time.
+const GREETS_EACH: u64 = 8;
+
 /// The token of the listener; a seat's is one more than its place.
 pub(crate) const LISTENER: Token = Token(0);
 
@@ -33,6 +37,10 @@ pub(crate) struct Hall<R: std::rt::Clock + Drop> {
     seats: Vec<Seat>,
     // Somebody may stand at the listener.
     callers: AtomicBool,
+    // Callers are left for the next look.
+    more: AtomicBool,
+    // How many connections were taken since the last look.
+    greets: AtomicU64,
     // When the listener is looked at again, if nothing comes.
     again_ms: AtomicU64,
     // When the seats are looked at again.
@@ -68,6 +76,8 @@ impl<R: std::rt::Clock + Drop> Hall<R> {
             registry,
             seats,
             callers: AtomicBool::new(true),
+            more: AtomicBool::new(false),
+            greets: AtomicU64::new(0),
             again_ms: AtomicU64::new(u64::MAX),
             looks_ms: AtomicU64::new(0),
             moves: AtomicU64::new(0),
@@ -90,6 +100,21 @@ impl<R: std::rt::Clock + Drop> Hall<R> {
         let passed = self.start.elapsed(&self.system).unwrap_or(Duration::ZERO);
         let whole_ms = passed.as_secs().saturating_mul(1000);
         whole_ms.saturating_add(u64::from(passed.subsec_millis()))
+    }
+
+    /// Whether a connection may be taken before the next look.
+    pub(crate) fn may_greet(&self) -> bool {
+        if self.greets.load(Ordering::SeqCst) < GREETS_EACH {
+            return true;
+        }
+        self.more.store(true, Ordering::SeqCst);
+        self.is_left();
+        false
+    }
+
+    /// A connection was taken.
+    pub(crate) fn greeted(&self) {
+        self.greets.fetch_add(1, Ordering::SeqCst);
     }
 
     /// Nobody stands at the listener.
@@ -122,12 +147,19 @@ impl<R: std::rt::Clock + Drop> Hall<R> {
 
     /// Waits until something comes, or this reading does, or a second has gone.
     pub(crate) fn wait<C: Clock>(&self, clock: &C, until_ms: u64) {
-        let again_ms = self.again_ms.load(Ordering::SeqCst);
         let most_ms = until_ms.saturating_sub(clock.now()).min(LOOKS_EACH_MS);
-        let tries_ms = again_ms.saturating_sub(self.now_ms());
-        if !self.watch_for(most_ms.min(tries_ms)) {
+        if !self.watch_for(most_ms.min(self.tries_ms())) {
             clock.pause();
         }
+    }
+
+    // For how long the listener needn't be looked at, if nothing comes.
+    fn tries_ms(&self) -> u64 {
+        if self.more.load(Ordering::SeqCst) {
+            return 0;
+        }
+        let again_ms = self.again_ms.load(Ordering::SeqCst);
+        again_ms.saturating_sub(self.now_ms())
     }
 
     // Waits at most for so long, and calls whom something has come for. False where another thread waits
@@ -157,6 +189,10 @@ impl<R: std::rt::Clock + Drop> Hall<R> {
 
     // Looks at the listener and at the seats at this reading, where their time has come.
     fn look(&self, now_ms: u64) {
+        self.greets.store(0, Ordering::SeqCst);
+        if self.more.swap(false, Ordering::SeqCst) {
+            self.callers.store(true, Ordering::SeqCst);
+        }
         if now_ms >= self.again_ms.load(Ordering::SeqCst) {
             self.again_ms.store(u64::MAX, Ordering::SeqCst);
             self.callers.store(true, Ordering::SeqCst);

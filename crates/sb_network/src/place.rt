@@ -12,8 +12,9 @@ use std::io;
 use std::io::{Eprint, ErrorKind};
 use std::sync::Arc;
 
-/// One place of a hall: a door over the listener of all, which never ends. Where nobody calls, and where
-/// the system has no room for a connection, it gives none yet; the latter is told once on standard error.
+/// One place of a hall: a door over the listener of all, which never ends. Where nobody calls, where
+/// several have just been let in, and where the system has no room for a connection, it gives none yet; the
+/// last is told once on standard error.
 /// Any other error of the system is a counted fault, and told.
 #[derive(Drop)]
 pub struct Place<R: Eprint + std::rt::Clock + Drop> {
@@ -90,9 +91,13 @@ impl<R: Eprint + std::rt::Clock + Drop> Door for Place<R> {
 
     fn accept(&mut self) -> Result<Given<Caller<R>>, DoorFault> {
         self.want(true);
+        if !self.hall.may_greet() {
+            return Ok(Given::NoneYet);
+        }
         match self.next() {
             Ok(caller) if self.out < u64::MAX => {
                 self.want(false);
+                self.hall.greeted();
                 self.out += 1;
                 Ok(Given::One(caller))
             }
