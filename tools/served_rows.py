@@ -7,7 +7,7 @@ PROGRAM is the built program (crates/sb_bus/out/sb_bus). A server is started on 
 received as docs/REST.md has it, settled by its Location, and the same two requests are sent whole, pipelined and cut
 after each byte. A thousand sends in one piece have the numbers 1 to 1,000. The largest message comes back byte for
 byte. A moment lies between two readings of the clock here. Two connections are open at once where a receive waits for
-a send, also in one thread. What a server tells on standard error, with a log of its calls, is read. A server that has no file left for a connection says so once, and takes it as soon as there
+a send. What a server tells on standard error, with a log of its calls, is read. A server that has no file left for a connection says so once, and takes it as soon as there
 is one. The one worker of a server is free again once its caller has said nothing for 60 seconds, or has taken nothing
 of its response for some minutes; --short leaves these two out. The exit status is 1 where something is answered
 otherwise.
@@ -147,14 +147,6 @@ def system_clock(port):
     wants(before <= enqueued <= between <= locked <= after, f"{enqueued} and {locked} at {before}, {between}, {after}")
 
 
-def two_in_one_thread(program):
-    """The same of a server with one thread."""
-    port = free_port()
-    with tempfile.TemporaryDirectory() as folder, serving(program, folder, port, "--threads", "1"):
-        client(program, port, ['{"do":"create-queue","name":"q"}'], 0)
-        two_at_once(port)
-
-
 def two_at_once(port):
     """A receive waits on one connection while another sends."""
     got = []
@@ -182,7 +174,6 @@ def all_rows(program, is_short):
         two_at_once(port)
         port_in_use(program, port)
     two_workers_end(program)
-    two_in_one_thread(program)
     lines_told(program)
     out_of_files(program)
     if not is_short:
@@ -238,7 +229,7 @@ def caller_who_takes_nothing(program):
 
 def out_of_files(program):
     """Three workers and files for two connections: the third is told once, and taken when one of them has ended."""
-    words, most = ["--workers", "3", "--threads", "1"], 29  # what three workers in a thread may come to
+    words, most = ["--workers", "3"], 29  # what three workers may come to
     with tempfile.TemporaryDirectory() as folder:
         said = os.path.join(folder, "said")
         with open(said, "wb") as stderr:

@@ -61,10 +61,10 @@ pub fn top_alone<D: Disk, C: Clock, S: Source, K: Sink, N: Link>(
 }
 
 /// Does what the words name over what it is handed. A server (`serve`) serves the connections of these
-/// doors to whom `access` lets in, each door by a worker, all by so many threads, which wait in the
-/// lobby, and ends once all workers have; its status
-/// is 0, 4 to 8 or 14 as `serve_over` says, and the watcher is told of it. All else is `top_alone`, and
-/// the threads, the doors, the lobby and the watcher aren't used.
+/// doors to whom `access` lets in, each door by a worker, all in the calling thread,
+/// which waits in the lobby, and ends once all workers have; its status is 0, 4 to 8 or 14 as
+/// `serve_over` says, and the watcher is told of it. All else is `top_alone`, and the doors, the lobby
+/// and the watcher aren't used.
 #[tactic(auto, using(crate::proofs::Calls::unnamed))]
 pub fn top<
     T: Threads + Wait + Sync,
@@ -89,7 +89,6 @@ pub fn top<
     output: &mut K,
     doors: &mut Vec<R>,
     lobby: &L,
-    threads: usize,
     key: &[u8],
     link: &mut N,
     watcher: &W,
@@ -140,7 +139,6 @@ where
             output,
             doors,
             lobby,
-            threads,
             form.connections,
             form.max_jump,
             watcher,

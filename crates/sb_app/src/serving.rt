@@ -22,9 +22,9 @@ use std::alloc::{AllocError, Global};
 use std::sync::Wait;
 use std::thread::Threads;
 
-/// Serves the connections of these doors, at most so many each, by so many threads, which wait in the
-/// lobby, over the namespace of these disks, to whom `access` lets in, and tells the numbers of its history once all workers have ended. The status
-/// is 0; 5 for a disk that failed, 6 for a journal that can't be trusted, 8 for a door that failed, 7
+/// Serves the connections of these doors, at most so many each, in the calling thread, which waits in
+/// the lobby, over the namespace of these disks, to whom `access` lets in, and tells the numbers of its
+/// history once all workers have ended. The status is 0; 5 for a disk that failed, 6 for a journal that can't be trusted, 8 for a door that failed, 7
 /// for want of memory and 4 for a fault of the output: the first of 5, 8, 7 and 4 where several came. It
 /// is 14, and no door is used, where behind the opening the clock reads more than `max_jump` days past
 /// the moment of the namespace, by 0 never. The salt is that of a new journal.
@@ -48,7 +48,6 @@ pub fn serve_over<
     output: &mut K,
     doors: &mut Vec<R>,
     lobby: &L,
-    threads: usize,
     most: u64,
     max_jump: u32,
     watcher: &W,
@@ -96,7 +95,6 @@ where
         doors,
         clock,
         lobby,
-        threads,
         most,
     );
     drop(routes);

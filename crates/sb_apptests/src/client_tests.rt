@@ -127,7 +127,6 @@ fn answers<T: Threads + Wait + Sync>(
         &mut output,
         &mut doors,
         &PauseLobby,
-        1,
         &[],
         &mut link,
         &NoWatcher,

@@ -167,7 +167,6 @@ fn leaves<T: Threads + Wait + Sync>(
         &mut output,
         &mut doors,
         &PauseLobby,
-        1,
         &[],
         &mut NoLink::new(),
         heard,

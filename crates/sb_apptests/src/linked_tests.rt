@@ -14,7 +14,9 @@ use sb_desk::{Desk, NewFault, Pass, Served};
 use sb_lines::{Form, read_line, reply_line};
 use sb_machine::{Answer, TimedCall};
 use sb_node::Node;
-use sb_outside::{Bytes, MemConn, MemDisk, MemDoor, MemLink, MemSink, MemSource, NoLink, PauseLobby, StepClock};
+use sb_outside::{
+    Bytes, MemConn, MemDisk, MemDoor, MemLink, MemSink, MemSource, NoLink, PauseLobby, StepClock,
+};
 use sb_rest::Access;
 use std::sync::Wait;
 use std::test::Fail;
@@ -61,7 +63,6 @@ fn served<T: Threads + Wait + Sync>(rt: &HostRuntime, threads: &T) -> Result<Vec
         &mut output,
         &mut doors,
         &PauseLobby,
-        1,
         &[],
         &mut NoLink::new(),
         &NoWatcher,

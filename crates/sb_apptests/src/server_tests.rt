@@ -263,7 +263,6 @@ pub(crate) fn served<T: Threads + Wait + Sync>(
         output,
         doors,
         &PauseLobby,
-        1,
         &[],
         &mut NoLink::new(),
         &NoWatcher,

@@ -150,7 +150,6 @@ fn ran<T: Threads + Wait + Sync>(
         &mut output,
         &mut doors,
         &PauseLobby,
-        1,
         &[],
         &mut NoLink::new(),
         &NoWatcher,

@@ -6,8 +6,8 @@ use crate::server_tests::SERVE;
 use crate::tests::{ONE_EVENT, SALT};
 use sb_app::{NoWatcher, top};
 use sb_outside::{
-    Clock, Conn, Door, DoorFault, Given, MemDisk, MemSink, MemSource, NoLink, PauseLobby, ReadFault,
-    WriteFault,
+    Clock, Conn, Door, DoorFault, Given, MemDisk, MemSink, MemSource, NoLink, PauseLobby,
+    ReadFault, WriteFault,
 };
 use sb_rest::Access;
 use std::sync::Wait;
@@ -165,13 +165,12 @@ fn is_given(door: &Single<'_>, begins: &[u8], ends: &[u8]) -> bool {
     }
 }
 
-// Serves these doors over a queue without a message by so many threads, and gives the status.
+// Serves these doors over a queue without a message, and gives the status.
 fn serve_doors<T: Threads + Wait + Sync>(
     rt: &HostRuntime,
     threads: &T,
     clock: &Still,
     doors: &mut Vec<Single<'_>>,
-    count: usize,
 ) -> Result<u8, Fail> {
     let alloc = rt.alloc();
     let disk_a = MemDisk::new(alloc, ONE_EVENT.to_vec(alloc)?, Vec::new(alloc))?;
@@ -191,7 +190,6 @@ fn serve_doors<T: Threads + Wait + Sync>(
         &mut output,
         doors,
         &PauseLobby,
-        count,
         &[],
         &mut NoLink::new(),
         &NoWatcher,
@@ -199,18 +197,14 @@ fn serve_doors<T: Threads + Wait + Sync>(
     Ok(status)
 }
 
-fn tries_two<T: Threads + Wait + Sync>(
-    rt: &HostRuntime,
-    threads: &T,
-    count: usize,
-) -> Result<(), Fail> {
+fn tries_two<T: Threads + Wait + Sync>(rt: &HostRuntime, threads: &T) -> Result<(), Fail> {
     let clock = Still {
         pauses: AtomicU64::new(0),
     };
     let mut doors = Vec::new(rt.alloc());
     doors.push(door(rt, &clock, 0, u64::MAX, RECEIVE))?;
     doors.push(door(rt, &clock, 1, u64::MAX, SEND))?;
-    if serve_doors(rt, threads, &clock, &mut doors, count)? != 0 {
+    if serve_doors(rt, threads, &clock, &mut doors)? != 0 {
         return Err(Fail::from("another status"));
     }
     let (Some(receiving), Some(sending)) = (doors.first(), doors.get(1)) else {
@@ -227,8 +221,7 @@ fn tries_two<T: Threads + Wait + Sync>(
 
 #[test]
 fn two_connections_at_once(rt: HostRuntime) -> Result<(), Fail> {
-    tries_two(&rt, &rt, 2)?;
-    tries_two(&rt, &rt, 1)
+    tries_two(&rt, &rt)
 }
 
 // A caller ends in the midst of its wait, then a message is sent: it stands in the queue.
@@ -241,12 +234,18 @@ fn who_has_gone_takes_nothing(rt: HostRuntime) -> Result<(), Fail> {
     doors.push(door(&rt, &clock, 0, 20, TAKE))?;
     doors.push(door(&rt, &clock, 40, u64::MAX, SEND))?;
     doors.push(door(&rt, &clock, 60, u64::MAX, TAKE))?;
-    assert_eq!(rt; serve_doors(&rt, &rt, &clock, &mut doors, 1)?, 0);
+    assert_eq!(rt; serve_doors(&rt, &rt, &clock, &mut doors)?, 0);
     let (Some(gone), Some(sending), Some(taking)) = (doors.first(), doors.get(1), doors.get(2))
     else {
         return Err(Fail::from("the doors come back"));
     };
-    assert!(rt; is_given(gone, b"HTTP/1.1 204 No Content\r\n", b"Connection: close\r\n\r\n"));
+    assert!(rt;
+        is_given(
+            gone,
+            b"HTTP/1.1 204 No Content\r\n",
+            b"Connection: close\r\n\r\n"
+        )
+    );
     assert!(rt; is_given(sending, b"HTTP/1.1 201 Created\r\n", b"\r\n\r\n"));
     assert!(rt; is_given(taking, b"HTTP/1.1 200 OK\r\n", b"\r\n\r\nhi"));
     Ok(())

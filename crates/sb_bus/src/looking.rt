@@ -32,7 +32,6 @@ pub(crate) fn over_files<T: Threads + Wait + Sync>(call: &Call<T>, folder: &str)
         disk_b,
         &mut doors,
         &PauseLobby,
-        1,
         &mut NoLink::new(),
     );
     say(rt, status, folder)

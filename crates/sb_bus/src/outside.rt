@@ -15,7 +15,7 @@ use sb_words::{Command, Form, WordsFault, asked_text, fault_text, read_form};
 use std::sync::Wait;
 use std::thread::Threads;
 use std::time::Duration;
-use std::{env, io, thread};
+use std::{env, io};
 
 // The status where something of the outside can't be had.
 const NOT_MADE: u8 = 11;
@@ -26,8 +26,8 @@ const OUTPUT_FAILED: u8 = 4;
 // The status for want of memory.
 const NO_MEMORY: u8 = 7;
 
-// How many threads serve where the words name no number and there are so many processors.
-const USUAL_THREADS: u16 = 4;
+// How many threads serve.
+const THREADS: u16 = 1;
 
 const NANOS_A_SECOND: u64 = 1_000_000_000;
 
@@ -120,7 +120,7 @@ fn status_of<T: Threads + Wait + Sync>(call: &mut Call<T>, form: &Form) -> u8 {
         Command::Check if form.look => over_files(call, form.folder),
         Command::Run | Command::Check => {
             let mut doors: Vec<NoDoor> = Vec::new(call.rt.alloc());
-            over_folder(call, form.folder, &mut doors, &PauseLobby, 1)
+            over_folder(call, form.folder, &mut doors, &PauseLobby)
         }
         Command::Serve => {
             let Ok(access) = access_of(call.rt, form, &key) else {
@@ -152,10 +152,8 @@ fn access_of(rt: &HostRuntime, form: &Form, key: &[u8]) -> io::Result<Access> {
 // A server over the files of a folder, with a door for each worker over one listener.
 fn over_listener<T: Threads + Wait + Sync>(call: &Call<T>, form: &Form) -> u8 {
     let (rt, port) = (call.rt, form.port);
-    let threads = threads_for(call.threads, form);
-    let places = places_for(rt, form.workers, threads);
-    let (places, threads) = (usize::from(places), usize::from(threads));
-    let bound = open_halls(rt, rt.alloc(), port, places, threads);
+    let places = usize::from(places_for(rt, form.workers));
+    let bound = open_halls(rt, rt.alloc(), port, places, usize::from(THREADS));
     if let Err(error) = &bound {
         let _ = eprintln!(rt;
             "bus: 127.0.0.1:{port}: {error}; name another port, or end what has it"
@@ -167,36 +165,18 @@ fn over_listener<T: Threads + Wait + Sync>(call: &Call<T>, form: &Form) -> u8 {
     let Ok(mut doors) = logging(rt, doors, form.log) else {
         return say(rt, NO_MEMORY, "");
     };
-    let status = over_folder(call, form.folder, &mut doors, &halls, threads);
+    let status = over_folder(call, form.folder, &mut doors, &halls);
     let _ = eprintln!(rt; "bus: the server ended with status {status}");
     status
 }
 
-// How many threads serve by this form: as it names, or as there are processors, up to 4, and no more
-// than there are workers.
-fn threads_for<T: Threads>(threads: &T, form: &Form) -> u16 {
-    let wanted = match form.threads {
-        0 => processors(threads),
-        named => named,
-    };
-    wanted.min(form.workers).max(1)
-}
-
-// How many processors there are, up to 4; 4 where the system doesn't say it.
-fn processors<T: Threads>(threads: &T) -> u16 {
-    match thread::available_parallelism(threads) {
-        Ok(count) if count.get() < usize::from(USUAL_THREADS) => count.get() as u16,
-        _ => USUAL_THREADS,
-    }
-}
-
 // How many of so many workers have files for their connections. Where these are fewer, a line on standard
 // error says so.
-fn places_for(rt: &HostRuntime, workers: u16, threads: u16) -> u16 {
+fn places_for(rt: &HostRuntime, workers: u16) -> u16 {
     let Some(files) = files_allowed(rt) else {
         return workers;
     };
-    let places = places_within(files, workers, threads);
+    let places = places_within(files, workers, THREADS);
     if places < workers {
         let _ = eprintln!(rt;
             "bus: {workers} connections at once want more open files than the limit, {files}, allows; {places} are served at once"
@@ -244,7 +224,7 @@ fn over_nothing<T: Threads + Wait + Sync, N: Link>(call: &Call<T>, link: &mut N)
         return NO_MEMORY;
     };
     let mut doors: Vec<NoDoor> = Vec::new(alloc);
-    over_disks(call, disk_a, disk_b, &mut doors, &PauseLobby, 1, link)
+    over_disks(call, disk_a, disk_b, &mut doors, &PauseLobby, link)
 }
 
 // Calls the top over the files of a folder, which is locked meanwhile, and these doors.
@@ -253,7 +233,6 @@ fn over_folder<T: Threads + Wait + Sync, R: Door + Send, L: Lobby + Sync>(
     folder: &str,
     doors: &mut Vec<R>,
     lobby: &L,
-    threads: usize,
 ) -> u8
 where
     R::Conn: Send,
@@ -271,15 +250,7 @@ where
     let Some((disk_a, disk_b)) = disks_in(rt, rt.alloc(), folder, rt) else {
         return NOT_MADE;
     };
-    let status = over_disks(
-        call,
-        disk_a,
-        disk_b,
-        doors,
-        lobby,
-        threads,
-        &mut NoLink::new(),
-    );
+    let status = over_disks(call, disk_a, disk_b, doors, lobby, &mut NoLink::new());
     drop(lock);
     drop(streams);
     say(rt, status, folder)
@@ -292,20 +263,11 @@ pub(crate) fn over_disks<
     R: Door + Send,
     L: Lobby + Sync,
     N: Link,
->(
-    call: &Call<T>,
-    disk_a: D,
-    disk_b: D,
-    doors: &mut Vec<R>,
-    lobby: &L,
-    threads: usize,
-    link: &mut N,
-) -> u8
+>(call: &Call<T>, disk_a: D, disk_b: D, doors: &mut Vec<R>, lobby: &L, link: &mut N) -> u8
 where
     R::Conn: Send,
 {
     let rt = call.rt;
-    let threads = doors.len();
     let (status, disks) = top(
         call.threads,
         rt.alloc(),
@@ -319,7 +281,6 @@ where
         &mut Writing::new(rt.stdout(), rt),
         doors,
         lobby,
-        threads,
         &call.key,
         link,
         &Printing::new(rt, &call.clock, call.port),

@@ -24,10 +24,6 @@ fn says_what_is_wrong(rt: HostRuntime) -> Result<(), Fail> {
             "serve --data=a --port=80 --workers=65536",
             "--workers takes a number from 1 to 65535",
         ),
-        (
-            "serve --data=a --port=80 --threads=65",
-            "--threads takes a number from 1 to 64",
-        ),
         ("serve --data=a --port=80 --host=", hosts),
         (
             "run --data=a --max-jump=07",

@@ -1,4 +1,4 @@
-// Several doors at once, each with a worker, and many workers in each thread.
+// Several doors at once, each with a worker, and all workers in one thread.
 ghost use Rattle.std.specs.Prelude.{◌≡◌, ◌≤◌, ◌<◌, ℕ, true, All, length, slice_index_or};
 ghost use Rattle.sb_desk.specs.Desks.{IsOf};
 ghost use Rattle.sb_desk.specs.Lists.{Each};
@@ -21,8 +21,8 @@ use std::sync::Wait;
 use std::thread::Threads;
 
 /// Serves each door by a worker of its own with one of the last passes, at most so many connections
-/// each. The calling thread goes round all of them; the number of threads isn't used yet. Passes and
-/// doors stand in their lists as before.
+/// each. The calling thread goes round all of them: each makes one step where it may, and where none may
+/// it waits in the lobby. Passes and doors stand in their lists as before.
 pub fn serve<
     V: Served + Send,
     R: Threads + Wait + Sync,
@@ -39,7 +39,6 @@ pub fn serve<
     doors: &mut Vec<D>,
     clock: &C,
     lobby: &L,
-    threads: usize,
     most: u64,
 ) -> ServeEnding
 where
@@ -61,7 +60,6 @@ where
         desk,
         clock,
         lobby,
-        threads,
         most,
         jobs.as_mut_slice(),
     );
@@ -85,7 +83,6 @@ fn serve_doors<
     desk: &Desk<V>,
     clock: &C,
     lobby: &L,
-    threads: usize,
     most: u64,
     jobs: &mut [Job<D, D::Conn>],
 )
@@ -98,7 +95,6 @@ where
     if jobs.is_empty() {
         return;
     }
-    let _ = threads;
     serve_share(rt, alloc, routes, access, desk, clock, lobby, 0, jobs);
 }
 

@@ -13,7 +13,7 @@ over command folder = record (form_of command) { folder = folder }
 abbrev pub with_port : ℕ → Form
 with_port port = record (form_of Client) { port = port; patience = 120 }
 
--- a server's call that names no threads
+-- a server's call
 abbrev pub serving : (workers connections : ℕ) → Form
 serving workers connections = record (over Serve (codes "a")) { port = 80; workers = workers; connections = connections; max_jump = 400 }
 
@@ -36,8 +36,7 @@ check_with option = codes "check" ∷ codes "--data=a" ∷ option ∷ []
 -- the options of a server, and the form
 abbrev pub servers : List (List Text × Form)
 servers = ([], serving 1024 (2 ^ 64 - 1)) ∷ (codes "--workers=65535" ∷ codes "--connections" ∷ codes "1000000" ∷ [], serving 65535 1000000)
-    ∷ (codes "--connections=1" ∷ codes "--workers" ∷ codes "1" ∷ [], serving 1 1) ∷ (codes "--workers=2" ∷ [], serving 2 (2 ^ 64 - 1)) ∷ (codes "--connections=9" ∷ [], serving 1024 9)
-    ∷ (codes "--threads=64" ∷ [], record (serving 1024 (2 ^ 64 - 1)) { threads = 64 }) ∷ (codes "--threads" ∷ codes "1" ∷ codes "--workers=3" ∷ [], record (serving 3 (2 ^ 64 - 1)) { threads = 1 }) ∷ []
+    ∷ (codes "--connections=1" ∷ codes "--workers" ∷ codes "1" ∷ [], serving 1 1) ∷ (codes "--workers=2" ∷ [], serving 2 (2 ^ 64 - 1)) ∷ (codes "--connections=9" ∷ [], serving 1024 9) ∷ []
 
 -- the options of a server that say who may call it and how far time may jump, and the form
 abbrev pub callers : List (List Text × Form)
@@ -67,7 +66,6 @@ no_forms = [] ∷ (codes "serve" ∷ []) ∷ (codes "run" ∷ []) ∷ (codes "ru
 abbrev pub no_servers : List (List Text)
 no_servers = (codes "serve" ∷ codes "--data=a" ∷ []) ∷ (codes "serve" ∷ codes "--port=80" ∷ []) ∷ (codes "serve" ∷ codes "--data=a" ∷ codes "--port=0" ∷ [])
     ∷ serve_with (codes "--workers" ∷ codes "65536" ∷ []) ∷ serve_with (codes "--workers=0" ∷ []) ∷ serve_with (codes "--workers=04" ∷ []) ∷ serve_with (codes "--workers=" ∷ [])
-    ∷ serve_with (codes "--threads=0" ∷ []) ∷ serve_with (codes "--threads=65" ∷ []) ∷ serve_with (codes "--threads=1" ∷ codes "--threads=1" ∷ [])
     ∷ serve_with (codes "--connections=0" ∷ []) ∷ serve_with (codes "--connections=1000001" ∷ []) ∷ serve_with (codes "--connections=2" ∷ codes "--connections=2" ∷ [])
     ∷ (codes "client" ∷ codes "--port=80" ∷ codes "--workers=2" ∷ []) ∷ []
 

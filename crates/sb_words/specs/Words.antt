@@ -49,9 +49,9 @@ check_command = (with_rule (with_rule (new_app (codes "check")) data_option) (fl
 abbrev pub client_command : Shape
 client_command = (with_rule (with_rule (with_rule (new_app (codes "client")) port_option) (value_option (codes "key"))) (value_option (codes "patience"))).top
 
--- a server with its folder, its port, its workers and their threads
+-- a server with its folder, its port and its workers
 abbrev pub plain_server : App
-plain_server = with_rule (with_rule (with_rule (with_rule (new_app (codes "serve")) data_option) port_option) (value_option (codes "workers"))) (value_option (codes "threads"))
+plain_server = with_rule (with_rule (with_rule (new_app (codes "serve")) data_option) port_option) (value_option (codes "workers"))
 
 -- the same, with its limits, and whether each call is told
 abbrev pub limited_server : App
@@ -77,7 +77,6 @@ pub record Form : Type 0 where
   pub folder : Text
   pub port : ℕ
   pub workers : ℕ
-  pub threads : ℕ
   pub connections : ℕ
   pub max_jump : ℕ
   pub hosts : List Text
@@ -93,7 +92,6 @@ form_value f = record {
   folder = f.folder.now;
   port = f.port;
   workers = f.workers;
-  threads = f.threads;
   connections = f.connections;
   max_jump = f.max_jump;
   hosts = map (λ h. h.now) f.hosts.items;
@@ -110,7 +108,6 @@ form_of command = record {
   folder = [];
   port = 0;
   workers = 0;
-  threads = 0;
   connections = 0;
   max_jump = 0;
   hosts = [];
@@ -151,11 +148,6 @@ port_by (Some word) = number_within 65535 word
 abbrev pub workers_by : Option Text → Option ℕ
 workers_by None = Some 1024
 workers_by (Some word) = number_within 65535 word
-
--- 1 to 64 threads; 0, by default, leaves their number to the program
-abbrev pub threads_by : Option Text → Option ℕ
-threads_by None = Some 0
-threads_by (Some word) = number_within 64 word
 
 -- after how many connections a worker ends, 1 to 1,000,000; by default there is no such end, which is the number 2^64 - 1: no worker
 -- ever takes so many
@@ -228,10 +220,10 @@ abbrev pub with_log : Option Form → Bool → Option Form
 with_log None log = None
 with_log (Some form) log = Some (record form { log = log })
 
--- all six have to be there
-abbrev pub open_server_at : Option Text → (port workers threads connections max_jump : Option ℕ) → Option Form
-open_server_at (Some folder) (Some port) (Some workers) (Some threads) (Some connections) (Some max_jump) = Some (record (form_of Serve) { folder = folder; port = port; workers = workers; threads = threads; connections = connections; max_jump = max_jump })
-open_server_at _ _ _ _ _ _ = None
+-- all five have to be there
+abbrev pub open_server_at : Option Text → (port workers connections max_jump : Option ℕ) → Option Form
+open_server_at (Some folder) (Some port) (Some workers) (Some connections) (Some max_jump) = Some (record (form_of Serve) { folder = folder; port = port; workers = workers; connections = connections; max_jump = max_jump })
+open_server_at _ _ _ _ _ = None
 
 -- a run by what was found for its options
 abbrev pub run_in : List Row → Option Form
@@ -247,7 +239,7 @@ client_in rows = client_at (port_by (first_of (codes "port") rows)) (key_by (fir
 
 -- a server that anybody may call, by what was found for its options
 abbrev pub open_server_in : List Row → Option Form
-open_server_in rows = open_server_at (first_of (codes "data") rows) (port_by (first_of (codes "port") rows)) (workers_by (first_of (codes "workers") rows)) (threads_by (first_of (codes "threads") rows)) (connections_by (first_of (codes "connections") rows)) (max_jump_by 400 (first_of (codes "max-jump") rows))
+open_server_in rows = open_server_at (first_of (codes "data") rows) (port_by (first_of (codes "port") rows)) (workers_by (first_of (codes "workers") rows)) (connections_by (first_of (codes "connections") rows)) (max_jump_by 400 (first_of (codes "max-jump") rows))
 
 -- a server by what was found for its options
 abbrev pub serve_in : List Row → Option Form

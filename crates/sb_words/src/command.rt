@@ -24,8 +24,6 @@ pub struct Form<'w> {
     pub port: u16,
     /// How many connections are served at once.
     pub workers: u16,
-    /// How many threads they are dealt out to, 1 to 64; 0 leaves it to the program.
-    pub threads: u16,
     /// After how many connections a worker ends; 2^64 - 1 where the words name no number, which is no
     /// end, as no worker takes so many.
     pub connections: u64,

@@ -167,7 +167,7 @@ fn limited_server<'a>(alloc: Global) -> Result<clap::Command<'a>, AllocError>
         .arg(log)
 }
 
-// The server with its folder, its port, its workers and their threads.
+// The server with its folder, its port and its workers.
 fn plain_server<'a>(alloc: Global) -> Result<clap::Command<'a>, AllocError>
     ensures app { IfOk result (λ c. app_of c ≡ line.plain_server) }
     ensures local { IfOk result (λ c. (fields_of c).has_globals ≡ false) }
@@ -178,19 +178,12 @@ fn plain_server<'a>(alloc: Global) -> Result<clap::Command<'a>, AllocError>
         "N",
         "How many connections are served at once: 1 to 65535 [default: 1024]",
     );
-    let threads = value_option(
-        alloc,
-        "threads",
-        "M",
-        "How many threads serve them: 1 to 64 [default: the processors, up to 4]",
-    );
     let about = "Answer the requests of connections";
     let example = "Example: bus serve --data data --port 8080";
     described(alloc, "serve", about, example)
         .arg(data_option(alloc))?
         .arg(port_option(alloc))?
-        .arg(workers)?
-        .arg(threads)
+        .arg(workers)
 }
 
 fn data_option<'a>(alloc: Global) -> Arg<'a>

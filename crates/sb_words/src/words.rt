@@ -20,9 +20,6 @@ const MAX_WORKERS: u64 = 65_535;
 /// How many workers there are where words name no number.
 const DEFAULT_WORKERS: u16 = 1024;
 
-/// The most threads that words may ask for.
-const MAX_THREADS: u64 = 64;
-
 /// The most connections of a worker that words may ask for.
 const MAX_CONNECTIONS: u64 = 1_000_000;
 
@@ -160,7 +157,6 @@ fn form_with<'w>(alloc: Global, command: Command) -> Form<'w>
         folder: "",
         port: 0,
         workers: 0,
-        threads: 0,
         connections: 0,
         max_jump: 0,
         hosts: Vec::new(alloc),
@@ -251,9 +247,6 @@ fn open_server_form<'w>(alloc: Global, options: &ArgMatches<'w>) -> Option<Form<
     let Some(workers) = workers_of(word_of(options, "workers")) else {
         return None;
     };
-    let Some(threads) = threads_of(word_of(options, "threads")) else {
-        return None;
-    };
     let Some(connections) = connections_of(word_of(options, "connections")) else {
         return None;
     };
@@ -264,7 +257,6 @@ fn open_server_form<'w>(alloc: Global, options: &ArgMatches<'w>) -> Option<Form<
         folder,
         port,
         workers,
-        threads,
         connections,
         max_jump,
         ..form_with(alloc, Command::Serve)
@@ -307,18 +299,6 @@ pub(crate) fn workers_of(word: Option<&str>) -> Option<u16>
         return None;
     };
     Some(workers as u16)
-}
-
-pub(crate) fn threads_of(word: Option<&str>) -> Option<u16>
-    ensures { result ≡ line.threads_by (option_map (λ w. w.now) word.entry) }
-{
-    let Some(word) = word else {
-        return Some(0);
-    };
-    let Some(threads) = number_within(word, MAX_THREADS) else {
-        return None;
-    };
-    Some(threads as u16)
 }
 
 pub(crate) fn connections_of(word: Option<&str>) -> Option<u64>
