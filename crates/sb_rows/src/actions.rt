@@ -1,10 +1,11 @@
 // What an action makes of a message.
 use crate::outcome::Rows;
-use anyhow::{Result, anyhow, bail};
+use anyhow::{Result, bail};
 use sb_model::{EvalFault, Message, Property, PropertyValue, Rows as List, Text};
 use sb_sqleval::run_action;
 use sb_sqltext::parse_action;
 use std::alloc::{AllocError, Global};
+use std::mem;
 
 /// Rows of an action and of what it makes of a message: its system texts and then its user properties,
 /// or the name of the fault, or `carried out` whatever that gives. Before them stands `message ACTION`,
@@ -32,22 +33,32 @@ fn empty_message(alloc: Global) -> Message {
     }
 }
 
-/// The message as an action leaves it, or its fault; no text is no action, and leaves it as it was.
-fn acted(alloc: Global, message: Message, action: &str) -> Result<Result<Message, EvalFault>> {
-    if action.is_empty() {
-        return Ok(Ok(message));
+// The message as the action of a text leaves it, or its fault; none where the text is no action.
+fn acted(alloc: Global, message: Message, text: &str) -> Option<Result<Message, EvalFault>> {
+    match parse_action(alloc, text) {
+        Ok(action) => {
+            let acted = run_action(alloc, &action, message);
+            drop(action);
+            Some(acted)
+        }
+        Err(_) => {
+            drop(message);
+            None
+        }
     }
-    let Ok(action) = parse_action(alloc, action) else {
-        bail!("no action: {action}");
-    };
-    Ok(run_action(alloc, &action, message))
 }
 
-/// The message that an action makes of an empty one.
+/// The message that an action makes of an empty one; that one itself where there is no text.
 pub fn message_by(alloc: Global, action: &str) -> Result<Message> {
-    acted(alloc, empty_message(alloc), action)?
-        .ok()
-        .ok_or(anyhow!("a fault of: {action}"))
+    let message = empty_message(alloc);
+    if action.is_empty() {
+        return Ok(message);
+    }
+    match acted(alloc, message, action) {
+        Some(Ok(message)) => Ok(message),
+        Some(Err(_)) => bail!("a fault of: {action}"),
+        None => bail!("no action: {action}"),
+    }
 }
 
 fn value_shown(alloc: Global, value: &PropertyValue) -> Result<String, AllocError> {
@@ -73,35 +84,63 @@ fn shown(alloc: Global, message: &Message) -> Result<String, AllocError> {
     parts.as_slice().join(alloc, " ")
 }
 
-// A message of so many user properties, each of them true.
-fn message_of_many(alloc: Global, count: u64) -> Result<Message, AllocError> {
-    let mut message = empty_message(alloc);
+// So many user properties, each of them true.
+fn many(alloc: Global, count: u64) -> Result<List<Property>, AllocError> {
+    let mut props = List::new(alloc);
     for number in 0..count {
         let name = format!(in alloc; "p{number:03}")?;
-        message.props.push(Property {
+        props.push(Property {
             name: Text::from_string(name),
             value: PropertyValue::Bool(true),
         })?;
     }
-    Ok(message)
+    Ok(props)
+}
+
+fn message_of_many(alloc: Global, count: &str) -> Result<Message> {
+    let props = many(alloc, count.parse::<u64>()?)?;
+    Ok(Message {
+        body: List::new(alloc),
+        sys: List::new(alloc),
+        props,
+        ttl: None,
+        schedule: None,
+    })
+}
+
+// What came of an action, unless that is wanted.
+fn told(
+    alloc: Global,
+    acted: Result<Message, EvalFault>,
+    wanted: &str,
+) -> Result<Option<String>, AllocError> {
+    let came = match acted {
+        Ok(message) => {
+            let came = shown(alloc, &message);
+            drop(message);
+            came
+        }
+        Err(fault) => format!(in alloc; "{fault:?}"),
+    };
+    Ok(Some(came?).filter(|came| came.as_str() != wanted && wanted != "carried out"))
 }
 
 impl Rows for Actions {
     fn set(&mut self, alloc: Global, key: &str, value: &str) -> Result<bool> {
-        self.message = match key {
+        let message = match key {
             "message" => message_by(alloc, value)?,
-            "properties" => message_of_many(alloc, value.parse::<u64>()?)?,
+            "properties" => message_of_many(alloc, value)?,
             _ => return Ok(false),
         };
+        drop(mem::replace(&mut self.message, message));
         Ok(true)
     }
 
     fn other(&self, alloc: Global, asked: &str, wanted: &str) -> Result<Option<String>> {
-        let came = match acted(alloc, self.message.clone()?, asked)? {
-            Ok(_message) if wanted == "carried out" => return Ok(None),
-            Ok(message) => shown(alloc, &message)?,
-            Err(fault) => format!(in alloc; "{fault:?}")?,
-        };
-        Ok(Some(came).filter(|came| came.as_str() != wanted))
+        let message = self.message.clone()?;
+        match acted(alloc, message, asked) {
+            Some(acted) => Ok(told(alloc, acted, wanted)?),
+            None => bail!("no action: {asked}"),
+        }
     }
 }

@@ -5,6 +5,7 @@ use crate::bytes::{http_bytes, shown};
 use crate::http::{request_of, response_bytes};
 use crate::journals::Journals;
 use crate::outcome::{Outcome, differing, no_such_key};
+use crate::requests::found_in;
 use crate::table::{Case, Line};
 use anyhow::{Context, Result, bail, ensure};
 use sb_http::{Incoming, Request, Response, write_response};
@@ -13,9 +14,7 @@ use sb_machine::{Answer, Call, Refusal};
 use sb_model::Text;
 use sb_node::Node;
 use sb_outside::MemDisk;
-use sb_rest::{
-    Access, RestFault, call_of, fault_response, host_of, line_response, response_of, wants_json,
-};
+use sb_rest::{RestFault, fault_response, host_of, line_response, response_of, wants_json};
 use sb_routes::Routes;
 use std::alloc::{AllocError, Global};
 
@@ -53,6 +52,18 @@ impl<'a> Conversation<'a> {
             cut: Vec::new(alloc),
             sizes: SIZES.to_vec(alloc)?,
         })
+    }
+
+    fn take_all(&mut self, alloc: Global, lines: &[Line<'a>], journals: &Journals) -> Result<()> {
+        let mut asked = "";
+        for line in lines {
+            let line = *line;
+            match line.key {
+                ">" => asked = line.value,
+                _ => self.take(alloc, asked, line, journals)?,
+            }
+        }
+        Ok(())
     }
 
     // Takes a line of the case, behind what was asked last.
@@ -101,15 +112,13 @@ fn conversation_of<'a>(
     journals: &Journals,
 ) -> Result<Conversation<'a>> {
     let mut read = Conversation::new(alloc)?;
-    let mut asked = "";
-    for line in &case.lines {
-        let line = *line;
-        match line.key {
-            ">" => asked = line.value,
-            _ => read.take(alloc, asked, line, journals)?,
+    match read.take_all(alloc, &case.lines, journals) {
+        Ok(()) => Ok(read),
+        Err(error) => {
+            drop(read);
+            Err(error)
         }
     }
-    Ok(read)
 }
 
 // The answer to a script line, at this moment, and the form in which it is shown.
@@ -169,7 +178,7 @@ fn response_to(
     request: &Request,
     moment: u64,
 ) -> Result<Response, AllocError> {
-    match call_of(alloc, routes, &Access::unlocked(alloc), request) {
+    match found_in(alloc, routes, request) {
         Ok(wanted) => {
             let host = host_of(request);
             let json = wants_json(request);
@@ -182,7 +191,20 @@ fn response_to(
     }
 }
 
-// What came in place of a response, if it isn't that.
+// What came in place of the response to a request, if it isn't that.
+fn tried(
+    alloc: Global,
+    routes: &Routes,
+    node: &mut Node<MemDisk>,
+    request: &Request,
+    exchange: &Exchange<'_>,
+) -> Result<Option<Outcome>, AllocError> {
+    let response = response_to(alloc, routes, node, request, exchange.moment)?;
+    let differs = other(alloc, &response, exchange);
+    drop(response);
+    differs
+}
+
 fn other(
     alloc: Global,
     response: &Response,
@@ -205,38 +227,185 @@ fn stream_of(alloc: Global, conversation: &Conversation<'_>) -> Result<Vec<u8>, 
     Ok(stream)
 }
 
-// Feeds the requests, one behind the other, in pieces of so many bytes, and looks at each response.
-fn converse(
+// Answers the requests that have come whole, with those of the exchanges that stand at a place and behind
+// it, and sets the place behind them; what came in place of a response that isn't so.
+fn answer_whole(
     alloc: Global,
+    routes: &Routes,
     node: &mut Node<MemDisk>,
-    conversation: &Conversation<'_>,
-    size: usize,
-) -> Result<Outcome> {
-    let routes = Routes::new(alloc)?;
-    let mut incoming = Incoming::new(alloc)?;
-    let mut left = conversation.exchanges.iter();
-    for piece in stream_of(alloc, conversation)?.chunks(size.max(1)) {
-        ensure!(incoming.feed(piece) == piece.len(), "a piece isn't taken");
-        for _ in 0..=piece.len() {
-            let Ok(next) = incoming.next_request() else {
-                bail!("no request of HTTP");
-            };
-            let Some(request) = next else {
-                break;
-            };
-            let exchange = left.next().context("one request more")?;
-            let response = response_to(alloc, &routes, node, &request, exchange.moment)?;
-            if let Some(differs) = other(alloc, &response, exchange)? {
-                return Ok(differs);
-            }
+    incoming: &mut Incoming,
+    exchanges: &[Exchange<'_>],
+    place: &mut usize,
+    most: usize,
+) -> Result<Option<Outcome>> {
+    for _ in 0..=most {
+        let Ok(next) = incoming.next_request() else {
+            bail!("no request of HTTP");
+        };
+        let Some(request) = next else {
+            break;
+        };
+        let exchange = exchanges.get(*place).context("one request more")?;
+        *place = place.saturating_add(1);
+        if let Some(differs) = tried(alloc, routes, node, &request, exchange)? {
+            return Ok(Some(differs));
         }
     }
-    ensure!(left.next().is_none(), "a request less");
+    Ok(None)
+}
+
+// Feeds a stream in pieces of so many bytes.
+fn feed(
+    alloc: Global,
+    routes: &Routes,
+    node: &mut Node<MemDisk>,
+    incoming: &mut Incoming,
+    conversation: &Conversation<'_>,
+    stream: &[u8],
+    size: usize,
+) -> Result<Outcome> {
+    let exchanges = conversation.exchanges.as_slice();
+    let mut place: usize = 0;
+    for piece in stream.chunks(size.max(1)) {
+        ensure!(incoming.feed(piece) == piece.len(), "a piece isn't taken");
+        if let Some(differs) = answer_whole(
+            alloc,
+            routes,
+            node,
+            incoming,
+            exchanges,
+            &mut place,
+            piece.len(),
+        )? {
+            return Ok(differs);
+        }
+    }
+    ensure!(place == exchanges.len(), "a request less");
     ensure!(
         incoming.left() == conversation.cut.len(),
         "other bytes are left"
     );
+    Ok(Outcome::Holds(exchanges.len() as u64))
+}
+
+fn feed_new(
+    alloc: Global,
+    routes: &Routes,
+    node: &mut Node<MemDisk>,
+    conversation: &Conversation<'_>,
+    stream: &[u8],
+    size: usize,
+) -> Result<Outcome> {
+    let mut incoming = Incoming::new(alloc)?;
+    let outcome = feed(
+        alloc,
+        routes,
+        node,
+        &mut incoming,
+        conversation,
+        stream,
+        size,
+    );
+    drop(incoming);
+    outcome
+}
+
+// Feeds the requests, one behind the other, in pieces of so many bytes, and looks at each response.
+fn converse(
+    alloc: Global,
+    routes: &Routes,
+    node: &mut Node<MemDisk>,
+    conversation: &Conversation<'_>,
+    size: usize,
+) -> Result<Outcome> {
+    let stream = stream_of(alloc, conversation)?;
+    let outcome = feed_new(alloc, routes, node, conversation, &stream, size);
+    drop(stream);
+    outcome
+}
+
+fn disk_of(alloc: Global, bytes: &[u8], failing: &[u64]) -> Result<MemDisk, AllocError> {
+    let bytes = bytes.to_vec(alloc)?;
+    let failing = failing.to_vec(alloc)?;
+    MemDisk::new(alloc, bytes, failing)
+}
+
+// A node over a disk that holds what a conversation begins with.
+fn node_of(alloc: Global, conversation: &Conversation<'_>) -> Result<Node<MemDisk>> {
+    let disk_a = disk_of(alloc, &conversation.disk, &conversation.failing)?;
+    match disk_of(alloc, &[], &[]) {
+        Ok(disk_b) => opened(alloc, disk_a, disk_b),
+        Err(error) => {
+            drop(disk_a);
+            Err(error.into())
+        }
+    }
+}
+
+fn opened(alloc: Global, disk_a: MemDisk, disk_b: MemDisk) -> Result<Node<MemDisk>> {
+    match Node::open(alloc, disk_a, disk_b, SALT) {
+        Ok(node) => Ok(node),
+        Err(fault) => {
+            drop(fault);
+            bail!("the node doesn't open")
+        }
+    }
+}
+
+// What disk a holds of a node that is closed.
+fn left_by(alloc: Global, node: Node<MemDisk>) -> Result<Vec<u8>, AllocError> {
+    let (disk_a, disk_b) = node.close();
+    drop(disk_b);
+    let left = disk_a.bytes().to_vec(alloc);
+    drop(disk_a);
+    left
+}
+
+// Tries a conversation in pieces of so many bytes, and keeps what it leaves where it holds.
+fn try_size(
+    alloc: Global,
+    routes: &Routes,
+    conversation: &Conversation<'_>,
+    size: usize,
+    case: &str,
+    journals: &mut Journals,
+) -> Result<Outcome> {
+    let mut node = node_of(alloc, conversation)?;
+    let came = converse(alloc, routes, &mut node, conversation, size);
+    let left = left_by(alloc, node);
+    let outcome = came?;
+    if let Outcome::Holds(_) = outcome {
+        journals.keep(alloc, case, left?)?;
+    }
+    Ok(outcome)
+}
+
+fn try_sizes(
+    alloc: Global,
+    routes: &Routes,
+    conversation: &Conversation<'_>,
+    case: &str,
+    journals: &mut Journals,
+) -> Result<Outcome> {
+    for size in &conversation.sizes {
+        let outcome = try_size(alloc, routes, conversation, *size, case, journals)?;
+        if let Outcome::Differs(_) = outcome {
+            return Ok(outcome);
+        }
+    }
     Ok(Outcome::Holds(conversation.exchanges.len() as u64))
+}
+
+fn try_read(
+    alloc: Global,
+    conversation: &Conversation<'_>,
+    case: &str,
+    journals: &mut Journals,
+) -> Result<Outcome> {
+    let routes = Routes::new(alloc)?;
+    let outcome = try_sizes(alloc, &routes, conversation, case, journals);
+    drop(routes);
+    outcome
 }
 
 /// Tries a case of requests at their moments and of their responses, over a disk which holds what the
@@ -248,22 +417,7 @@ pub fn try_conversation(
     journals: &mut Journals,
 ) -> Result<Outcome> {
     let conversation = conversation_of(alloc, case, journals)?;
-    let mut outcome = Outcome::Holds(0);
-    for size in &conversation.sizes {
-        let disk = conversation.disk.as_slice().to_vec(alloc)?;
-        let failing = conversation.failing.as_slice().to_vec(alloc)?;
-        let disk_a = MemDisk::new(alloc, disk, failing)?;
-        let disk_b = MemDisk::new(alloc, Vec::new(alloc), Vec::new(alloc))?;
-        let Ok(mut node) = Node::open(alloc, disk_a, disk_b, SALT) else {
-            bail!("the node doesn't open");
-        };
-        let came = converse(alloc, &mut node, &conversation, *size);
-        let (disk_a, _disk_b) = node.close();
-        outcome = came?;
-        if let Outcome::Differs(_) = outcome {
-            return Ok(outcome);
-        }
-        journals.keep(alloc, case.name, disk_a.bytes().to_vec(alloc)?)?;
-    }
-    Ok(outcome)
+    let outcome = try_read(alloc, &conversation, case.name, journals);
+    drop(conversation);
+    outcome
 }

@@ -32,7 +32,7 @@ use kind::Kind;
 use outcome::Outcome;
 use std::fs;
 use std::rt::Files;
-use table::cases_of;
+use table::{Case, cases_of};
 
 fn main(rt: HostRuntime) -> Result<()> {
     let mut differing: u64 = 0;
@@ -62,22 +62,82 @@ fn tables_of<R: Files + AllocGlobal + Clone + Drop>(rt: &R, folder: &str) -> Res
 
 // Tries the cases of a table, and tells each; the number of those that don't hold.
 fn try_table<R: Files + Print + AllocGlobal>(rt: &R, kind: Kind, name: &str) -> Result<u64> {
-    let folder = kind.folder();
-    let path = format!(in rt.alloc(); "{folder}/{name}.rows")?;
-    let text = fs::read_to_string(rt, path.as_str()).context(folder)?;
+    let path = format!(in rt.alloc(); "{}/{name}.rows", kind.folder())?;
+    let text = text_of(rt, path.as_str())?;
+    let differing = try_text(rt, kind, path.as_str(), text.as_str());
+    drop(text);
+    drop(path);
+    differing
+}
+
+fn text_of<R: Files + AllocGlobal>(rt: &R, path: &str) -> Result<String> {
+    fs::read_to_string(rt, path).context(path)
+}
+
+fn try_text<R: Print + AllocGlobal>(rt: &R, kind: Kind, path: &str, text: &str) -> Result<u64> {
+    let cases = cases_of(rt.alloc(), text).context(path)?;
+    let differing = try_cases(rt, kind, table_at(path), &cases);
+    drop(cases);
+    differing
+}
+
+// What names a table, by the path of its file.
+fn table_at(path: &str) -> &str {
+    path.strip_suffix(".rows").unwrap_or(path)
+}
+
+fn try_cases<R: Print + AllocGlobal>(
+    rt: &R,
+    kind: Kind,
+    table: &str,
+    cases: &[Case<'_>],
+) -> Result<u64> {
     let mut journals = Journals::new(rt.alloc());
+    let differing = try_each(rt, kind, table, cases, &mut journals);
+    drop(journals);
+    differing
+}
+
+fn try_each<R: Print + AllocGlobal>(
+    rt: &R,
+    kind: Kind,
+    table: &str,
+    cases: &[Case<'_>],
+    journals: &mut Journals,
+) -> Result<u64> {
     let mut differing: u64 = 0;
-    for case in &cases_of(rt.alloc(), text.as_str()).context(format_args!("{folder}/{name}"))? {
-        let outcome = kind
-            .try_case(rt.alloc(), case, &mut journals)
-            .context(format_args!("{folder}/{name}: {}", case.name))?;
-        match outcome {
-            Outcome::Holds(rows) => println!(rt; "{folder}/{name}: {} ok ({rows})", case.name)?,
-            Outcome::Differs(told) => {
-                differing = differing.saturating_add(1);
-                println!(rt; "{folder}/{name}: {} differs: {told}", case.name)?;
-            }
+    for case in cases {
+        let outcome = try_one(rt, kind, table, case, journals)?;
+        if !told(rt, table, case.name, outcome)? {
+            differing = differing.saturating_add(1);
         }
     }
     Ok(differing)
+}
+
+fn try_one<R: AllocGlobal>(
+    rt: &R,
+    kind: Kind,
+    table: &str,
+    case: &Case<'_>,
+    journals: &mut Journals,
+) -> Result<Outcome> {
+    kind.try_case(rt.alloc(), case, journals)
+        .context(format_args!("{table}: {}", case.name))
+}
+
+// Tells what trying a case shows; whether it holds.
+fn told<R: Print>(rt: &R, table: &str, case: &str, outcome: Outcome) -> Result<bool> {
+    match outcome {
+        Outcome::Holds(rows) => {
+            println!(rt; "{table}: {case} ok ({rows})")?;
+            Ok(true)
+        }
+        Outcome::Differs(told) => {
+            let printed = println!(rt; "{table}: {case} differs: {told}");
+            drop(told);
+            printed?;
+            Ok(false)
+        }
+    }
 }

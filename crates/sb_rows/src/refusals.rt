@@ -3,7 +3,7 @@ use crate::bytes::shown;
 use crate::http::response_bytes;
 use crate::outcome::Rows;
 use anyhow::{Result, bail};
-use sb_http::write_response;
+use sb_http::{Response, write_response};
 use sb_machine::{Act, Call, Mode, Part, Path, Refusal};
 use sb_model::Text;
 use sb_rest::response_of;
@@ -63,16 +63,27 @@ fn refusal_named(alloc: Global, name: &str) -> Result<Refusal> {
     })
 }
 
+// The response to a call that is refused so.
+fn response_to(alloc: Global, call: &Call, refusal: Refusal) -> Result<Vec<u8>, AllocError> {
+    let answer = Err(refusal);
+    let response = response_of(alloc, call, &answer, b"h", false);
+    drop(answer);
+    written(alloc, response?)
+}
+
+fn written(alloc: Global, response: Response) -> Result<Vec<u8>, AllocError> {
+    let bytes = write_response(alloc, &response);
+    drop(response);
+    bytes
+}
+
 impl Rows for Refusals {
     fn set(&mut self, _alloc: Global, _key: &str, _value: &str) -> Result<bool> {
         Ok(false)
     }
 
     fn other(&self, alloc: Global, asked: &str, wanted: &str) -> Result<Option<String>> {
-        let answer = Err(refusal_named(alloc, asked)?);
-        let response = response_of(alloc, &self.call, &answer, b"h", false)?;
-        drop(answer);
-        let came = write_response(alloc, &response)?;
+        let came = response_to(alloc, &self.call, refusal_named(alloc, asked)?)?;
         if came.as_slice() == response_bytes(alloc, wanted)?.as_slice() {
             return Ok(None);
         }

@@ -1,9 +1,13 @@
 // Which call a request of REST is, or which fault it has.
+ghost use Rattle.std.specs.Prelude.{IfOk};
+ghost use Rattle.sb_machine.specs.Ordered.{IsActInOrder};
+
 use crate::http::request_of;
 use crate::outcome::Rows;
 use anyhow::{Context, Result, bail};
 use sb_http::{Incoming, Request};
 use sb_lines::read_line;
+use sb_machine::Act;
 use sb_repeats::is_same_act;
 use sb_rest::{Access, RestFault, Wanted, call_of};
 use sb_routes::Routes;
@@ -36,16 +40,43 @@ fn timed(wanted: &str) -> (u64, &str) {
     (timeout.parse::<u64>().unwrap_or(60), line)
 }
 
-fn is_call(alloc: Global, found: &Wanted, wanted: &str) -> bool {
-    let (timeout, line) = timed(wanted);
+fn is_of_line(alloc: Global, act: &Act, line: &str) -> bool {
     match read_line(alloc, line) {
         Ok(line) => {
-            found.timeout == timeout
-                && found.call.by.is_none()
-                && is_same_act(&found.call.act, &line.timed.call.act)
+            let is_same = is_same_act(act, &line.timed.call.act);
+            drop(line);
+            is_same
         }
-        Err(_) => false,
+        Err(fault) => {
+            drop(fault);
+            false
+        }
     }
+}
+
+fn is_call(alloc: Global, found: &Wanted, wanted: &str) -> bool {
+    let (timeout, line) = timed(wanted);
+    found.timeout == timeout && found.call.by.is_none() && is_of_line(alloc, &found.call.act, line)
+}
+
+/// The call of a request of anybody, or its fault.
+pub fn found_in(alloc: Global, routes: &Routes, request: &Request) -> Result<Wanted, RestFault>
+    ensures in_order { IfOk result (λ wanted. IsActInOrder wanted.call.act) }
+{
+    let access = Access::unlocked(alloc);
+    let found = call_of(alloc, routes, &access, request);
+    drop(access);
+    found
+}
+
+fn told(alloc: Global, found: Wanted, wanted: &str) -> Result<String, AllocError> {
+    let timeout = found.timeout;
+    let is_wanted = is_call(alloc, &found, wanted);
+    drop(found);
+    if is_wanted {
+        return String::from_str(alloc, wanted);
+    }
+    format!(in alloc; "another call, with {timeout} s")
 }
 
 // What comes of a request, as a row has it; of another call than the wanted one, only that.
@@ -55,9 +86,8 @@ fn came(
     request: &Request,
     wanted: &str,
 ) -> Result<String, AllocError> {
-    match call_of(alloc, routes, &Access::unlocked(alloc), request) {
-        Ok(found) if is_call(alloc, &found, wanted) => String::from_str(alloc, wanted),
-        Ok(found) => format!(in alloc; "another call, with {} s", found.timeout),
+    match found_in(alloc, routes, request) {
+        Ok(found) => told(alloc, found, wanted),
         Err(RestFault::Foreign) => String::from_str(alloc, "403"),
         Err(RestFault::NoKey) => String::from_str(alloc, "401"),
         Err(RestFault::NoRoute) => String::from_str(alloc, "404"),
@@ -66,6 +96,31 @@ fn came(
         Err(RestFault::Bad { key }) => format!(in alloc; "400 {}", key.as_str()),
         Err(RestFault::OutOfMemory) => Err(AllocError),
     }
+}
+
+// What comes of the one request of a stream.
+fn came_of(alloc: Global, routes: &Routes, stream: &[u8], wanted: &str) -> Result<String> {
+    let mut incoming = Incoming::new(alloc)?;
+    let came = came_through(alloc, routes, &mut incoming, stream, wanted);
+    drop(incoming);
+    came
+}
+
+fn came_through(
+    alloc: Global,
+    routes: &Routes,
+    incoming: &mut Incoming,
+    stream: &[u8],
+    wanted: &str,
+) -> Result<String> {
+    if incoming.feed(stream) != stream.len() {
+        bail!("not all of the request is taken");
+    }
+    let Ok(next) = incoming.next_request() else {
+        bail!("no request of HTTP");
+    };
+    let request = next.context("no whole request")?;
+    Ok(came(alloc, routes, &request, wanted)?)
 }
 
 impl Rows for Requests {
@@ -80,15 +135,7 @@ impl Rows for Requests {
     fn other(&self, alloc: Global, asked: &str, wanted: &str) -> Result<Option<String>> {
         let row = format!(in alloc; "{}{asked}", self.front.as_str())?;
         let stream = request_of(alloc, row.as_str())?;
-        let mut incoming = Incoming::new(alloc)?;
-        if incoming.feed(&stream) != stream.len() {
-            bail!("not all of the request is taken");
-        }
-        let Ok(next) = incoming.next_request() else {
-            bail!("no request of HTTP");
-        };
-        let request = next.context("no whole request")?;
-        let came = came(alloc, &self.routes, &request, wanted)?;
+        let came = came_of(alloc, &self.routes, &stream, wanted)?;
         Ok(Some(came).filter(|came| came.as_str() != wanted))
     }
 }

@@ -43,29 +43,64 @@ impl<'a> Run<'a> {
     // Takes what stands of a line before the run; what it leaves is looked at behind it.
     fn take(&mut self, alloc: Global, line: Line<'a>, journals: &Journals) -> Result<()> {
         match line.key {
-            ">" => {
-                self.input.extend_from_slice(&bytes_of(alloc, line.value)?)?;
-                self.input.push(b'\n')?;
-            }
-            "<" => {
-                self.output.extend_from_slice(line.value.as_bytes())?;
-                self.output.push(b'\n')?;
-            }
+            ">" => put_line(&mut self.input, &bytes_of(alloc, line.value)?),
+            "<" => put_line(&mut self.output, line.value.as_bytes()),
+            "words" => put_words(alloc, &mut self.words, line.value),
+            "status" => put_status(&mut self.status, line.value),
+            "leaves" => Ok(()),
+            "over" | "change" | "cut" => put_disk(alloc, &mut self.disk, line, journals),
+            _ => self.take_reading(line),
+        }
+    }
+
+    // Takes how the input is read.
+    fn take_reading(&mut self, line: Line<'a>) -> Result<()> {
+        match line.key {
             "unended" => {
                 let _ = self.input.pop();
+                Ok(())
             }
-            "unread" => self.failing.push(0)?,
-            "words" => self.words = line.value.split(' ').collect(alloc)?,
-            "over" => self.disk = journals.left_by(line.value)?.to_vec(alloc)?,
-            "change" => change(&mut self.disk, line.value)?,
-            "cut" => self.disk.truncate(line.value.parse::<usize>()?),
-            "pieces" => self.piece = line.value.parse::<usize>()?,
-            "status" => self.status = line.value.parse::<u8>()?,
-            "leaves" => {}
-            _ => return Err(no_such_key(line)),
+            "unread" => Ok(self.failing.push(0)?),
+            "pieces" => {
+                self.piece = line.value.parse::<usize>()?;
+                Ok(())
+            }
+            _ => Err(no_such_key(line)),
+        }
+    }
+
+    fn take_all(&mut self, alloc: Global, lines: &[Line<'a>], journals: &Journals) -> Result<()> {
+        for line in lines {
+            self.take(alloc, *line, journals)?;
         }
         Ok(())
     }
+}
+
+fn put_line(lines: &mut Vec<u8>, line: &[u8]) -> Result<()> {
+    lines.extend_from_slice(line)?;
+    lines.push(b'\n')?;
+    Ok(())
+}
+
+fn put_words<'a>(alloc: Global, words: &mut Vec<&'a str>, said: &'a str) -> Result<()> {
+    *words = said.split(' ').collect(alloc)?;
+    Ok(())
+}
+
+fn put_status(status: &mut u8, said: &str) -> Result<()> {
+    *status = said.parse::<u8>()?;
+    Ok(())
+}
+
+// Makes the disk that which a case left, changes a byte of it, or cuts it.
+fn put_disk(alloc: Global, disk: &mut Vec<u8>, line: Line<'_>, journals: &Journals) -> Result<()> {
+    match line.key {
+        "over" => *disk = journals.left_by(line.value)?.to_vec(alloc)?,
+        "cut" => disk.truncate(line.value.parse::<usize>()?),
+        _ => change(disk, line.value)?,
+    }
+    Ok(())
 }
 
 // Puts another byte at a place, both in decimal.
@@ -85,33 +120,84 @@ struct Ending {
     disk: Vec<u8>,
 }
 
-fn ending_of(alloc: Global, run: &Run<'_>) -> Result<Ending> {
-    let disk = run.disk.as_slice().to_vec(alloc)?;
-    let disk_a = MemDisk::new(alloc, disk, Vec::new(alloc))?;
-    let disk_b = MemDisk::new(alloc, Vec::new(alloc), Vec::new(alloc))?;
-    let mut input = MemSource::new(
-        run.input.as_slice().to_vec(alloc)?,
-        run.piece.max(1),
-        run.failing.as_slice().to_vec(alloc)?,
-    );
+fn disk_of(alloc: Global, bytes: &[u8]) -> Result<MemDisk, AllocError> {
+    let bytes = bytes.to_vec(alloc)?;
+    MemDisk::new(alloc, bytes, Vec::new(alloc))
+}
+
+fn disks_of(alloc: Global, bytes: &[u8]) -> Result<(MemDisk, MemDisk), AllocError> {
+    let disk_a = disk_of(alloc, bytes)?;
+    match disk_of(alloc, &[]) {
+        Ok(disk_b) => Ok((disk_a, disk_b)),
+        Err(error) => {
+            drop(disk_a);
+            Err(error)
+        }
+    }
+}
+
+fn source_of(alloc: Global, run: &Run<'_>) -> Result<MemSource, AllocError> {
+    let bytes = run.input.as_slice().to_vec(alloc)?;
+    let failing = run.failing.as_slice().to_vec(alloc)?;
+    Ok(MemSource::new(bytes, run.piece.max(1), failing))
+}
+
+// Makes the run over these; its status, and the disks as it leaves them.
+fn called(
+    alloc: Global,
+    words: &[&str],
+    disk_a: MemDisk,
+    disk_b: MemDisk,
+    input: &mut MemSource,
+    output: &mut MemSink,
+) -> (u8, MemDisk, MemDisk) {
+    let clock = StepClock::new(0, 1);
+    let mut link = NoLink::new();
+    top_alone(
+        alloc, words, disk_a, disk_b, SALT, &clock, input, output, &mut link,
+    )
+}
+
+// The bytes of disk a; an error where disk b is written.
+fn bytes_left(alloc: Global, disk_a: MemDisk, disk_b: MemDisk) -> Result<Vec<u8>> {
+    let is_written = !disk_b.bytes().is_empty();
+    drop(disk_b);
+    let bytes = disk_a.bytes().to_vec(alloc);
+    drop(disk_a);
+    ensure!(!is_written, "disk b is written");
+    Ok(bytes?)
+}
+
+// The status of the run, and what it leaves on disk a.
+fn ran(
+    alloc: Global,
+    run: &Run<'_>,
+    input: &mut MemSource,
+    output: &mut MemSink,
+) -> Result<(u8, Vec<u8>)> {
+    let (disk_a, disk_b) = disks_of(alloc, &run.disk)?;
+    let (status, disk_a, disk_b) = called(alloc, &run.words, disk_a, disk_b, input, output);
+    Ok((status, bytes_left(alloc, disk_a, disk_b)?))
+}
+
+fn ending_over(alloc: Global, run: &Run<'_>, input: &mut MemSource) -> Result<Ending> {
     let mut output = MemSink::new(alloc, 4096, Vec::new(alloc))?;
-    let (status, disk_a, disk_b) = top_alone(
-        alloc,
-        &run.words,
-        disk_a,
-        disk_b,
-        SALT,
-        &StepClock::new(0, 1),
-        &mut input,
-        &mut output,
-        &mut NoLink::new(),
-    );
-    ensure!(disk_b.bytes().is_empty(), "disk b is written");
+    let ran = ran(alloc, run, input, &mut output);
+    let bytes = output.bytes().to_vec(alloc);
+    drop(output);
+    let (status, disk) = ran?;
     Ok(Ending {
-        output: output.bytes().to_vec(alloc)?,
+        output: bytes?,
         status,
-        disk: disk_a.bytes().to_vec(alloc)?,
+        disk,
     })
+}
+
+fn ending_of(alloc: Global, run: &Run<'_>) -> Result<Ending> {
+    let mut input = source_of(alloc, run)?;
+    let ending = ending_over(alloc, run, &mut input);
+    drop(input);
+    ending
 }
 
 // The first line of the output that is another one than the case has, or the line behind them.
@@ -156,35 +242,79 @@ fn is_left(
     })
 }
 
+// How many lines a case has for its input.
+fn rows_of(case: &Case<'_>) -> u64 {
+    let mut rows: u64 = 0;
+    for line in &case.lines {
+        if line.key == ">" {
+            rows = rows.saturating_add(1);
+        }
+    }
+    rows
+}
+
+// What is other than the case has it in what a run wrote, its status or what it left.
+fn other(
+    alloc: Global,
+    case: &Case<'_>,
+    run: &Run<'_>,
+    ending: &Ending,
+    journals: &Journals,
+) -> Result<Option<Outcome>> {
+    if ending.output.as_slice() != run.output.as_slice() {
+        return Ok(Some(other_line(alloc, case, &ending.output)?));
+    }
+    if ending.status != run.status {
+        return Ok(Some(other_status(alloc, ending.status, run.status)?));
+    }
+    for line in &case.lines {
+        if line.key == "leaves" && !is_left(alloc, line.value, &run.disk, &ending.disk, journals)? {
+            return Ok(Some(differing(alloc, *line, "another journal")?));
+        }
+    }
+    Ok(None)
+}
+
+fn other_status(alloc: Global, came: u8, wanted: u8) -> Result<Outcome, AllocError> {
+    let told = format!(in alloc; "status {came}, and not {wanted}")?;
+    Ok(Outcome::Differs(told))
+}
+
+// What its ending shows, kept for the cases behind it where it holds.
+fn ended(
+    alloc: Global,
+    case: &Case<'_>,
+    run: &Run<'_>,
+    ending: Ending,
+    journals: &mut Journals,
+) -> Result<Outcome> {
+    let differs = other(alloc, case, run, &ending, journals);
+    let Ending { disk, output, .. } = ending;
+    drop(output);
+    if let Some(differs) = differs? {
+        return Ok(differs);
+    }
+    journals.keep(alloc, case.name, disk)?;
+    Ok(Outcome::Holds(rows_of(case)))
+}
+
+fn try_run<'a>(
+    alloc: Global,
+    case: &Case<'a>,
+    run: &mut Run<'a>,
+    journals: &mut Journals,
+) -> Result<Outcome> {
+    run.take_all(alloc, &case.lines, journals)?;
+    let ending = ending_of(alloc, run)?;
+    ended(alloc, case, run, ending, journals)
+}
+
 /// Tries a case: a run over input lines, which has to write its output lines. Before or behind them stand
 /// `words`, `over`, `change`, `cut`, `pieces`, `unended`, `unread` for what the run is made over, `status`
 /// and `leaves` for what it ends with; docs/ROWS.md says what each means.
 pub fn try_script(alloc: Global, case: &Case<'_>, journals: &mut Journals) -> Result<Outcome> {
     let mut run = Run::new(alloc)?;
-    let mut rows: u64 = 0;
-    for line in &case.lines {
-        run.take(alloc, *line, journals)?;
-        if line.key == ">" {
-            rows = rows.saturating_add(1);
-        }
-    }
-    let Ending {
-        output,
-        status,
-        disk,
-    } = ending_of(alloc, &run)?;
-    if output.as_slice() != run.output.as_slice() {
-        return other_line(alloc, case, &output);
-    }
-    if status != run.status {
-        let told = format!(in alloc; "status {status}, and not {}", run.status)?;
-        return Ok(Outcome::Differs(told));
-    }
-    for line in &case.lines {
-        if line.key == "leaves" && !is_left(alloc, line.value, &run.disk, &disk, journals)? {
-            return Ok(differing(alloc, *line, "another journal")?);
-        }
-    }
-    journals.keep(alloc, case.name, disk)?;
-    Ok(Outcome::Holds(rows))
+    let outcome = try_run(alloc, case, &mut run, journals);
+    drop(run);
+    outcome
 }

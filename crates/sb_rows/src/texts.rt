@@ -28,11 +28,17 @@ impl Texts {
 fn fault_of(alloc: Global, grammar: Grammar, text: &str) -> Option<ParseFault> {
     match grammar {
         Grammar::Filter => match parse_filter(alloc, text) {
-            Ok(_filter) => None,
+            Ok(filter) => {
+                drop(filter);
+                None
+            }
             Err(fault) => Some(fault),
         },
         Grammar::Action => match parse_action(alloc, text) {
-            Ok(_action) => None,
+            Ok(action) => {
+                drop(action);
+                None
+            }
             Err(fault) => Some(fault),
         },
     }
