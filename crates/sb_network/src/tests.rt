@@ -1,4 +1,6 @@
 // What no clause says: that a connection comes, is read, written and woken for.
+ghost use Rattle.std.specs.Prelude.{◌≤◌, IfOk};
+
 use crate::files::limit_in;
 use crate::{Halls, Place, files_allowed, open_halls, places_within};
 use sb_outside::{Clock, Conn, Door, Given, Lobby, SystemClock};
@@ -48,10 +50,11 @@ fn woken<C: Clock, L: Lobby + Sync>(halls: &L, clock: &C, worker: usize) -> bool
     false
 }
 
-// The next connection of a door. A thread may take both.
+// The next connection of a door, which is out from then on. A thread may take both.
 fn next<D: Door + Send>(door: &mut D) -> io::Result<D::Conn>
 where
     D::Conn: Send + Drop,
+    ensures { IfOk result (λ _. 1 ≤ D.out door.new) }
 {
     match door.accept() {
         Ok(Given::One(caller)) => Ok(caller),
