@@ -19,6 +19,8 @@ mod look_tests;
 #[cfg(test)]
 mod server_tests;
 #[cfg(test)]
+mod stop_tests;
+#[cfg(test)]
 mod tests;
 #[cfg(test)]
 mod waiting_tests;
