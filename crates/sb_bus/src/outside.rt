@@ -5,13 +5,15 @@ use crate::looking::over_files;
 use crate::watcher::Printing;
 use sb_app::top;
 use sb_model::Text;
-use sb_network::{files_allowed, open_halls, places_within};
+use sb_network::{Halls, Place, files_allowed, open_halls, places_within};
 use sb_outside::{
     Dialing, Disk, Door, Link, Lobby, Logging, MemDisk, NoDoor, NoLink, PauseLobby, Reading,
     SystemClock, Writing, disks_in, hold_streams, lock_folder, made,
 };
 use sb_rest::Access;
 use sb_words::{Command, Form, WordsFault, asked_text, fault_text, read_form};
+use std::alloc::{AllocError, Global};
+use std::io::Eprint;
 use std::sync::Wait;
 use std::thread::Threads;
 use std::time::Duration;
@@ -162,12 +164,37 @@ fn over_listener<T: Threads + Wait + Sync>(call: &Call<T>, form: &Form) -> u8 {
     let Ok((doors, halls)) = bound else {
         return NOT_MADE;
     };
-    let Ok(mut doors) = logging(rt, doors, form.log) else {
-        return say(rt, NO_MEMORY, "");
-    };
-    let status = over_folder(call, form.folder, &mut doors, &halls);
+    let status = over_places(call, form, rt, doors, &halls);
     let _ = eprintln!(rt; "bus: the server ended with status {status}");
     status
+}
+
+// The same over these places, whose workers wait in these halls.
+fn over_places<T: Threads + Wait + Sync, S: Eprint + std::rt::Clock + Copy + Drop + Send + Sync>(
+    call: &Call<T>,
+    form: &Form,
+    system: S,
+    places: Vec<Place<S>>,
+    halls: &Halls<S>,
+) -> u8 {
+    let Ok(mut doors) = logging(call.rt.alloc(), system, places, form.log) else {
+        return say(call.rt, NO_MEMORY, "");
+    };
+    over_folder(call, form.folder, &mut doors, halls)
+}
+
+// Doors over these places, whose connections tell their calls in a log, where that is on.
+fn logging<S: Eprint + std::rt::Clock + Copy + Drop>(
+    alloc: Global,
+    system: S,
+    places: Vec<Place<S>>,
+    is_on: bool,
+) -> Result<Vec<Logging<Place<S>, S>>, AllocError> {
+    let mut doors = Vec::with_capacity(alloc, places.len())?;
+    for place in places {
+        doors.push(Logging::new(place, alloc, system, is_on))?;
+    }
+    Ok(doors)
 }
 
 // How many of so many workers have files for their connections. Where these are fewer, a line on standard
@@ -183,22 +210,6 @@ fn places_for(rt: &HostRuntime, workers: u16) -> u16 {
         );
     }
     places
-}
-
-// These doors, whose connections tell their calls in a log, where that is on.
-fn logging<'c, D: Door + Drop>(
-    rt: &'c HostRuntime,
-    doors: Vec<D>,
-    is_on: bool,
-) -> io::Result<Vec<Logging<D, &'c HostRuntime>>>
-where
-    D::Conn: Drop,
-{
-    let mut logging = Vec::with_capacity(rt.alloc(), doors.len())?;
-    for door in doors {
-        logging.push(Logging::new(door, rt.alloc(), rt, is_on))?;
-    }
-    Ok(logging)
 }
 
 // Calls the top over a link to the server at a port.
