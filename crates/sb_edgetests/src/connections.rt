@@ -1,5 +1,7 @@
 // What no contract says of connections over streams: which answers of a stream are a fault, what a real socket
 // does whose other side ends, falls silent or is gone, and what a log tells of a call.
+ghost use Rattle.std.specs.Prelude.{◌≤◌, IfOk};
+
 use sb_outside::{
     Conn, Connected, Door, Given, Listening, Logging, MemConn, MemDoor, MemSink, MemSource,
     asked_words, call_line,
@@ -28,7 +30,9 @@ struct Scripted<'s> {
 }
 
 impl Scripted<'_> {
-    fn step(&mut self, most: usize) -> io::Result<usize> {
+    fn step(&mut self, most: usize) -> io::Result<usize>
+        ensures { IfOk result (λ count. count ≤ most) }
+    {
         let call = self.call;
         self.call = call.saturating_add(1);
         match self.steps.get(call) {
@@ -111,10 +115,11 @@ fn bound(rt: &HostRuntime) -> io::Result<(TcpListener, u16)> {
     Err(io::Error::from(ErrorKind::AddrInUse))
 }
 
-// The next connection of a door.
+// The next connection of a door, which is out from then on.
 fn next<D: Door>(door: &mut D) -> Result<D::Conn, Fail>
 where
     D::Conn: Drop,
+    ensures { IfOk result (λ _. 1 ≤ D.out door.new) }
 {
     match door.accept() {
         Ok(Given::One(conn)) => Ok(conn),
