@@ -22,8 +22,6 @@ mod properties;
 mod put;
 mod read;
 mod taken;
-#[cfg(test)]
-mod tests;
 mod texts;
 mod unread;
 mod values;

@@ -3,6 +3,7 @@ use crate::actions::Actions;
 use crate::conversations::try_conversation;
 use crate::filters::Filters;
 use crate::journals::Journals;
+use crate::messages::Messages;
 use crate::operators::Operators;
 use crate::outcome::{Outcome, try_rows};
 use crate::refusals::Refusals;
@@ -19,6 +20,7 @@ pub enum Kind {
     Filters,
     Operators,
     Actions,
+    Messages,
     Requests,
     Refusals,
     Conversations,
@@ -27,11 +29,12 @@ pub enum Kind {
 
 impl Kind {
     /// All kinds, in the order in which they are tried.
-    pub const ALL: [Kind; 8] = [
+    pub const ALL: [Kind; 9] = [
         Kind::Texts,
         Kind::Filters,
         Kind::Operators,
         Kind::Actions,
+        Kind::Messages,
         Kind::Requests,
         Kind::Refusals,
         Kind::Conversations,
@@ -45,6 +48,7 @@ impl Kind {
             Kind::Filters => "filters",
             Kind::Operators => "operators",
             Kind::Actions => "actions",
+            Kind::Messages => "messages",
             Kind::Requests => "requests",
             Kind::Refusals => "refusals",
             Kind::Conversations => "conversations",
@@ -64,6 +68,7 @@ impl Kind {
             Kind::Filters => try_rows(alloc, case, Filters::new(alloc)?),
             Kind::Operators => try_rows(alloc, case, Operators::new(alloc)?),
             Kind::Actions => try_rows(alloc, case, Actions::new(alloc)),
+            Kind::Messages => try_rows(alloc, case, Messages),
             Kind::Requests => try_rows(alloc, case, Requests::new(alloc)?),
             Kind::Refusals => try_rows(alloc, case, Refusals::new(alloc)?),
             Kind::Conversations => try_conversation(alloc, case, journals),

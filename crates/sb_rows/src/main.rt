@@ -18,6 +18,7 @@ mod filters;
 mod http;
 mod journals;
 mod kind;
+mod messages;
 mod operators;
 mod outcome;
 mod refusals;
