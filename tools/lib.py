@@ -65,9 +65,9 @@ def stop(server, number=signal.SIGTERM):
 
 
 @contextlib.contextmanager
-def serving(program, folder, port, *words):
+def serving(program, folder, port, *words, stderr=None):
     """A server that is stopped behind the block."""
-    server = start(program, folder, port, *words)
+    server = start(program, folder, port, *words, stderr=stderr)
     try:
         yield server
     finally:
