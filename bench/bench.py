@@ -7,11 +7,11 @@ usage: bench/bench.py [--program PROGRAM] [--calls N] [--repeat N] [--over OVER,
 Each scenario (send, receive, lock-and-settle, batch, fan-out, session) is run over `run`, a line at a time
 through pipes, and over 1, 4 and 16 kept connections to a server, or as --over says (1,16,64,256,1000), beside
 --idle connections that say nothing and --waiting receives on another queue. The callers stand in 16 processes
-at most, and make one call each at least. Of a row stand the calls a second, the median and the 99th of a hundred of their times in ms, and what each takes the server of
-its own and in the kernel, in microseconds; of several repetitions the one of median rate. In the same run the
-disk is timed: records a second at one write and two syncs each, as the journal's, of the size of a message.
---json keeps all in a file, and --compare says of each row how its rate stands to the disk beside that of such a
-file. It isn't part of the gate.
+at most, and make one call each at least. Of a row stand the calls a second, the median and the 99th of a hundred
+of their times in ms, and what each takes the server of its own and in the kernel, in microseconds; of several
+repetitions the one of median rate. In the same run the disk is timed: records a second at one write and two syncs
+each, as the journal's, of the size of a message. --json keeps all in a file, and --compare says of each row how its
+rate stands to the disk beside that of such a file. It isn't part of the gate.
 """
 import argparse
 import contextlib
@@ -197,9 +197,9 @@ def measured(program, scenario, over, calls, idle, waiting):
     return {**row, "own_us": own, "kernel_us": kernel}
 
 
-def disk_rate(records=2000):
+def disk_rate(folder, records=2000):
     """Records a second: one write of a message's size and two syncs each."""
-    with tempfile.TemporaryFile(dir=os.environ.get("TMPDIR", "/var/tmp"), buffering=0) as probe:
+    with tempfile.TemporaryFile(dir=folder, buffering=0) as probe:
         begun = time.monotonic()
         for _ in range(records):
             probe.write(b"x" * 1088)
@@ -241,7 +241,7 @@ def main():
     hard = resource.getrlimit(resource.RLIMIT_NOFILE)[1]
     resource.setrlimit(resource.RLIMIT_NOFILE, (hard, hard))
     subprocess.run([program, "--version"], stdout=subprocess.DEVNULL, check=True)  # so that it is built
-    disk, rows = disk_rate(), {}
+    disk, rows = disk_rate(os.environ.get("TMPDIR", "/var/tmp")), {}
     print(f"disk: {disk:.0f} records a second at two syncs each", flush=True)
     for scenario in given.scenarios or SCENARIOS:
         for over in given.over.split(","):
