@@ -123,14 +123,16 @@ def ask(port, method, path, body=b"", headers=()):
 
 
 def taken(port, entity):
-    """The bodies of all messages of an entity, each taken out."""
+    """The bodies of all messages of an entity, each taken out, by a hundred lines a request."""
+    line = json.dumps({"do": "receive", "from": entity, "mode": "delete"}).encode() + b"\n"
     with Caller(port) as caller:
         bodies = []
         while True:
-            reply = caller.line({"do": "receive", "from": entity, "mode": "delete"})
-            if reply["ok"] == "empty":
+            _, _, said = caller.ask("POST", "/$script", line * 100, ["Content-Type: application/x-ndjson"])
+            replies = [json.loads(it) for it in said.splitlines()]
+            bodies += [reply["message"]["body"] for reply in replies if reply["ok"] == "message"]
+            if any(reply["ok"] == "empty" for reply in replies):
                 return bodies
-            bodies.append(reply["message"]["body"])
 
 
 def tell(rows):
