@@ -6,8 +6,8 @@ usage: tools/crowd.py PROGRAM [--short] [--seconds S] [ROW..]
 PROGRAM is the built program (crates/sb_bus/out/sb_bus). Each row has a server of its own:
 kept      2,000 kept connections send once a second each, for --seconds (60): each message is there once
 handed    1,000 receives wait, by DELETE and by POST, and 1,000 messages are sent: each receive has one of its own
-killed    the server is killed while 1,000 kept connections send numbered messages, and 500 receive and complete, and is
-          started again, twice: what was acknowledged is there, what was completed isn't, and none is there twice
+killed    the server is killed while 1,000 kept connections send numbered messages, and 500 receive and complete, all as
+          fast as they can, and is started again, twice: what was acknowledged is there once, or was completed once
 left      the callers of 50 receives that wait leave, by a close or a reset, and then 50 messages are sent: all stand in
           the queue. DELETE and POST, 1,000 receives together
 beside    how long a sender waits: alone; beside 1,000 idle connections; 500 receives that wait; 100 callers who send a
@@ -29,6 +29,7 @@ import struct
 import subprocess
 import sys
 import tempfile
+import threading
 import time
 
 import lib
@@ -45,7 +46,7 @@ http {{
     uwsgi_temp_path {folder}/uwsgi; scgi_temp_path {folder}/scgi;
     upstream bus {{ server 127.0.0.1:{port}; keepalive 64; keepalive_timeout 50s; }}
     server {{
-        listen 127.0.0.1:{entrance};
+        listen 127.0.0.1:{entrance}; keepalive_requests 100000000;
         location / {{ proxy_pass http://bus; proxy_http_version 1.1; proxy_set_header Connection ""; }}
     }}
 }}
@@ -140,7 +141,7 @@ class Account:
         crowd.ask(it, request("POST", "/q/messages/head?timeout=60"), ("receive", None))
 
     def note(self, crowd, it, status, head, body):
-        """Writes an answer down, and lets a receiver ask further."""
+        """Writes an answer down, and asks further."""
         what, of_what = it.asked
         if status == 0:  # the server was killed, and what this one asked may have acted
             if what == "complete":
@@ -151,6 +152,7 @@ class Account:
             number, _ = self.numbers[of_what]
             self.numbers[of_what] = number, True
             self.sent.add(f"{of_what} {number}")
+            self.send(crowd, it, of_what)
         elif what == "receive" and status == 201:
             location = next(line for line in head.split("\r\n") if line.startswith("Location: "))
             path = location.removeprefix("Location: http://localhost")
@@ -172,21 +174,16 @@ class Account:
 def under_load(account, server, port, senders, receivers, seconds):
     """Sends and receives until the server, which is killed behind so many seconds, is gone."""
     with Crowd(port, senders + receivers) as crowd:
-        for number, it in enumerate(crowd.all):
-            it.asked = ("send", f"caller {number}") if number < senders else ("receive", None)
-        for it in crowd.all[senders:]:
-            account.receive(crowd, it)
-        killed_at = time.monotonic() + seconds
-
-        def send(it):
-            if it.asked[0] == "send" and time.monotonic() < killed_at:
-                account.send(crowd, it, it.asked[1])
-
-        for it, *answer in crowd.each_second(seconds + 0.2, send):
-            if time.monotonic() > killed_at and server.poll() is None:
-                lib.stop(server, signal.SIGKILL)
+        death = threading.Timer(seconds, lib.stop, [server, signal.SIGKILL])
+        death.start()
+        for number, it in enumerate(list(crowd.all)):
+            if number < senders:
+                account.send(crowd, it, f"caller {number}")
+            else:
+                account.receive(crowd, it)
+        for it, *answer in crowd.answers(time.monotonic() + seconds + 60, is_rest=True):
             account.note(crowd, it, *answer)
-    lib.wants(server.poll() is not None, "no answer came as the server was killed")
+        death.join()
 
 
 def killed(program, part, _):
@@ -386,7 +383,7 @@ def main():
     given.add_argument("--short", action="store_true")
     given.add_argument("--seconds", type=float)
     given.add_argument("rows", nargs="*", choices=[*ROWS, []], metavar="ROW")
-    given = given.parse_args()
+    given = given.parse_intermixed_args()
     part = 10 if given.short else 1
     if not raise_limit(2 * (2000 // part) + 100):
         print("not run: the limit of open files is too low")
