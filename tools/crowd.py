@@ -4,7 +4,7 @@
 usage: tools/crowd.py PROGRAM [--short] [--seconds S] [ROW..]
 
 PROGRAM is the built program (crates/sb_bus/out/sb_bus). Each row has a server of its own:
-kept      2,000 kept connections send once a second each, for --seconds (60): each message is there once
+kept      2,000 kept connections send once a second each, for --seconds (60): each message is there once, behind a kill
 handed    1,000 receives wait, by DELETE and by POST, and 1,000 messages are sent: each receive has one of its own
 killed    the server is killed while 1,000 kept connections send numbered messages, and 500 receive and complete, all as
           fast as they can, and is started again, twice: what was acknowledged is there once, or was completed once
@@ -70,7 +70,16 @@ def served(program, connections):
                     lib.wants(caller.line({**QUEUE, "name": name})["ok"] == "done", "the queue wasn't made")
                 yield server, port, caller
         finally:
-            lib.stop(server)
+            if server.poll() is None:
+                lib.stop(server)
+
+
+def taken_behind_kill(program, server):
+    """The bodies of all messages of the queue q, by a server that is started where this one is killed."""
+    folder, port = server.args[3], lib.free_port()
+    lib.stop(server, signal.SIGKILL)
+    with lib.serving(program, folder, port, "--workers", "4", stderr=subprocess.DEVNULL):
+        return lib.taken(port, "q")
 
 
 def milliseconds(times):
@@ -90,11 +99,11 @@ def kept(program, part, seconds):
         crowd.ask(it, request("POST", "/q/messages", b"%d" % sent))
         sent += 1
 
-    with served(program, many) as (_, port, _), Crowd(port, many) as crowd:
+    with served(program, many) as (server, port, _), Crowd(port, many) as crowd:
         for it, status, _, body in crowd.each_second(seconds, send):
             accepted(status, body)
             times.append(time.monotonic() - it.begun)
-        bodies = sorted(int(body) for body in lib.taken(port, "q"))
+        bodies = sorted(int(body) for body in taken_behind_kill(program, server))
     lib.wants(bodies == list(range(sent)), f"{len(bodies)} messages of {sent} sends, or others")
     wanted = f"{sent} of the {many * seconds:.0f} messages that they would have had time for"
     return f"{many} connections sent {wanted}, each is there once; a send took {milliseconds(times)}"
@@ -205,9 +214,10 @@ def killed(program, part, _):
                         accepted(status, body)
                         account.sent.add(f"{name} {number}")
             time.sleep(QUEUE["lock"] + 0.5)
-            account.judged(lib.taken(port, "q"))
+            account.judged(taken_behind_kill(program, server))
         finally:
-            lib.stop(server)
+            if server.poll() is None:
+                lib.stop(server)
     numbers = f"{len(account.sent)} sends and {len(account.completed)} completed messages"
     unsure = f"{len(account.unsure)} completions had no answer"
     return f"{numbers} through {rounds} kill{'s' * (rounds > 1)}; {unsure}; none lost, none doubled"
