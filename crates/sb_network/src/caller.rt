@@ -2,6 +2,7 @@
 ghost use Rattle.std.specs.Prelude.{◌≡◌, None};
 
 use crate::hall::Hall;
+use crate::seat::Seat;
 use mio::net::TcpStream;
 use sb_outside::{Conn, ReadFault, WriteFault};
 use std::io;
@@ -10,7 +11,8 @@ use std::sync::Arc;
 
 /// A connection of a place. It tells no content. Each error of the system is a counted fault, and so is
 /// a write that takes nothing, and a read or a write that finds the other side silent for 60 seconds
-/// while nothing of the server's own is under way, so that a silent caller keeps no worker.
+/// while nothing of the server's own is under way, so that a silent caller keeps no worker. The system is
+/// asked for bytes only where something has come since a read took all that was there.
 #[derive(Drop)]
 pub struct Caller<R: std::rt::Clock + Drop> {
     stream: TcpStream,
@@ -36,8 +38,16 @@ impl<R: std::rt::Clock + Drop> Caller<R> {
             read_faults: 0,
             write_faults: 0,
         };
-        caller.listen();
+        if let Some(seat) = caller.seat() {
+            seat.begin();
+            seat.listen();
+        }
         caller
+    }
+
+    // What it shares with the hall.
+    fn seat(&self) -> Option<&Seat> {
+        self.hall.seat(self.place)
     }
 
     // The other side did something: its silence counts from now on, while a request isn't answered.
@@ -45,15 +55,39 @@ impl<R: std::rt::Clock + Drop> Caller<R> {
         if self.asked {
             return;
         }
-        if let Some(seat) = self.hall.seat(self.place) {
-            seat.listen(self.hall.now_ms());
+        if let Some(seat) = self.seat() {
+            seat.listen();
         }
     }
 
     // The other side's silence counts no more.
     fn rest(&self) {
-        if let Some(seat) = self.hall.seat(self.place) {
+        if let Some(seat) = self.seat() {
             seat.rest();
+        }
+    }
+
+    // Whether a read may find something.
+    fn may_read(&self) -> bool {
+        match self.seat() {
+            Some(seat) => seat.may_read(),
+            None => true,
+        }
+    }
+
+    // A read took so many bytes. Where there was room for more, nothing is left, unless the other side has
+    // ended, which the next read tells.
+    fn took(&self, count: usize, room: usize) {
+        self.listen();
+        if count > 0 && count < room {
+            self.is_read_out(true);
+        }
+    }
+
+    // Nothing is left to be read before something comes.
+    fn is_read_out(&self, found: bool) {
+        if let Some(seat) = self.seat() {
+            seat.is_read_out(found);
         }
     }
 
@@ -62,8 +96,8 @@ impl<R: std::rt::Clock + Drop> Caller<R> {
         if error.kind() != ErrorKind::WouldBlock {
             return false;
         }
-        match self.hall.seat(self.place) {
-            Some(seat) => !seat.is_forsaken(self.hall.now_ms()),
+        match self.seat() {
+            Some(seat) => !seat.is_forsaken(),
             None => true,
         }
     }
@@ -79,13 +113,19 @@ impl<R: std::rt::Clock + Drop> Conn for Caller<R> {
     ghost writes = { λ c. c.write_faults };
 
     fn read(&mut self, into: &mut [u8]) -> Result<Option<usize>, ReadFault> {
+        if !self.may_read() {
+            return Ok(None);
+        }
+        let room = into.len();
         match self.stream.read(into) {
             Ok(count) => {
-                self.listen();
-                self.hall.moved();
+                self.took(count, room);
                 Ok(Some(count))
             }
-            Err(error) if self.waits(&error) => Ok(None),
+            Err(error) if self.waits(&error) => {
+                self.is_read_out(false);
+                Ok(None)
+            }
             Err(_) => {
                 self.read_faults = self.read_faults.saturating_add(1);
                 Err(ReadFault)
@@ -97,7 +137,6 @@ impl<R: std::rt::Clock + Drop> Conn for Caller<R> {
         match self.stream.write(bytes) {
             Ok(count) if count > 0 || bytes.is_empty() => {
                 self.listen();
-                self.hall.moved();
                 Ok(Some(count))
             }
             Err(error) if self.waits(&error) => Ok(None),

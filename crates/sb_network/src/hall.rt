@@ -1,4 +1,5 @@
 // The hall of one thread: the seats of its workers, and their wait.
+use crate::queue::Queue;
 use crate::seat::Seat;
 use mio::{Events, Poll, Registry, Token};
 use sb_outside::Clock;
@@ -18,9 +19,6 @@ const LOOKS_EACH_MS: u64 = 1000;
 // After how many milliseconds the listener is looked at again where a connection could not be had.
 const TRIES_AGAIN_MS: u64 = 100;
 
-// Behind so many reads and writes it is looked who else may go on.
-const GLANCES_EACH: u64 = 8;
-
 // So many connections are taken between two looks at who may go on, so that a flood of callers keeps those
 // who are served waiting for a short time.
 const GREETS_EACH: u64 = 8;
@@ -35,6 +33,10 @@ pub(crate) struct Hall<R: std::rt::Clock + Drop> {
     start: Instant,
     registry: Registry,
     seats: Vec<Seat>,
+    // The places for which something has come.
+    called: Queue,
+    // The places that want a connection, the last one first.
+    wanting: Queue,
     // Somebody may stand at the listener.
     callers: AtomicBool,
     // Callers are left for the next look.
@@ -45,8 +47,6 @@ pub(crate) struct Hall<R: std::rt::Clock + Drop> {
     again_ms: AtomicU64,
     // When the seats are looked at again.
     looks_ms: AtomicU64,
-    // How many reads and writes there were.
-    moves: AtomicU64,
     // Its own thread alone takes it.
     watch: Mutex<Watch>,
 }
@@ -69,18 +69,18 @@ impl<R: std::rt::Clock + Drop> Hall<R> {
         let poll = Poll::new(net)?;
         let registry = poll.registry().try_clone()?;
         let events = Events::with_capacity(alloc, EVENTS)?;
-        let seats = seats(alloc, places)?;
         Ok(Hall {
             system,
             start,
             registry,
-            seats,
+            seats: seats(alloc, places)?,
+            called: Queue::new(alloc, places)?,
+            wanting: Queue::new(alloc, places)?,
             callers: AtomicBool::new(true),
             more: AtomicBool::new(false),
             greets: AtomicU64::new(0),
             again_ms: AtomicU64::new(u64::MAX),
             looks_ms: AtomicU64::new(0),
-            moves: AtomicU64::new(0),
             watch: Mutex::new(Watch { poll, events }),
         })
     }
@@ -104,6 +104,9 @@ impl<R: std::rt::Clock + Drop> Hall<R> {
 
     /// Whether a connection may be taken before the next look.
     pub(crate) fn may_greet(&self) -> bool {
+        if !self.callers.load(Ordering::SeqCst) {
+            return false;
+        }
         if self.greets.load(Ordering::SeqCst) < GREETS_EACH {
             return true;
         }
@@ -112,9 +115,30 @@ impl<R: std::rt::Clock + Drop> Hall<R> {
         false
     }
 
-    /// A connection was taken.
-    pub(crate) fn greeted(&self) {
+    /// A connection was taken: another caller may stand behind it.
+    pub(crate) fn greeted(&self, place: usize) {
+        self.want(place, false);
         self.greets.fetch_add(1, Ordering::SeqCst);
+        self.call_wanting();
+    }
+
+    /// The worker at this place wants a connection, and there is none for it yet.
+    pub(crate) fn waits_for_one(&self, place: usize) {
+        self.want(place, true);
+        self.wanting.put_first(place);
+    }
+
+    /// The worker at this place is over, for its door failed.
+    pub(crate) fn fails(&self, place: usize) {
+        self.want(place, false);
+        self.call_wanting();
+    }
+
+    // The worker at this place wants a connection, or wants none.
+    fn want(&self, place: usize, wants: bool) {
+        if let Some(seat) = self.seats.get(place) {
+            seat.want(wants);
+        }
     }
 
     /// Nobody stands at the listener.
@@ -129,36 +153,47 @@ impl<R: std::rt::Clock + Drop> Hall<R> {
         self.is_left();
     }
 
-    /// Whether the worker at this place may be able to go on.
-    pub(crate) fn may_go(&self, place: usize) -> bool {
-        match self.seats.get(place) {
-            Some(seat) => seat.is_called() || (self.callers.load(Ordering::SeqCst) && seat.wants()),
-            None => true,
-        }
+    /// The next place whose worker may be able to go on.
+    pub(crate) fn called(&self) -> Option<usize> {
+        self.called.take()
     }
 
-    /// A connection has read or written: now and then it is looked who else may go on, so that who always
+    /// Calls the worker at this place behind all for whom something has come by now, so that who always
     /// finds something keeps nobody waiting.
-    pub(crate) fn moved(&self) {
-        if self.moves.fetch_add(1, Ordering::SeqCst) % GLANCES_EACH == 0 {
-            self.watch_for(0);
-        }
+    pub(crate) fn call(&self, place: usize) {
+        self.watch_for(0);
+        self.called.put_last(place);
     }
 
-    /// Waits until something comes, or this reading does, or a second has gone.
-    pub(crate) fn wait<C: Clock>(&self, clock: &C, until_ms: u64) {
-        let most_ms = until_ms.saturating_sub(clock.now()).min(LOOKS_EACH_MS);
-        if !self.watch_for(most_ms.min(self.tries_ms())) {
-            clock.pause();
+    /// Waits until something comes, or this reading does, or a second has gone; not at all where somebody
+    /// is called. Whether the hall doesn't say who may go on.
+    pub(crate) fn wait<C: Clock>(&self, clock: &C, until_ms: u64) -> bool {
+        if self.watch_for(self.longest_ms(clock, until_ms)) {
+            return false;
         }
+        clock.pause();
+        true
+    }
+
+    // For how long it may be waited until this reading.
+    fn longest_ms<C: Clock>(&self, clock: &C, until_ms: u64) -> u64 {
+        if self.more.load(Ordering::SeqCst) || !self.called.is_empty() {
+            return 0;
+        }
+        let most_ms = if until_ms == u64::MAX {
+            LOOKS_EACH_MS
+        } else {
+            until_ms.saturating_sub(clock.now()).min(LOOKS_EACH_MS)
+        };
+        most_ms.min(self.tries_ms())
     }
 
     // For how long the listener needn't be looked at, if nothing comes.
     fn tries_ms(&self) -> u64 {
-        if self.more.load(Ordering::SeqCst) {
-            return 0;
-        }
         let again_ms = self.again_ms.load(Ordering::SeqCst);
+        if again_ms == u64::MAX {
+            return again_ms;
+        }
         again_ms.saturating_sub(self.now_ms())
     }
 
@@ -180,9 +215,35 @@ impl<R: std::rt::Clock + Drop> Hall<R> {
         for event in events.iter() {
             let Token(number) = event.token();
             if number == 0 {
-                self.callers.store(true, Ordering::SeqCst);
+                self.callers_come();
             } else if let Some(seat) = self.seats.get(number - 1) {
-                seat.call();
+                let has_ended = event.is_read_closed() || event.is_error();
+                seat.come(event.is_readable(), has_ended);
+                self.called.put_last(number - 1);
+            }
+        }
+    }
+
+    // Somebody may stand at the listener from now on.
+    fn callers_come(&self) {
+        self.callers.store(true, Ordering::SeqCst);
+        self.call_wanting();
+    }
+
+    // Calls the next worker that wants a connection, where one may stand at the listener. It stands behind
+    // the others, and who takes a connection calls the next one, so that callers and those who are served
+    // wait for each other a short time.
+    fn call_wanting(&self) {
+        if !self.may_greet() {
+            return;
+        }
+        for _ in 0..self.seats.len() {
+            let Some(place) = self.wanting.take() else {
+                return;
+            };
+            if self.seats.get(place).is_some_and(|seat| seat.wants()) {
+                self.called.put_last(place);
+                return;
             }
         }
     }
@@ -191,24 +252,24 @@ impl<R: std::rt::Clock + Drop> Hall<R> {
     fn look(&self, now_ms: u64) {
         self.greets.store(0, Ordering::SeqCst);
         if self.more.swap(false, Ordering::SeqCst) {
-            self.callers.store(true, Ordering::SeqCst);
+            self.callers_come();
         }
         if now_ms >= self.again_ms.load(Ordering::SeqCst) {
             self.again_ms.store(u64::MAX, Ordering::SeqCst);
-            self.callers.store(true, Ordering::SeqCst);
+            self.callers_come();
         }
         if now_ms >= self.looks_ms.load(Ordering::SeqCst) {
             let next = now_ms.saturating_add(LOOKS_EACH_MS);
             self.looks_ms.store(next, Ordering::SeqCst);
-            self.call_forsaken(now_ms);
+            self.look_at_seats(now_ms);
         }
     }
 
-    // Calls those whose other side has been silent for too long.
-    fn call_forsaken(&self, now_ms: u64) {
-        for seat in &self.seats {
-            if seat.is_forsaken(now_ms) {
-                seat.call();
+    // Looks at each seat at this reading.
+    fn look_at_seats(&self, now_ms: u64) {
+        for place in 0..self.seats.len() {
+            if self.seats.get(place).is_some_and(|seat| seat.look(now_ms)) {
+                self.called.put_last(place);
             }
         }
     }

@@ -4,7 +4,7 @@ use crate::entrance::Entrance;
 use crate::hall::{Hall, LISTENER};
 use mio::Interest;
 use mio::net::TcpListener;
-use sb_outside::{Clock, Lobby};
+use sb_outside::{Clock, Lobby, PauseLobby};
 use std::alloc::Global;
 use std::io;
 use std::io::Eprint;
@@ -89,20 +89,38 @@ impl<R: std::rt::Clock + Drop> Halls<R> {
             None => None,
         }
     }
+
+    // The first worker of the hall that this one is in.
+    fn first_of(&self, worker: usize) -> usize {
+        worker - worker % self.stretch.max(1)
+    }
 }
 
 impl<R: std::rt::Clock + Drop> Lobby for Halls<R> {
-    fn wait<C: Clock>(&self, clock: &C, first: usize, until: u64) {
+    fn wait<C: Clock>(&self, clock: &C, first: usize, until: u64) -> bool {
         match self.of(first) {
             Some((hall, _)) => hall.wait(clock, until),
-            None => clock.pause(),
+            None => PauseLobby.wait(clock, first, until),
         }
     }
 
-    fn may_go(&self, worker: usize) -> bool {
+    fn called(&self, first: usize) -> Option<usize> {
+        match self.of(first) {
+            Some((hall, _)) => match hall.called() {
+                Some(place) => Some(self.first_of(first).saturating_add(place)),
+                None => None,
+            },
+            None => None,
+        }
+    }
+
+    fn call(&self, worker: usize) -> bool {
         match self.of(worker) {
-            Some((hall, place)) => hall.may_go(place),
-            None => true,
+            Some((hall, place)) => {
+                hall.call(place);
+                true
+            }
+            None => false,
         }
     }
 }

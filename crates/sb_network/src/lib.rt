@@ -11,6 +11,7 @@ mod files;
 mod hall;
 mod halls;
 mod place;
+mod queue;
 mod seat;
 #[cfg(test)]
 mod tests;

@@ -46,6 +46,7 @@ impl<R: Eprint + std::rt::Clock + Drop> Place<R> {
         ensures out { self.new.out ≡ self.old.out }
     {
         self.entrance.tell_none(error);
+        self.hall.fails(self.place);
         self.faults = self.faults.saturating_add(1);
         DoorFault
     }
@@ -67,13 +68,6 @@ impl<R: Eprint + std::rt::Clock + Drop> Place<R> {
         let stream = self.entrance.next()?;
         self.seated(stream)
     }
-
-    // Its worker wants a connection, or has one.
-    fn want(&self, wants: bool) {
-        if let Some(seat) = self.hall.seat(self.place) {
-            seat.want(wants);
-        }
-    }
 }
 
 impl<R: Eprint + std::rt::Clock + Drop> Door for Place<R> {
@@ -90,25 +84,26 @@ impl<R: Eprint + std::rt::Clock + Drop> Door for Place<R> {
     ghost count = { λ d. d.faults };
 
     fn accept(&mut self) -> Result<Given<Caller<R>>, DoorFault> {
-        self.want(true);
         if !self.hall.may_greet() {
+            self.hall.waits_for_one(self.place);
             return Ok(Given::NoneYet);
         }
         match self.next() {
             Ok(caller) if self.out < u64::MAX => {
-                self.want(false);
-                self.hall.greeted();
+                self.hall.greeted(self.place);
                 self.out += 1;
                 Ok(Given::One(caller))
             }
             Ok(_) => Err(self.fault(io::Error::from(ErrorKind::QuotaExceeded))),
             Err(error) if error.kind() == ErrorKind::WouldBlock => {
                 self.hall.is_left();
+                self.hall.waits_for_one(self.place);
                 Ok(Given::NoneYet)
             }
             Err(error) if has_no_room(&error) => {
                 self.hall.tries_again();
                 self.entrance.tell_later(error);
+                self.hall.waits_for_one(self.place);
                 Ok(Given::NoneYet)
             }
             Err(error) => Err(self.fault(error)),

@@ -4,38 +4,40 @@ use std::sync::atomic::{AtomicBool, AtomicU64, Ordering};
 // A connection whose other side gives nothing, or takes nothing, for so many milliseconds fails.
 const LONGEST_SILENCE_MS: u64 = 60_000;
 
-// The reading since which nobody is waited for.
-const NEVER: u64 = u64::MAX;
+// The other side isn't waited for.
+const NOBODY: u64 = u64::MAX;
+
+// The other side did something since the last look.
+const HEARD: u64 = u64::MAX - 1;
+
+// The other side has been silent for too long.
+const FORSAKEN: u64 = u64::MAX - 2;
 
 /// The seat of a worker in a hall.
 #[derive(Drop)]
 pub(crate) struct Seat {
-    // Something has come for it.
-    ready: AtomicBool,
     // It wants a connection.
     wants: AtomicBool,
-    // Since which reading its connection waits for the other side.
+    // Something of its connection may be there to be read.
+    may_read: AtomicBool,
+    // The other side has ended, or the connection has failed: a read tells it at any time.
+    has_ended: AtomicBool,
+    // That nothing is left to be read was told by a read that didn't fill its piece.
+    is_unsure: AtomicBool,
+    // Since which look its connection waits for the other side, or one of the words above.
     silent_ms: AtomicU64,
 }
 
 impl Seat {
-    /// A seat without a connection, which may be looked at.
+    /// A seat without a connection.
     pub(crate) fn new() -> Seat {
         Seat {
-            ready: AtomicBool::new(true),
-            wants: AtomicBool::new(true),
-            silent_ms: AtomicU64::new(NEVER),
+            wants: AtomicBool::new(false),
+            may_read: AtomicBool::new(true),
+            has_ended: AtomicBool::new(false),
+            is_unsure: AtomicBool::new(false),
+            silent_ms: AtomicU64::new(NOBODY),
         }
-    }
-
-    /// Something has come for its worker.
-    pub(crate) fn call(&self) {
-        self.ready.store(true, Ordering::SeqCst);
-    }
-
-    /// Whether something has come since this was last asked.
-    pub(crate) fn is_called(&self) -> bool {
-        self.ready.load(Ordering::SeqCst) && self.ready.swap(false, Ordering::SeqCst)
     }
 
     /// Its worker wants a connection, or has one.
@@ -48,19 +50,79 @@ impl Seat {
         self.wants.load(Ordering::SeqCst)
     }
 
-    /// Its connection waits for the other side from this reading on.
-    pub(crate) fn listen(&self, now_ms: u64) {
-        self.silent_ms.store(now_ms, Ordering::SeqCst);
+    /// It has a new connection.
+    pub(crate) fn begin(&self) {
+        self.may_read.store(true, Ordering::SeqCst);
+        self.has_ended.store(false, Ordering::SeqCst);
+        self.is_unsure.store(false, Ordering::SeqCst);
+    }
+
+    /// Something has come for its connection: bytes, its end or its failure, or that it may write.
+    pub(crate) fn come(&self, may_read: bool, has_ended: bool) {
+        if may_read {
+            self.may_read.store(true, Ordering::SeqCst);
+        }
+        if has_ended {
+            self.has_ended.store(true, Ordering::SeqCst);
+        }
+    }
+
+    /// A read took all that was there; where it found something, as it didn't fill its piece.
+    pub(crate) fn is_read_out(&self, found: bool) {
+        self.may_read.store(false, Ordering::SeqCst);
+        self.is_unsure.store(found, Ordering::SeqCst);
+    }
+
+    /// Whether a read may find something.
+    pub(crate) fn may_read(&self) -> bool {
+        self.may_read.load(Ordering::SeqCst)
+            || self.has_ended.load(Ordering::SeqCst)
+            || self.is_forsaken()
+    }
+
+    /// Its connection waits for the other side from now on.
+    pub(crate) fn listen(&self) {
+        self.silent_ms.store(HEARD, Ordering::SeqCst);
     }
 
     /// Nobody is waited for.
     pub(crate) fn rest(&self) {
-        self.silent_ms.store(NEVER, Ordering::SeqCst);
+        self.silent_ms.store(NOBODY, Ordering::SeqCst);
     }
 
-    /// Whether the other side has been silent for too long at this reading.
-    pub(crate) fn is_forsaken(&self, now_ms: u64) -> bool {
+    /// Whether the other side has been silent for too long.
+    pub(crate) fn is_forsaken(&self) -> bool {
+        self.silent_ms.load(Ordering::SeqCst) == FORSAKEN
+    }
+
+    /// Looks at the seat at this reading of the hall: whether its worker is to be called, since the other
+    /// side has been silent for too long, or to make sure that nothing is left to be read.
+    pub(crate) fn look(&self, now_ms: u64) -> bool {
+        let doubts = self.doubts();
+        self.is_silent(now_ms) || doubts
+    }
+
+    // Whether a read has to make sure that nothing is left, which is so once behind one that found something.
+    fn doubts(&self) -> bool {
+        if !self.is_unsure.load(Ordering::SeqCst) {
+            return false;
+        }
+        self.is_read_out(false);
+        self.may_read.store(true, Ordering::SeqCst);
+        true
+    }
+
+    // Whether the other side has been silent for too long at this reading, which is noted.
+    fn is_silent(&self, now_ms: u64) -> bool {
         let since = self.silent_ms.load(Ordering::SeqCst);
-        since != NEVER && now_ms >= since.saturating_add(LONGEST_SILENCE_MS)
+        if since == HEARD {
+            self.silent_ms.store(now_ms, Ordering::SeqCst);
+            return false;
+        }
+        if since == NOBODY || now_ms < since.saturating_add(LONGEST_SILENCE_MS) {
+            return false;
+        }
+        self.silent_ms.store(FORSAKEN, Ordering::SeqCst);
+        true
     }
 }

@@ -2,11 +2,12 @@
 ghost use Rattle.std.specs.Prelude.{◌≤◌, IfOk};
 
 use crate::files::limit_in;
+use crate::queue::Queue;
 use crate::{Halls, Place, files_allowed, open_halls, places_within};
 use sb_outside::{Clock, Conn, Door, Given, Lobby, SystemClock};
 use std::io;
 use std::io::{ErrorKind, Read, Write};
-use std::net::{Ipv4Addr, TcpStream};
+use std::net::{Ipv4Addr, Shutdown, TcpStream};
 use std::test::Fail;
 
 // The first of the ports that are tried.
@@ -39,13 +40,15 @@ fn opened(rt: &HostRuntime) -> io::Result<(Vec<Place<&HostRuntime>>, Halls<&Host
     Err(io::Error::from(ErrorKind::AddrInUse))
 }
 
-// Waits until this worker may go on, some seconds at most.
+// Waits until this worker, its thread's only one, is called, some seconds at most.
 fn woken<C: Clock, L: Lobby + Sync>(halls: &L, clock: &C, worker: usize) -> bool {
     for _ in 0..100 {
-        if halls.may_go(worker) {
+        if halls.called(worker) == Some(worker) {
             return true;
         }
-        halls.wait(clock, worker, clock.now().saturating_add(100));
+        if halls.wait(clock, worker, clock.now().saturating_add(100)) {
+            return false;
+        }
     }
     false
 }
@@ -62,6 +65,16 @@ where
     }
 }
 
+// Whether a read of so many bytes at most finds so many, or nothing yet.
+fn finds<N: Conn>(caller: &mut N, room: usize, found: Option<usize>) -> bool
+    requires { room ≤ 16 }
+{
+    let mut piece = [0u8; 16];
+    caller
+        .read(&mut piece[..room])
+        .is_ok_and(|count| count == found)
+}
+
 #[test]
 fn a_caller_is_served(rt: HostRuntime) -> Result<(), Fail> {
     let clock = SystemClock::new(&rt)?;
@@ -69,21 +82,75 @@ fn a_caller_is_served(rt: HostRuntime) -> Result<(), Fail> {
     let mut doors = doors;
     let mut door = doors.pop().ok_or("a door")?;
     assert!(rt; next(&mut door).is_err());
-    assert!(rt; halls.may_go(0));
-    assert!(rt; !halls.may_go(0));
+    assert!(rt; halls.called(0).is_none());
     let mut other = TcpStream::connect(&rt, (Ipv4Addr::LOCALHOST, port))?;
     assert!(rt; woken(&halls, &clock, 0));
+    assert!(rt; halls.called(0).is_none());
     let mut caller = next(&mut door)?;
-    let mut piece = [0u8; 8];
-    assert!(rt; caller.read(&mut piece).is_ok_and(|count| count.is_none()));
+    assert!(rt; finds(&mut caller, 8, None));
     other.write_all(b"ask")?;
     assert!(rt; woken(&halls, &clock, 0));
-    assert!(rt; caller.read(&mut piece).is_ok_and(|count| count == Some(3)));
+    assert!(rt; finds(&mut caller, 8, Some(3)));
+    assert!(rt; finds(&mut caller, 8, None));
     caller.asked(b"GET", b"/");
     caller.answered(b"reply");
     assert!(rt; caller.write(b"reply").is_ok_and(|count| count == Some(5)));
+    let mut piece = [0u8; 8];
     assert_eq!(rt; other.read(&mut piece)?, 5);
     door.done(caller);
     assert_eq!(rt; other.read(&mut piece)?, 0);
+    Ok(())
+}
+
+#[test]
+fn what_is_left_is_read(rt: HostRuntime) -> Result<(), Fail> {
+    let clock = SystemClock::new(&rt)?;
+    let (doors, halls, port) = opened(&rt)?;
+    let mut doors = doors;
+    let mut door = doors.pop().ok_or("a door")?;
+    let mut other = TcpStream::connect(&rt, (Ipv4Addr::LOCALHOST, port))?;
+    let mut caller = next(&mut door)?;
+    other.write_all(b"a piece and some")?;
+    assert!(rt; woken(&halls, &clock, 0));
+    assert!(rt; finds(&mut caller, 8, Some(8)));
+    assert!(rt; finds(&mut caller, 8, Some(8)));
+    assert!(rt; finds(&mut caller, 8, None));
+    other.write_all(b"the last")?;
+    other.shutdown(Shutdown::Write)?;
+    assert!(rt; woken(&halls, &clock, 0));
+    assert!(rt; finds(&mut caller, 16, Some(8)));
+    assert!(rt; finds(&mut caller, 16, Some(0)));
+    door.done(caller);
+    Ok(())
+}
+
+#[test]
+fn who_goes_on_stands_behind_the_others(rt: HostRuntime) -> Result<(), Fail> {
+    let (_doors, halls, _port) = opened(&rt)?;
+    assert!(rt; halls.call(1));
+    assert!(rt; halls.call(0));
+    assert_eq!(rt; halls.called(0), Some(0));
+    assert_eq!(rt; halls.called(1), Some(1));
+    assert_eq!(rt; halls.called(1), None);
+    assert!(rt; !halls.call(2));
+    Ok(())
+}
+
+#[test]
+fn each_stands_once_in_a_queue(rt: HostRuntime) -> Result<(), Fail> {
+    let queue = Queue::new(rt.alloc(), 4)?;
+    for place in [2, 0, 2, 7] {
+        queue.put_last(place);
+    }
+    queue.put_first(1);
+    queue.put_first(0);
+    for wanted in [Some(1), Some(2), Some(0), None] {
+        assert_eq!(rt; queue.take(), wanted);
+    }
+    assert!(rt; queue.is_empty());
+    queue.put_first(3);
+    queue.put_last(1);
+    assert_eq!(rt; queue.take(), Some(3));
+    assert_eq!(rt; queue.take(), Some(1));
     Ok(())
 }

@@ -71,6 +71,10 @@ module _ {D X : Type 0} (IsReading : ℕ → Type 0) (access : Access) (there gi
       some_same : (p q : Sitting) → Some p ≡ Some q → p ≡ q
       some_same p q e = ap (λ (o : Option Sitting). elim o [ Some z ↦ z | None ↦ p ]) e
 
+  -- it is looked at again at another reading
+  pub come_again : (began now : Job D X) (again : ℕ) → Come began now → Come began (record now { again = again })
+  come_again began now again c = record { pass = c.pass; pass_now = c.pass_now; had = c.had; has = c.has; at = c.at; stop_is = c.stop_is }
+
   -- it is over
   pub come_over : (desk : Open) (began now : Job D X) → Come began now → IsAtWork out desk now → is_over now.stage ≡ true → Did (Working (ServesBy IsReading access there given reads writes) waiting taken ended count out desk most) began now
   come_over desk began now c w over = by now.stage refl over
@@ -109,3 +113,6 @@ stop_twice (Over s) stop other e = e
 
 pub work_first : {D X : Type 0} (out : D → ℕ) (desk : Open) (most : ℕ) (job : Job D X) → HasPass desk most job → IsAtWork out desk job
 work_first {X = X} out desk most job h = record { pass = h.pass; has = h.has; of = h.of; sound = subst (λ (s : Stage X). IsSound s (out job.door)) (sym h.fresh) tt }
+
+pub work_again : {D X : Type 0} (out : D → ℕ) (desk : Open) (job : Job D X) (again : ℕ) → IsAtWork out desk job → IsAtWork out desk (record job { again = again })
+work_again out desk job again w = record { pass = w.pass; has = w.has; of = w.of; sound = w.sound }

@@ -20,9 +20,15 @@ use std::mem;
 use std::sync::Wait;
 use std::thread::Threads;
 
+// A worker makes so many steps at most before the others have their turn.
+const STEPS_EACH: usize = 8;
+
+// So many called workers go on before the clock is looked at.
+const CALLS_EACH: usize = 32;
+
 /// Serves each door by a worker of its own with one of the last passes, at most so many connections
-/// each. The calling thread goes round all of them: each makes one step where it may, and where none may
-/// it waits in the lobby. Passes and doors stand in their lists as before.
+/// each. The calling thread goes on with those that the lobby calls, each until it is blocked, and where none may
+/// go on it waits in the lobby. Passes and doors stand in their lists as before.
 pub fn serve<
     V: Served + Send,
     R: Threads + Wait + Sync,
@@ -98,7 +104,7 @@ where
     serve_share(rt, alloc, routes, access, desk, clock, lobby, 0, jobs);
 }
 
-// The workers of one thread: it goes round them until each is over, and waits where none may go on.
+// The workers of one thread: those that are called go on until each is over, and where none may it waits.
 fn serve_share<V: Served, R: Wait, C: Clock, L: Lobby, D: Door>(
     rt: &R,
     alloc: Global,
@@ -114,28 +120,58 @@ fn serve_share<V: Served, R: Wait, C: Clock, L: Lobby, D: Door>(
     ensures { (most i : ℕ) (d : Job D D.Conn) → i < length jobs.old → HasPass desk.now most (slice_index_or jobs.old i d)
         → Did (Working (ServesBy (C.reads clock.now) access.now D.Conn.left D.Conn.given D.Conn.reads D.Conn.writes) D.left D.taken D.ended D.count D.out desk.now most) (slice_index_or jobs.old i d) (slice_index_or jobs.new i d) }
 {
+    // At which reading a worker is looked at again, at the least; 0 where all are to be looked at.
+    let mut soonest = 0;
     for _ in rt.forever() {
-        match go_round(rt, alloc, routes, access, desk, clock, lobby, first, jobs) {
+        match go_round(
+            rt, alloc, routes, access, desk, clock, lobby, first, soonest, jobs,
+        ) {
             Round::AllOver => return,
-            Round::Moves => {}
-            Round::Blocked(until) => lobby.wait(clock, first, until),
+            Round::Moves(again) => soonest = again,
+            Round::Blocked(until) => soonest = behind_wait(clock, lobby, first, until),
         }
     }
     unreachable!()
 }
 
-/// What a round came to.
+// Waits in the lobby. At which reading a worker is looked at again, at the least; 0 where all are to be
+// looked at.
+fn behind_wait<C: Clock, L: Lobby>(clock: &C, lobby: &L, first: usize, until: u64) -> u64 {
+    if lobby.wait(clock, first, until) {
+        return 0;
+    }
+    until
+}
+
+/// What a round came to. It says at which reading a worker is looked at again, at the least.
 #[derive(Clone, Copy, PartialEq, Eq)]
 pub(crate) enum Round {
     /// Each worker is over.
     AllOver,
     /// One may go on at once.
-    Moves,
+    Moves(u64),
     /// None may go on before this reading, if nothing else happens.
     Blocked(u64),
 }
 
-// Each worker of a thread makes one step, where it may.
+/// What is known of workers that were looked at: at which reading one is looked at again, at the least, and
+/// whether one is over.
+#[derive(Clone, Copy)]
+struct Looked {
+    soonest: u64,
+    over: bool,
+}
+
+// What is known of these and of those.
+fn both(these: Looked, those: Looked) -> Looked {
+    Looked {
+        soonest: these.soonest.min(those.soonest),
+        over: these.over || those.over,
+    }
+}
+
+// Each worker of a thread that is called goes on, where no reading has come, and else each for which it has;
+// all where that is 0.
 fn go_round<V: Served, R: Wait, C: Clock, L: Lobby, D: Door>(
     rt: &R,
     alloc: Global,
@@ -145,6 +181,7 @@ fn go_round<V: Served, R: Wait, C: Clock, L: Lobby, D: Door>(
     clock: &C,
     lobby: &L,
     first: usize,
+    soonest: u64,
     jobs: &mut [Job<D, D::Conn>],
 ) -> Round
     requires { All (λ j. IsAtWork D.out desk.now j) jobs.old }
@@ -154,11 +191,135 @@ fn go_round<V: Served, R: Wait, C: Clock, L: Lobby, D: Door>(
         → HasCome (C.reads clock.now) access.now D.Conn.left D.Conn.given D.Conn.reads D.Conn.writes D.left D.taken D.ended D.count D.out most began (slice_index_or jobs.new i d) }
     ensures over { result ≡ AllOver → All (λ j. is_over j.stage ≡ true) jobs.new }
 {
-    let now = clock.now();
-    let mut soonest = u64::MAX;
+    let now = reading_for(clock, soonest);
+    let looked = look(
+        rt, alloc, routes, access, desk, clock, lobby, first, soonest, now, jobs,
+    );
+    if all_over(looked, jobs) {
+        return Round::AllOver;
+    }
+    if looked.soonest <= now {
+        return Round::Moves(looked.soonest);
+    }
+    Round::Blocked(looked.soonest)
+}
+
+// The clock's reading, where it matters for this one.
+fn reading_for<C: Clock>(clock: &C, soonest: u64) -> u64 {
+    if soonest == u64::MAX {
+        return 0;
+    }
+    clock.now()
+}
+
+// Whether each worker is over, where one of those that were looked at is.
+fn all_over<D, N>(looked: Looked, jobs: &[Job<D, N>]) -> bool
+    ensures { result ≡ true → All (λ j. is_over j.stage ≡ true) jobs.now }
+{
+    looked.over && are_over(jobs)
+}
+
+// The workers go on that are to be looked at in a round that begins at this reading.
+fn look<V: Served, R: Wait, C: Clock, L: Lobby, D: Door>(
+    rt: &R,
+    alloc: Global,
+    routes: &Routes,
+    access: &Access,
+    desk: &Desk<V>,
+    clock: &C,
+    lobby: &L,
+    first: usize,
+    soonest: u64,
+    now: u64,
+    jobs: &mut [Job<D, D::Conn>],
+) -> Looked
+    requires { All (λ j. IsAtWork D.out desk.now j) jobs.old }
+    ensures work { All (λ j. IsAtWork D.out desk.now j) jobs.new }
+    ensures come { (most : ℕ) (began : Job D D.Conn) (i : ℕ) (d : Job D D.Conn) → i < length jobs.old
+        → HasCome (C.reads clock.now) access.now D.Conn.left D.Conn.given D.Conn.reads D.Conn.writes D.left D.taken D.ended D.count D.out most began (slice_index_or jobs.old i d)
+        → HasCome (C.reads clock.now) access.now D.Conn.left D.Conn.given D.Conn.reads D.Conn.writes D.left D.taken D.ended D.count D.out most began (slice_index_or jobs.new i d) }
+{
+    if now < soonest {
+        return drain(
+            rt, alloc, routes, access, desk, clock, lobby, first, soonest, jobs,
+        );
+    }
+    let due = due_by(soonest, now);
+    sweep(
+        rt, alloc, routes, access, desk, clock, lobby, first, due, jobs,
+    )
+}
+
+// Up to which reading workers go on in a sweep.
+fn due_by(soonest: u64, now: u64) -> u64 {
+    if soonest == 0 {
+        return u64::MAX;
+    }
+    now
+}
+
+// Each worker goes on that is to be looked at by this reading.
+fn sweep<V: Served, R: Wait, C: Clock, L: Lobby, D: Door>(
+    rt: &R,
+    alloc: Global,
+    routes: &Routes,
+    access: &Access,
+    desk: &Desk<V>,
+    clock: &C,
+    lobby: &L,
+    first: usize,
+    due: u64,
+    jobs: &mut [Job<D, D::Conn>],
+) -> Looked
+    requires { All (λ j. IsAtWork D.out desk.now j) jobs.old }
+    ensures work { All (λ j. IsAtWork D.out desk.now j) jobs.new }
+    ensures come { (most : ℕ) (began : Job D D.Conn) (i : ℕ) (d : Job D D.Conn) → i < length jobs.old
+        → HasCome (C.reads clock.now) access.now D.Conn.left D.Conn.given D.Conn.reads D.Conn.writes D.left D.taken D.ended D.count D.out most began (slice_index_or jobs.old i d)
+        → HasCome (C.reads clock.now) access.now D.Conn.left D.Conn.given D.Conn.reads D.Conn.writes D.left D.taken D.ended D.count D.out most began (slice_index_or jobs.new i d) }
+{
+    let mut looked = Looked {
+        soonest: u64::MAX,
+        over: false,
+    };
     for i in 0..jobs.len() {
-        let number = first.saturating_add(i);
-        let again = go_job(
+        let this = go_at(
+            rt, alloc, routes, access, desk, clock, lobby, first, due, i, jobs,
+        );
+        looked = both(looked, this);
+    }
+    looked
+}
+
+// The workers that are called go on, one after the other, so many at most; the others are looked at again at
+// this reading.
+fn drain<V: Served, R: Wait, C: Clock, L: Lobby, D: Door>(
+    rt: &R,
+    alloc: Global,
+    routes: &Routes,
+    access: &Access,
+    desk: &Desk<V>,
+    clock: &C,
+    lobby: &L,
+    first: usize,
+    soonest: u64,
+    jobs: &mut [Job<D, D::Conn>],
+) -> Looked
+    requires { All (λ j. IsAtWork D.out desk.now j) jobs.old }
+    ensures work { All (λ j. IsAtWork D.out desk.now j) jobs.new }
+    ensures come { (most : ℕ) (began : Job D D.Conn) (i : ℕ) (d : Job D D.Conn) → i < length jobs.old
+        → HasCome (C.reads clock.now) access.now D.Conn.left D.Conn.given D.Conn.reads D.Conn.writes D.left D.taken D.ended D.count D.out most began (slice_index_or jobs.old i d)
+        → HasCome (C.reads clock.now) access.now D.Conn.left D.Conn.given D.Conn.reads D.Conn.writes D.left D.taken D.ended D.count D.out most began (slice_index_or jobs.new i d) }
+{
+    let mut looked = Looked {
+        soonest,
+        over: false,
+    };
+    for _ in 0..CALLS_EACH {
+        let Some(number) = lobby.called(first) else {
+            break;
+        };
+        let i = number.saturating_sub(first);
+        let this = go_at(
             rt,
             alloc,
             routes,
@@ -166,22 +327,59 @@ fn go_round<V: Served, R: Wait, C: Clock, L: Lobby, D: Door>(
             desk,
             clock,
             lobby,
-            number,
-            now,
-            &mut jobs[i],
+            first,
+            u64::MAX,
+            i,
+            jobs,
         );
-        soonest = soonest.min(again);
+        looked = both(looked, this);
     }
-    if soonest <= now {
-        return Round::Moves;
-    }
-    if are_over(jobs) {
-        return Round::AllOver;
-    }
-    Round::Blocked(soonest)
+    looked
 }
 
-// One worker makes one step, where it may. At which reading it is looked at again.
+// The worker at this place of the list goes on, if it is there and is to be looked at by this reading.
+fn go_at<V: Served, R: Wait, C: Clock, L: Lobby, D: Door>(
+    rt: &R,
+    alloc: Global,
+    routes: &Routes,
+    access: &Access,
+    desk: &Desk<V>,
+    clock: &C,
+    lobby: &L,
+    first: usize,
+    due: u64,
+    i: usize,
+    jobs: &mut [Job<D, D::Conn>],
+) -> Looked
+    requires { All (λ j. IsAtWork D.out desk.now j) jobs.old }
+    ensures work { All (λ j. IsAtWork D.out desk.now j) jobs.new }
+    ensures come { (most : ℕ) (began : Job D D.Conn) (i : ℕ) (d : Job D D.Conn) → i < length jobs.old
+        → HasCome (C.reads clock.now) access.now D.Conn.left D.Conn.given D.Conn.reads D.Conn.writes D.left D.taken D.ended D.count D.out most began (slice_index_or jobs.old i d)
+        → HasCome (C.reads clock.now) access.now D.Conn.left D.Conn.given D.Conn.reads D.Conn.writes D.left D.taken D.ended D.count D.out most began (slice_index_or jobs.new i d) }
+{
+    if i >= jobs.len() {
+        return Looked {
+            soonest: u64::MAX,
+            over: false,
+        };
+    }
+    let number = first.saturating_add(i);
+    go_job(
+        rt,
+        alloc,
+        routes,
+        access,
+        desk,
+        clock,
+        lobby,
+        number,
+        due,
+        &mut jobs[i],
+    )
+}
+
+// One worker goes on until it is blocked, if it is to be looked at by this reading. Behind some steps it is
+// put behind the others that are called, where the lobby does so, and else looked at again at once.
 fn go_job<V: Served, R: Wait, C: Clock, L: Lobby, D: Door>(
     rt: &R,
     alloc: Global,
@@ -191,7 +389,46 @@ fn go_job<V: Served, R: Wait, C: Clock, L: Lobby, D: Door>(
     clock: &C,
     lobby: &L,
     number: usize,
-    now: u64,
+    due: u64,
+    job: &mut Job<D, D::Conn>,
+) -> Looked
+    requires { IsAtWork D.out desk.now job.old }
+    ensures work { IsAtWork D.out desk.now job.new }
+    ensures come { (most : ℕ) (began : Job D D.Conn) → HasCome (C.reads clock.now) access.now D.Conn.left D.Conn.given D.Conn.reads D.Conn.writes D.left D.taken D.ended D.count D.out most began job.old
+        → HasCome (C.reads clock.now) access.now D.Conn.left D.Conn.given D.Conn.reads D.Conn.writes D.left D.taken D.ended D.count D.out most began job.new }
+{
+    if due < job.again {
+        return Looked {
+            soonest: job.again,
+            over: false,
+        };
+    }
+    let went = go_far(rt, alloc, routes, access, desk, clock, job);
+    let again = again_behind(lobby, number, went);
+    job.again = again;
+    Looked {
+        soonest: again,
+        over: is_over(&job.stage),
+    }
+}
+
+// When a worker is looked at again, if nothing else happens, that is to be at this reading: where it may go on
+// at once, it is called behind the others, if the lobby does so.
+fn again_behind<L: Lobby>(lobby: &L, number: usize, went: u64) -> u64 {
+    if went == 0 && lobby.call(number) {
+        return u64::MAX;
+    }
+    went
+}
+
+// One worker goes on until it is blocked, some steps at most. At which reading it is looked at again.
+fn go_far<V: Served, R: Wait, C: Clock, D: Door>(
+    rt: &R,
+    alloc: Global,
+    routes: &Routes,
+    access: &Access,
+    desk: &Desk<V>,
+    clock: &C,
     job: &mut Job<D, D::Conn>,
 ) -> u64
     requires { IsAtWork D.out desk.now job.old }
@@ -199,9 +436,30 @@ fn go_job<V: Served, R: Wait, C: Clock, L: Lobby, D: Door>(
     ensures come { (most : ℕ) (began : Job D D.Conn) → HasCome (C.reads clock.now) access.now D.Conn.left D.Conn.given D.Conn.reads D.Conn.writes D.left D.taken D.ended D.count D.out most began job.old
         → HasCome (C.reads clock.now) access.now D.Conn.left D.Conn.given D.Conn.reads D.Conn.writes D.left D.taken D.ended D.count D.out most began job.new }
 {
-    if now < job.again && !lobby.may_go(number) {
-        return job.again;
+    for _ in 0..STEPS_EACH {
+        let again = go_once(rt, alloc, routes, access, desk, clock, job);
+        if again > 0 {
+            return again;
+        }
     }
+    0
+}
+
+// One worker makes one step. At which reading it is looked at again: 0 where it may go on at once.
+fn go_once<V: Served, R: Wait, C: Clock, D: Door>(
+    rt: &R,
+    alloc: Global,
+    routes: &Routes,
+    access: &Access,
+    desk: &Desk<V>,
+    clock: &C,
+    job: &mut Job<D, D::Conn>,
+) -> u64
+    requires { IsAtWork D.out desk.now job.old }
+    ensures work { IsAtWork D.out desk.now job.new }
+    ensures come { (most : ℕ) (began : Job D D.Conn) → HasCome (C.reads clock.now) access.now D.Conn.left D.Conn.given D.Conn.reads D.Conn.writes D.left D.taken D.ended D.count D.out most began job.old
+        → HasCome (C.reads clock.now) access.now D.Conn.left D.Conn.given D.Conn.reads D.Conn.writes D.left D.taken D.ended D.count D.out most began job.new }
+{
     let Some(pass) = job.pass.take() else {
         unreachable!()
     };
@@ -221,7 +479,6 @@ fn go_job<V: Served, R: Wait, C: Clock, L: Lobby, D: Door>(
     job.pass = Some(pass);
     job.stop = stop_at(&stage, stop);
     let_go(mem::replace(&mut job.stage, stage));
-    job.again = again;
     again
 }
 

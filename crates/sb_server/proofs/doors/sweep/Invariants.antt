@@ -2,7 +2,7 @@ use Rattle.std.proofs.Common.{ℕ, ◌<◌, length}
 use Rattle.std.specs.Prelude.{All, slice_index_or}
 use Rattle.sb_server.specs.declared.job.Job.{Job}
 use Rattle.sb_server.specs.Serves.{IsAtWork, HasCome}
-use Rattle.sb_server.proofs.doors.go_round.Given as goal
+use Rattle.sb_server.proofs.doors.sweep.Given as goal
 
 abbrev pub invariant-loop-i : goal.invariant-loop-i
 invariant-loop-i g l = record {
