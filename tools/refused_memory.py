@@ -12,14 +12,18 @@ has to end with 0 and all replies, with 7 and the first replies (and the line of
 or with 11 and nothing; and the journal must open again, with all that stood there before the run, each
 acknowledged change, and at most the one more that wasn't acknowledged.
 
-The same with a server, over which a message is sent, locked and completed by REST, and a batch is sent: each
-response is the one that is due, or 503 with OutOfMemory behind which nothing has changed and the same request
-passes, or the server ends, with no more than the one change that wasn't acknowledged. How many completions found
-no memory is told. The exit status is 1 where something ends otherwise.
+The same with a server, over which a message is sent, locked and completed by REST, a batch is sent, and a message of
+the largest body is received and deleted: each response is the one that is due, whole, or 503 with OutOfMemory, behind
+which nothing has changed and the same request passes; or the server ends before a call of that request. What stands
+behind it are the changes that were acknowledged, each journaled once. Then, of the completion and the deletion, each
+call for memory is refused in turn with the 40 behind it: a response that is due is tried again until there is memory
+for it, and some have to come so. How many completions found no memory before their call is told. The exit status is 1
+where something ends otherwise.
 """
 import collections
 import json
 import os
+import re
 import shutil
 import subprocess
 import sys
@@ -35,16 +39,17 @@ SHIM = r"""
 #include <fcntl.h>
 #include <stdlib.h>
 #include <unistd.h>
-static long calls, refused;
+static long calls, refused, behind;
 static int told = -1;
 static int refuse(void) {
     if (told < 0) {
         told = open(getenv("CALLS_TO"), O_WRONLY | O_CREAT | O_TRUNC | O_CLOEXEC, 0600);
         refused = atol(getenv("REFUSE_AT"));
+        behind = atol(getenv("AND_BEHIND"));
     }
     long call = __atomic_add_fetch(&calls, 1, __ATOMIC_SEQ_CST);
     if (pwrite(told, &call, sizeof call, 0) != sizeof call) abort();
-    return call == refused;
+    return refused <= call && call <= refused + behind;
 }
 void *malloc(size_t n) {
     static void *(*next)(size_t);
@@ -112,10 +117,19 @@ class Trial:
             source.write(SHIM)
         subprocess.run(["cc", "-shared", "-fPIC", "-o", self.library, source.name, "-ldl"], check=True)
 
+    def refusing(self, refused, behind=0):
+        """What the library reads: that this call is refused, and so many behind it."""
+        return dict(LD_PRELOAD=self.library, REFUSE_AT=str(refused), AND_BEHIND=str(behind), CALLS_TO=self.calls)
+
+    def called(self):
+        """How many calls the program has made."""
+        with open(self.calls, "rb") as calls:
+            return int.from_bytes(calls.read(), sys.byteorder)
+
     def run(self, folder, lines, refused=None):
         env = dict(os.environ)
         if refused is not None:
-            env.update(LD_PRELOAD=self.library, REFUSE_AT=str(refused), CALLS_TO=self.calls)
+            env.update(self.refusing(refused))
         script = "".join(line + "\n" for line in lines).encode()
         ended = subprocess.run([self.program, "run", "--data", folder], input=script, capture_output=True, env=env)
         return ended.returncode, ended.stdout.splitlines(True)
@@ -144,9 +158,8 @@ class Trial:
         while True:
             path = self.folder(start)
             status, told = self.run(path, lines, refused)
-            with open(self.calls, "rb") as calls:
-                if int.from_bytes(calls.read(), sys.byteorder) < refused:
-                    break
+            if self.called() < refused:
+                break
             said = told[-1:] == [WANTING]
             whole = told[:-1] if said else told
             sound = whole == replies[: len(whole)] and status in (0, 7, 11)
@@ -169,11 +182,11 @@ class Trial:
             print(f"{name}: {runs:4} runs with status {status}, {count} replies, {line}")
         return wrong
 
-
-    def served(self, base, refused):
-        """A server over a copy of the base with this call refused: the responses of the requests that were asked."""
+    def served(self, base, refused, behind, count=None):
+        """The answers of a server over a copy of the base, with this call refused and so many behind it, to the first
+        requests; and whether it goes on behind them."""
         path, port = self.folder(base), lib.free_port()
-        env = dict(os.environ, LD_PRELOAD=self.library, REFUSE_AT=str(refused), CALLS_TO=self.calls)
+        env = dict(os.environ, **self.refusing(refused, behind))
         words = [self.program, "serve", "--data", path, "--port", str(port), "--workers", "1"]
         server = subprocess.Popen(words, env=env, stdout=subprocess.DEVNULL, stderr=subprocess.DEVNULL)
         came = []
@@ -182,78 +195,107 @@ class Trial:
                 time.sleep(0.01)
             if server.poll() is None:
                 with lib.Caller(port) as caller:
-                    asked(caller, came)
+                    for answer in self.asked(caller, REQUESTS[:count]):
+                        came.append(answer)
+            return came, server.poll() is None
         except OSError:
-            came.append(("gone", 0))
+            return came, False
         finally:
             server.kill()
             server.wait()
-        return path, came
 
-    def serve_sweep(self, base):
-        """Serves with each call refused in turn; how many ended otherwise."""
+    def asked(self, caller, requests):
+        """Asks in order, again where the answer is OutOfMemory, and gives each answer."""
+        location, place = "", 0
+        while place < len(requests):
+            method, target, fields, body = requests[place]
+            status, head, told = caller.ask(method, target or location, body, fields)
+            is_wanting = status == 503 and b"OutOfMemory" in told
+            yield Answer(place, is_wanting, (re.sub(TIME, "", head), told), self.called())
+            if not is_wanting:
+                found = re.search(r"\r\nLocation: http://localhost(\S+)", head)
+                location = found[1] if found else location
+                place += 1
+
+    def due(self, base):
+        """What is due where no memory is wanting."""
         states = [self.state(self.folder(base))]
         for count in range(1, len(REQUESTS) + 1):
-            path, port = self.folder(base), lib.free_port()
-            with lib.serving(self.program, path, port, "--workers", "1"), lib.Caller(port) as caller:
-                asked(caller, [], count)
-            states.append(self.state(path))
+            came, _is_up = self.served(base, NEVER, 0, count)
+            states.append(self.state(f"{self.work}/data"))
+        return Due([answer.shape for answer in came], states, [answer.calls for answer in came])
+
+    def tried(self, base, due, refused, behind):
+        """The answers with this call refused and so many behind it, how the server ended, and whether all is sound."""
+        came, is_up = self.served(base, refused, behind)
+        done = [answer.shape for answer in came if not answer.is_wanting]
+        sound = done == due.shapes[: len(done)] and len(came) <= len(done) + 1
+        sound = sound and is_up == (len(done) == len(REQUESTS))
+        sound = sound and self.state(f"{self.work}/data") == due.states[len(done)]
+        ended = "and went on" if is_up else "and ended" if came else "and didn't begin"
+        if not sound:
+            answers = [(answer.place, answer.shape[0][:60]) for answer in came]
+            print(f"WRONG: a server, growths {refused} to {refused + behind}: {answers} {ended}")
+        return came, (len(done), len(came) - len(done), ended), sound
+
+    def serve_sweep(self, base, due):
+        """Serves with each call refused in turn; how many ended otherwise."""
         classes, wrong, completions, refused = collections.Counter(), 0, 0, 1
         while True:
-            path, came = self.served(base, refused)
-            with open(self.calls, "rb") as calls:
-                if int.from_bytes(calls.read(), sys.byteorder) < refused:
-                    break
-            done = [place for place, (said, _) in enumerate(came) if said == "done"]
-            wanting = [asked_at for said, asked_at in came if said == "wanting"]
-            is_gone = bool(came) and came[-1][0] == "gone"
-            may = states[len(done) : len(done) + (2 if is_gone else 1)]
-            sound = all(said in ("done", "wanting", "gone") for said, _ in came) and len(wanting) <= 1
-            sound = sound and (not came or is_gone or len(done) == len(REQUESTS)) and self.state(path) in may
-            completions += (wanting == [COMPLETION]) or (is_gone and len(done) == COMPLETION)
-            ended = "and ended" if is_gone else "and went on" if came else "and didn't begin"
-            classes[(len(done), len(wanting), ended)] += 1
-            if not sound:
-                wrong += 1
-                print(f"WRONG: a server, growth {refused}: {came}")
+            came, ended, sound = self.tried(base, due, refused, 0)
+            if self.called() < refused:
+                break
+            completions += [answer.place for answer in came if answer.is_wanting] == [COMPLETION]
+            classes[ended] += 1
+            wrong += not sound
             refused += self.every
         for (done, wanting, ended), runs in sorted(classes.items()):
             print(f"a server: {runs:4} with {done} responses as they are due, {wanting} of OutOfMemory, {ended}")
         print(f"a server: {completions} completions found no memory")
         return wrong
 
+    def late_sweep(self, base, due):
+        """Refuses each call of a request that settles a message, and those behind it; how many ended otherwise."""
+        wrong = 0
+        for place in (COMPLETION, DELETION):
+            late = 0
+            for refused in range(due.calls[place - 1] + 1, due.calls[place] + 1):
+                came, _ended, sound = self.tried(base, due, refused, BEHIND)
+                answers = [answer for answer in came if answer.place == place]
+                late += len(answers) == 1 and not answers[0].is_wanting and answers[0].calls >= refused + BEHIND
+                wrong += not sound
+            print(f"a server: {late} responses to {' '.join(REQUESTS[place][:2])} were tried again, and came whole")
+            wrong += late == 0
+        return wrong
+
     def state(self, path):
-        """What stands in the queue, and whether it may be received."""
+        """How many events were journaled, what stands in the queue, and whether it may be received."""
+        check = subprocess.run([self.program, "check", "--data", path], capture_output=True, check=False)
         _status, replies = self.run(path, ['{"do":"peek","from":"q","start":1,"count":100}'])
         shown = json.loads(replies[0])["copies"]
-        return [(copy["seq"], copy["state"], copy.get("body")) for copy in shown]
+        return json.loads(check.stdout)["events"], [(copy["seq"], copy["state"], copy.get("body")) for copy in shown]
 
 
+# An answer to the request at this place: whether memory was wanting, its head without the clock's times and its body,
+# and how many calls for memory the server had made then.
+Answer = collections.namedtuple("Answer", "place is_wanting shape calls")
+# Of each request the response and the calls for memory until it came; the state before the first and behind each.
+Due = collections.namedtuple("Due", "shapes states calls")
+
+TIME = r"[A-Z][a-z]{2}, \d\d [A-Z][a-z]{2} \d{4} \d\d:\d\d:\d\d GMT"
 BATCH = ["Content-Type: application/vnd.microsoft.servicebus.json"]
-# Method, target (the location of the last lock where none is said), fields, body and the status that is due.
+LARGEST = b"x" * 262_144
+# Method, target (the location of the last lock where it is empty), fields and body.
 REQUESTS = [
-    ("POST", "/q/messages", [], b"new", 201),
-    ("POST", "/q/messages/head?timeout=0", [], b"", 201),
-    ("DELETE", None, [], b"", 200),
-    ("POST", "/q/messages", BATCH, b'[{"Body":"x"},{"Body":"y"}]', 201),
+    ("POST", "/q/messages", [], LARGEST),
+    ("POST", "/q/messages/head?timeout=0", [], b""),
+    ("DELETE", "", [], b""),
+    ("POST", "/q/messages", BATCH, b'[{"Body":"x"},{"Body":"y"}]'),
+    ("DELETE", "/q/messages/head?timeout=0", [], b""),
 ]
-COMPLETION = 2
-
-
-def asked(caller, came, count=len(REQUESTS)):
-    """Asks in order, again where the answer is OutOfMemory; what was said of which request goes into came."""
-    location, place = "", 0
-    while place < count:
-        method, target, fields, body, due = REQUESTS[place]
-        status, head, told = caller.ask(method, target or location, body, fields)
-        if status == 503 and b"OutOfMemory" in told:
-            came.append(("wanting", place))
-            continue
-        came.append(("done" if status == due else "other", place))
-        location = head.partition("/q/messages/")[2].split("\r\n")[0] or location
-        if not location.startswith("/"):
-            location = "/q/messages/" + location
-        place += 1
+COMPLETION, DELETION = 2, 4
+NEVER = 1 << 60  # a call that no run comes to
+BEHIND = 40
 
 
 def behind_head(folder):
@@ -273,7 +315,8 @@ def main():
         os.mkdir(base)
         trial.run(base, FIRST)
         wrong += trial.sweep("later run", base, SECOND)
-        wrong += trial.serve_sweep(base)
+        due = trial.due(base)
+        wrong += trial.serve_sweep(base, due) + trial.late_sweep(base, due)
         wrong += trial.sweep("setup", None, SETUP)
         made = f"{work}/made"
         os.mkdir(made)
