@@ -5,6 +5,7 @@ ghost use Rattle.serde_json.specs.Find.{as_array};
 ghost use Rattle.httparse.specs.Spans.{IsHeaderWithin, header_bytes};
 ghost use Rattle.serde_json.specs.View.{view, items_view, members_view};
 ghost use Rattle.sb_lines.specs.Faults.{Answers, or_key, then_by};
+ghost use Rattle.sb_lines.specs.Gathering.{Leaves};
 ghost use Rattle.sb_lines.specs.Messages.{unless_null};
 ghost use Rattle.sb_rest.specs.Batches as batches;
 
@@ -14,8 +15,8 @@ use crate::reserved::front;
 use crate::value::json_text;
 use httparse::spans::HeaderSpan;
 use sb_http::is_word;
-use sb_lines::{LineFault, bad, property_value, put_property};
-use sb_model::{Message, Property, Rows, Text};
+use sb_lines::{Gathered, LineFault, bad, property_value};
+use sb_model::{Message, Rows, Text};
 use sb_routes::{cut, text_of};
 use serde_json::{Map, Value};
 use std::alloc::Global;
@@ -100,36 +101,51 @@ fn broker_from(alloc: Global, given: Option<&Value>) -> Result<Broker, LineFault
     broker_of(alloc, member)
 }
 
-fn with_member(
+fn gather_member(
     alloc: Global,
     name: &str,
     value: &Value,
-    props: Rows<Property>,
-) -> Result<Rows<Property>, LineFault>
-    ensures { Answers result (batches.property_from name.now (unless_null (view value.now)) props) }
+    props: &mut Gathered,
+) -> Result<(), LineFault>
+    ensures { Leaves result props.new (batches.property_from name.now (unless_null (view value.now)) props.old) }
 {
     if value.is_null() {
-        return Ok(props);
+        return Ok(());
     }
     let value = property_value(alloc, value, name)?;
-    Ok(put_property(alloc, name, value, props)?)
+    props.put(alloc, name, value)?;
+    Ok(())
 }
 
-fn properties_of(alloc: Global, members: &Map<String, Value>) -> Result<Rows<Property>, LineFault>
+fn gather(
+    alloc: Global,
+    members: &Map<String, Value>,
+    props: &mut Gathered,
+) -> Result<(), LineFault>
+    ensures { Leaves result props.new (batches.with_members (members_view members.now.entries) props.old) }
+{
+    for (name, member) in members.iter() {
+        gather_member(alloc, name.as_str(), member, props)?;
+    }
+    Ok(())
+}
+
+fn properties_of(alloc: Global, members: &Map<String, Value>) -> Result<Gathered, LineFault>
     ensures { Answers result (batches.with_members (members_view members.now.entries) []) }
 {
-    let mut props = Rows::new(alloc);
-    for (name, member) in members.iter() {
-        props = with_member(alloc, name.as_str(), member, props)?;
+    let mut props = Gathered::new(alloc);
+    if let Err(fault) = gather(alloc, members, &mut props) {
+        drop(props);
+        return Err(fault);
     }
     Ok(props)
 }
 
-fn properties_from(alloc: Global, given: Option<&Value>) -> Result<Rows<Property>, LineFault>
+fn properties_from(alloc: Global, given: Option<&Value>) -> Result<Gathered, LineFault>
     ensures { Answers result (batches.properties_from (option_map (λ v. view v.now) given.entry)) }
 {
     let Some(member) = given else {
-        return Ok(Rows::new(alloc));
+        return Ok(Gathered::new(alloc));
     };
     let Some(members) = member.as_object() else {
         return bad(alloc, "UserProperties");
@@ -152,7 +168,7 @@ fn message_of(alloc: Global, value: &Value) -> Result<Message, LineFault>
         content_type: Text::from_string(String::new(alloc)),
         props,
     };
-    Ok(message_from(body, draft)?)
+    Ok(message_from(alloc, body, draft)?)
 }
 
 // ---- the array

@@ -5,7 +5,8 @@ ghost use Rattle.sb_model.specs.declared.message.SystemName.TheVariants.{Content
 ghost use Rattle.sb_rest.specs.Brokers.{no_broker};
 ghost use Rattle.sb_rest.specs.Headers.{no_draft, message_from};
 
-use sb_model::{Message, Property, Rows, SystemName, SystemText, Text};
+use sb_lines::Gathered;
+use sb_model::{Message, Rows, SystemName, SystemText, Text};
 use std::alloc::{AllocError, Global};
 
 /// What BrokerProperties say.
@@ -25,8 +26,8 @@ pub struct Draft {
     pub broker: Broker,
     /// Empty where there is none.
     pub content_type: Text,
-    /// By name in byte order, none twice.
-    pub props: Rows<Property>,
+    /// The user properties.
+    pub props: Gathered,
 }
 
 /// Where nothing is said.
@@ -47,7 +48,7 @@ pub(crate) fn no_draft(alloc: Global) -> Draft
     Draft {
         broker: no_broker(alloc),
         content_type: Text::from_string(String::new(alloc)),
-        props: Rows::new(alloc),
+        props: Gathered::new(alloc),
     }
 }
 
@@ -66,7 +67,11 @@ fn with_type(text: Text, texts: Rows<SystemText>) -> Result<Rows<SystemText>, Al
 }
 
 /// The message with this body of which this is said.
-pub(crate) fn message_from(body: Rows<u8>, draft: Draft) -> Result<Message, AllocError>
+pub(crate) fn message_from(
+    alloc: Global,
+    body: Rows<u8>,
+    draft: Draft,
+) -> Result<Message, AllocError>
     ensures { IfOk result (λ m. m ≡ message_from body draft) }
 {
     let Draft {
@@ -80,6 +85,7 @@ pub(crate) fn message_from(body: Rows<u8>, draft: Draft) -> Result<Message, Allo
         schedule,
     } = broker;
     let sys = with_type(content_type, texts)?;
+    let props = props.into_rows(alloc)?;
     Ok(Message {
         body,
         sys,

@@ -13,7 +13,7 @@ use crate::reserved::is_reserved;
 use crate::value::header_value;
 use httparse::spans::HeaderSpan;
 use sb_http::is_word;
-use sb_lines::{LineFault, bad, put_property};
+use sb_lines::{LineFault, bad};
 use sb_model::{Message, Rows, Text};
 use sb_routes::text_of;
 use std::alloc::Global;
@@ -49,9 +49,9 @@ fn with_property(alloc: Global, name: &str, value: &[u8], draft: Draft) -> Resul
     let Draft {
         broker,
         content_type,
-        props,
+        mut props,
     } = draft;
-    let props = put_property(alloc, name, value, props)?;
+    props.put(alloc, name, value)?;
     Ok(Draft {
         broker,
         content_type,
@@ -174,7 +174,7 @@ pub(crate) fn message_in(
 {
     let draft = hear_all(alloc, text, lines, no_draft(alloc))?;
     let body = Rows::of(alloc, body)?;
-    let message = message_from(body, draft)?;
+    let message = message_from(alloc, body, draft)?;
     let mut messages = Rows::new(alloc);
     messages.push(message)?;
     Ok(messages)
