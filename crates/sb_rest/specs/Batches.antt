@@ -19,32 +19,41 @@ use Rattle.sb_routes.specs.Paths.{as_text}
 
 -- ---- the media type
 
-abbrev pub batch_type : List ℕ
-batch_type = codes "application/vnd.microsoft.servicebus.json"
-
 -- a space or a tab
 abbrev pub is_blank : ℕ → Bool
 is_blank b = b == 32 || b == 9
 
--- the type, and no more than blanks behind it
-abbrev pub is_batch_word : List ℕ → Bool
-is_batch_word v = same_word batch_type (take (length batch_type) v) && list_all is_blank (drop (length batch_type) v)
+-- this type in any case, and no more than blanks behind it
+abbrev pub is_media_word : List ℕ → List ℕ → Bool
+is_media_word media v = same_word media (take (length media) v) && list_all is_blank (drop (length media) v)
 
--- parameters may stand behind a semicolon
-unfoldable pub is_batch_type : List ℕ → Bool
-is_batch_type v = is_batch_word (split_once 59 v).0
+-- parameters may stand behind a semicolon (RFC 9110, 8.3.1)
+unfoldable pub is_media_type : List ℕ → List ℕ → Bool
+is_media_type media v = is_media_word media (split_once 59 v).0
 
--- whether the type is that of a batch, by this field or by those before
-abbrev pub or_type : Bool → Field → Bool
-or_type so_far f = if same_word type_name f.0 then is_batch_type f.1 else so_far
+-- whether the type is this one, by this field or by those before
+abbrev pub or_type : List ℕ → Bool → Field → Bool
+or_type media so_far f = if same_word type_name f.0 then is_media_type media f.1 else so_far
 
 -- of several Content-Type lines the last counts
-abbrev pub is_batch_from : Bool → List Field → Bool
-is_batch_from so_far fields = fold or_type so_far fields
+abbrev pub has_media_type_from : List ℕ → Bool → List Field → Bool
+has_media_type_from media so_far fields = fold (or_type media) so_far fields
 
--- whether a request's last Content-Type is that of a batch
+-- whether the body of a request with these fields is of this type
+abbrev pub has_media_type : List ℕ → List Field → Bool
+has_media_type media fields = has_media_type_from media false fields
+
+-- the type of a batch
+abbrev pub batch_type : List ℕ
+batch_type = codes "application/vnd.microsoft.servicebus.json"
+
+-- whether this is the type of a batch
+abbrev pub is_batch_type : List ℕ → Bool
+is_batch_type v = is_media_type batch_type v
+
+-- whether a request is a batch
 abbrev pub is_batch : List Field → Bool
-is_batch fields = is_batch_from false fields
+is_batch fields = has_media_type batch_type fields
 
 -- ---- one message
 

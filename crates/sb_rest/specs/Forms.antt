@@ -1,12 +1,12 @@
 -- A message as JSON in the body of its response: who asks for that form, what it says, and where a response has it unasked.
-use Rattle.std.specs.Prelude.{ℕ, Bool, true, false, not, nat_le, ◌&&◌, List, [], ◌∷◌, ◌++◌, codes, length, take, drop}
-use Rattle.std.specs.List.{flat_map, list_all, list_any, position_or_len}
+use Rattle.std.specs.Prelude.{ℕ, Bool, true, false, not, nat_le, ◌&&◌, List, [], ◌∷◌, ◌++◌, codes, length, drop}
+use Rattle.std.specs.List.{flat_map, list_any, position_or_len}
 use Rattle.form_urlencoded.specs.Form.{split, split_once}
 use Rattle.sb_machine.specs.declared.call.Path.{Path}
 use Rattle.sb_machine.specs.declared.reply.CopyShown.{CopyShown}
 use Rattle.sb_http.specs.Fields.{Field, same_word}
 use Rattle.sb_http.specs.Responses.{field_line}
-use Rattle.sb_rest.specs.Batches.{is_blank}
+use Rattle.sb_rest.specs.Batches.{is_blank, is_media_word}
 use Rattle.sb_rest.specs.Shown.{broker_text, location_under}
 
 -- ---- who asks for it
@@ -20,7 +20,7 @@ unindented word = drop (position_or_len (λ b. not (is_blank b)) word) word
 
 -- the type, and no more than blanks behind it
 abbrev pub is_json_word : List ℕ → Bool
-is_json_word word = same_word json_type (take (length json_type) word) && list_all is_blank (drop (length json_type) word)
+is_json_word word = is_media_word json_type word
 
 -- a media range that names the type; parameters, a weight among them, may stand behind a semicolon and say nothing here (RFC 9110, 12.5.1)
 abbrev pub is_json_range : List ℕ → Bool

@@ -1,6 +1,5 @@
 // Several messages in one send.
-ghost use Rattle.std.specs.Prelude.{◌≡◌, [], map, All, length, drop, option_map, codes};
-ghost use Rattle.std.specs.List.{list_all};
+ghost use Rattle.std.specs.Prelude.{◌≡◌, [], map, All, length, option_map, codes};
 ghost use Rattle.serde_json.specs.Find.{as_array};
 ghost use Rattle.httparse.specs.Spans.{IsHeaderWithin, header_bytes};
 ghost use Rattle.serde_json.specs.View.{view, items_view, members_view};
@@ -11,68 +10,24 @@ ghost use Rattle.sb_rest.specs.Batches as batches;
 
 use crate::broker::broker_of;
 use crate::draft::{Broker, Draft, message_from, no_broker};
-use crate::reserved::front;
+use crate::media::has_media_type_in;
 use crate::value::json_text;
 use httparse::spans::HeaderSpan;
-use sb_http::is_word;
 use sb_lines::{Gathered, LineFault, bad, property_value};
 use sb_model::{Message, Rows, Text};
-use sb_routes::{cut, text_of};
+use sb_routes::text_of;
 use serde_json::{Map, Value};
 use std::alloc::Global;
 
 /// The media type of a batch (Microsoft Learn, Service Bus REST API reference, "Send Message Batch").
 const BATCH_TYPE: &[u8] = b"application/vnd.microsoft.servicebus.json";
 
-// ---- the media type
-
-/// What stands behind so many bytes.
-pub(crate) fn behind(bytes: &[u8], n: usize) -> &[u8]
-    ensures { result.now ≡ drop n bytes.now }
-{
-    if n <= bytes.len() { &bytes[n..] } else { &[] }
-}
-
-/// A space or a tab.
-pub(crate) fn is_blank(byte: u8) -> bool
-    ensures { result ≡ batches.is_blank byte }
-{
-    byte == b' ' || byte == b'\t'
-}
-
-/// Whether these are spaces and tabs alone.
-pub(crate) fn are_blank(bytes: &[u8]) -> bool
-    ensures { result ≡ list_all batches.is_blank bytes.now }
-{
-    bytes.iter().all(|b| is_blank(*b))
-}
-
-fn is_batch_word(value: &[u8]) -> bool
-    ensures { result ≡ batches.is_batch_word value.now }
-{
-    is_word(BATCH_TYPE, front(value, BATCH_TYPE.len()))
-        && are_blank(behind(value, BATCH_TYPE.len()))
-}
-
-#[tactic(auto, unfolding(crate::specs::Batches::is_batch_type))]
-fn is_batch_type(value: &[u8]) -> bool
-    ensures { result ≡ batches.is_batch_type value.now }
-{
-    is_batch_word(cut(value, b';').0)
-}
-
 /// Whether the last Content-Type of these lines is that of a batch.
 pub(crate) fn is_batch(text: &[u8], lines: &[HeaderSpan]) -> bool
     requires { All (IsHeaderWithin (length text.now)) lines.now }
     ensures { result ≡ batches.is_batch (map (header_bytes text.now) lines.now) }
 {
-    let mut so_far = false;
-    for line in lines {
-        if is_word(b"content-type", line.name.of(text)) {
-            so_far = is_batch_type(line.value.of(text));
-        }
-    }
-    so_far
+    has_media_type_in(text, lines, BATCH_TYPE)
 }
 
 // ---- one message

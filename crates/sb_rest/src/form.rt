@@ -5,9 +5,8 @@ ghost use Rattle.sb_http.specs.Responses.{field_in, field_line};
 ghost use Rattle.sb_http.specs.Said.{fields_of};
 ghost use Rattle.sb_rest.specs.Forms as forms;
 
-use crate::batch::{are_blank, behind, is_blank};
 use crate::field::{push_field, push_location};
-use crate::reserved::front;
+use crate::media::{is_blank, is_media_word};
 use crate::shown::broker_text;
 use httparse::spans::HeaderSpan;
 use sb_http::{Header, Request, is_word};
@@ -42,7 +41,7 @@ fn unindented(range: &[u8]) -> &[u8]
 fn is_json_word(word: &[u8]) -> bool
     ensures { result ≡ forms.is_json_word word.now }
 {
-    is_word(JSON_TYPE, front(word, JSON_TYPE.len())) && are_blank(behind(word, JSON_TYPE.len()))
+    is_media_word(JSON_TYPE, word)
 }
 
 fn is_json_range(range: &[u8]) -> bool
