@@ -6,11 +6,12 @@ usage: tools/served_rows.py PROGRAM [--short]
 PROGRAM is the built program (crates/sb_bus/out/sb_bus). A server is started on an empty folder; a message is sent and
 received as docs/REST.md has it, settled by its Location, and the same two requests are sent whole, pipelined and cut
 after each byte. A thousand sends in one piece have the numbers 1 to 1,000. The largest message comes back byte for
-byte. A moment lies between two readings of the clock here. Two connections are open at once where a receive waits for
-a send. What a server tells on standard error, with a log of its calls, is read. A server that has no file left for a connection says so once, and takes it as soon as there
-is one. The one worker of a server is free again once its caller has said nothing for 60 seconds, or has taken nothing
-of its response for some minutes; --short leaves these two out. The exit status is 1 where something is answered
-otherwise.
+byte. A message of 100,000 user properties is refused within 20 seconds, in a batch and in a line. A moment lies
+between two readings of the clock here. Two connections are open at once where a receive waits for a send. What a
+server tells on standard error, with a log of its calls, is read. A server that has no file left for a connection says
+so once, and takes it as soon as there is one. The one worker of a server is free again once its caller has said
+nothing for 60 seconds, or has taken nothing of its response for some minutes; --short leaves these two out. The exit
+status is 1 where something is answered otherwise.
 """
 import contextlib
 import os
@@ -134,6 +135,21 @@ def largest_message(port):
     wants(status == 200 and came == body, f"the largest message came back with status {status} and {len(came)} bytes")
 
 
+def many_properties(port):
+    """A message of 100,000 user properties, in a batch and in a line, is refused while its caller still waits."""
+    names = ",".join(f'"{name:05x}":1' for name in range(100_000))
+    batch = f'[{{"UserProperties":{{{names}}}}}]'
+    line = f'{{"do":"send","to":"q","messages":[{{"props":{{{names}}}}}]}}'
+    fields = ["Content-Type: application/vnd.microsoft.servicebus.json"]
+    for path, body in (("/q/messages", batch), ("/script", line)):
+        with Caller(port) as caller:
+            try:
+                _, _, told = caller.ask("POST", path, body.encode(), fields)
+            except TimeoutError:
+                told = b"nothing"
+        wants(told.strip() == b'{"key":"props","refused":"BadCall"}', f"{path} answered 100,000 properties by {told}")
+
+
 def system_clock(port):
     """A message is enqueued between two readings of the clock, and locked for 60 s from then on."""
     with Caller(port) as caller:
@@ -170,6 +186,7 @@ def all_rows(program, is_short):
         thousand_sends(port)
         by_curl(port)
         largest_message(port)
+        many_properties(port)
         system_clock(port)
         two_at_once(port)
         port_in_use(program, port)
