@@ -20,6 +20,7 @@ is lost or doubled, or a sender waits for more than 5 seconds for a response.
 import argparse
 import contextlib
 import json
+import multiprocessing
 import os
 import shutil
 import signal
@@ -35,7 +36,8 @@ import time
 import lib
 from many import Crowd, raise_limit, request
 
-QUEUE = {"do": "create-queue", "name": "q", "lock": 3}
+QUEUE = {"do": "create-queue", "name": "q"}
+LOCK = 3  # seconds of a lock in the queue of a server that is killed
 LONGEST = 5  # seconds that a sender may wait
 NGINX = """
 daemon off; master_process off; pid {folder}/pid; error_log {folder}/errors;
@@ -111,6 +113,12 @@ def kept(program, part, seconds):
 
 def handed(program, part, _):
     many, sent, got, behind = 1000 // part, {}, [], []
+
+    def note(status, body):
+        lib.wants(status in (200, 201), f"a receive was answered {status} {body}")
+        got.append(int(body))
+        behind.append(time.monotonic() - sent[int(body)])
+
     with served(program, many + 10) as (_, port, _), Crowd(port, many) as crowd, Crowd(port, 10) as senders:
         for number, it in enumerate(crowd.all):
             crowd.ask(it, request(("DELETE", "POST")[number % 2], "/q/messages/head?timeout=120"))
@@ -122,13 +130,10 @@ def handed(program, part, _):
                 accepted(status, body)
                 sent[it.asked] = time.monotonic()
             for _, status, _, body in crowd.answers(time.monotonic() + 0.01, is_rest=True):
-                got.append((status, int(body)))
-                behind.append(max(0, time.monotonic() - sent[int(body)]))
+                note(status, body)
         for _, status, _, body in crowd.answers(time.monotonic() + 100, is_rest=True):
-            got.append((status, int(body or -1)))
-            behind.append(max(0, time.monotonic() - sent.get(int(body or -1), 0)))
-    lib.wants(all(status in (200, 201) for status, _ in got), f"the receives had {got}")
-    lib.wants(sorted(body for _, body in got) == list(range(many)), "a message was had twice, or by nobody")
+            note(status, body)
+    lib.wants(sorted(got) == list(range(many)), "a message was had twice, or by nobody")
     return f"{many} receives that waited have one message each, {milliseconds(behind)} behind its send"
 
 
@@ -177,6 +182,7 @@ class Account:
         there = self.completed + rest
         lost = self.sent - set(there) - self.unsure
         lib.wants(not lost, f"{len(lost)} acknowledged messages are lost, as {sorted(lost)[:3]}")
+        lib.wants(self.sent.issuperset(there), "there are messages that nobody sent")
         lib.wants(len(there) == len(set(there)), f"{len(there) - len(set(there))} messages were had twice")
 
 
@@ -202,7 +208,7 @@ def killed(program, part, _):
         server = begin(program, folder, port, senders + receivers)
         try:
             with lib.Caller(port) as caller:
-                lib.wants(caller.line(QUEUE)["ok"] == "done", "the queue wasn't made")
+                lib.wants(caller.line({**QUEUE, "lock": LOCK})["ok"] == "done", "the queue wasn't made")
             for _ in range(rounds):
                 under_load(account, server, port, senders, receivers, (5, 2)[part > 1])
                 server = begin(program, folder, port, senders + receivers)
@@ -213,7 +219,7 @@ def killed(program, part, _):
                         status, _, body = caller.ask("POST", "/q/messages", f"{name} {number}".encode(), fields)
                         accepted(status, body)
                         account.sent.add(f"{name} {number}")
-            time.sleep(QUEUE["lock"] + 0.5)
+            time.sleep(LOCK + 0.5)
             account.judged(taken_behind_kill(program, server))
         finally:
             if server.poll() is None:
@@ -249,8 +255,7 @@ def left(program, part, _):
 
 
 def opened(stack, port, many):
-    conns = [stack.enter_context(socket.create_connection(("127.0.0.1", port), timeout=30)) for _ in range(many)]
-    return conns
+    return [stack.enter_context(socket.create_connection(("127.0.0.1", port), timeout=30)) for _ in range(many)]
 
 
 def waits(stack, port, many):
@@ -290,24 +295,19 @@ def resets(port, many):
 @contextlib.contextmanager
 def in_child(what, *words):
     """A process beside that does this, and is ended behind the block."""
-    child = os.fork()
-    if child == 0:
-        try:
-            what(*words)
-        finally:
-            os._exit(0)
+    child = multiprocessing.Process(target=what, args=words)
+    child.start()
     try:
         yield child
     finally:
-        with contextlib.suppress(ProcessLookupError):
-            os.kill(child, signal.SIGKILL)
-        os.waitpid(child, 0)
+        child.kill()
+        child.join()
 
 
-def sends(caller, seconds):
-    """The seconds that a sender waits for each response."""
+def sends(caller, seconds, child=None):
+    """The seconds that a sender waits for each response, for so long, and until the process beside has ended."""
     times, end = [], time.monotonic() + seconds
-    while time.monotonic() < end:
+    while time.monotonic() < end or (child and child.is_alive()):
         begun = time.monotonic()
         status, _, body = caller.ask("POST", "/q/messages", b"x")
         accepted(status, body)
@@ -328,13 +328,16 @@ def beside(program, part, seconds):
     said = []
     for name, what, whole in rows:
         many = whole // part
-        with served(program, many) as (_, port, caller), contextlib.ExitStack() as stack:
+        places = 0 if what is resets else many
+        with served(program, places) as (_, port, caller), contextlib.ExitStack() as stack:
+            child = None
             if what in (by_bytes, resets):
-                stack.enter_context(in_child(what, port, many))
+                child = stack.enter_context(in_child(what, port, many))
             elif what:
                 what(stack, port, many)
-            said.append(f"{many or ''} {name}: {milliseconds(sends(caller, seconds or (5, 0.5)[part > 1]))}".strip())
-    return "; ".join(said)
+            times = sends(caller, seconds or (5, 0.5)[part > 1], child if what is resets else None)
+            said.append(f"{many or ''} {name}: {milliseconds(times)}".strip())
+    return "".join(f"\n    {it}" for it in said)
 
 
 @contextlib.contextmanager
