@@ -274,16 +274,16 @@ def by_bytes(port, many):
 
 
 def deaf(stack, port, many):
-    """Callers who ask for 16 MiB each, and read nothing."""
+    """Callers who ask for 4 MiB each, and read nothing."""
     with lib.Caller(port) as caller:
-        status, _, body = caller.ask("POST", "/r/messages", b"x" * 262144)
+        status, _, body = caller.ask("POST", "/r/messages", b"x" * 16384)
         accepted(status, body)
     look = request("POST", "/$script", json.dumps({"do": "peek", "from": "r", "start": 1, "count": 1}).encode())
     for _ in range(many):
         conn = stack.enter_context(socket.socket())
         conn.setsockopt(socket.SOL_SOCKET, socket.SO_RCVBUF, 4096)
         conn.connect(("127.0.0.1", port))
-        conn.sendall(look * 48)
+        conn.sendall(look * 256)
 
 
 def resets(port, many):
