@@ -1,17 +1,15 @@
 -- Which bodies are of script lines, and what they ask for.
-use Rattle.std.specs.Prelude.{◌≡◌, ◌⊎◌, ℕ, List, [], ◌∷◌, ◌++◌, length, take, drop, fold, map, codes, Bool, false, not, nat_le, ◌&&◌, Result, Ok, Err, if◌then◌else◌}
-use Rattle.std.specs.List.{flat_map, list_all, list_any}
+use Rattle.std.specs.Prelude.{◌≡◌, ◌⊎◌, ℕ, List, [], ◌∷◌, ◌++◌, length, map, codes, Bool, not, nat_le, ◌&&◌, Result, Ok, Err, if◌then◌else◌}
+use Rattle.std.specs.List.{flat_map, list_any}
 use Rattle.std.specs.Str.{is_utf8}
 use Rattle.sb_machine.specs.Ordered.{IsActInOrder}
 use Rattle.sb_machine.specs.declared.reply.Refusal.TheVariants.{BadCall}
 use Rattle.sb_desk.specs.Lists.{Each}
-use Rattle.form_urlencoded.specs.Form.{split_once}
-use Rattle.sb_http.specs.Fields.{Field, same_word}
+use Rattle.sb_http.specs.Fields.{Field}
 use Rattle.sb_input.specs.Lines.{lines_of, is_blank, NoFeed}
 use Rattle.sb_lines.specs.Lines.{line_of}
 use Rattle.sb_lines.specs.declared.line.Line.{Line as ScriptLine}
-use Rattle.sb_rest.specs.Batches.{is_blank as is_space_or_tab}
-use Rattle.sb_rest.specs.Headers.{type_name}
+use Rattle.sb_rest.specs.Batches.{has_media_type}
 use Rattle.sb_server.specs.declared.body.LineAsk.{LineAsk}
 use Rattle.sb_server.specs.declared.body.LineAsk.TheVariants.{Call, NoCall}
 
@@ -21,25 +19,9 @@ use Rattle.sb_server.specs.declared.body.LineAsk.TheVariants.{Call, NoCall}
 abbrev pub lines_type : List ℕ
 lines_type = codes "application/x-ndjson"
 
--- the type in any case, and no more than blanks behind it
-abbrev pub is_lines_word : List ℕ → Bool
-is_lines_word v = same_word lines_type (take (length lines_type) v) && list_all is_space_or_tab (drop (length lines_type) v)
-
--- parameters may stand behind a semicolon (RFC 9110, 8.3.1)
-unfoldable pub is_lines_type : List ℕ → Bool
-is_lines_type v = is_lines_word (split_once 59 v).0
-
--- whether the body is of lines, by this field or by those before
-abbrev pub or_lines : Bool → Field → Bool
-or_lines so_far f = if same_word type_name f.0 then is_lines_type f.1 else so_far
-
--- of several Content-Type lines the last counts
-abbrev pub has_lines_from : Bool → List Field → Bool
-has_lines_from so_far fields = fold or_lines so_far fields
-
--- whether a body is of lines, one or more
+-- whether the body of a request with these fields is of lines, one or more
 abbrev pub has_lines : List Field → Bool
-has_lines fields = has_lines_from false fields
+has_lines fields = has_media_type lines_type fields
 
 -- ---- one line
 

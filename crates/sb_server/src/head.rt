@@ -10,6 +10,7 @@ ghost use Rattle.sb_server.specs.Bodies as bodies;
 
 use httparse::spans::HeaderSpan;
 use sb_http::{Request, Version, is_word};
+use sb_rest::has_media_type;
 use sb_routes::cut;
 
 const CLOSE: &[u8] = b"close";
@@ -127,37 +128,10 @@ fn has_close(text: &[u8], lines: &[HeaderSpan]) -> bool
 
 // ---- the body
 
-fn is_lines_word(value: &[u8]) -> bool
-    ensures { result ≡ bodies.is_lines_word value.now }
-{
-    is_word(LINES_TYPE, front(value, LINES_TYPE.len()))
-        && are_blank(behind(value, LINES_TYPE.len()))
-}
-
-#[tactic(auto, unfolding(crate::specs::Bodies::is_lines_type))]
-fn is_lines_type(value: &[u8]) -> bool
-    ensures { result ≡ bodies.is_lines_type value.now }
-{
-    is_lines_word(cut(value, b';').0)
-}
-
-fn has_lines_in(text: &[u8], lines: &[HeaderSpan]) -> bool
-    requires { All (IsHeaderWithin (length text.now)) lines.now }
-    ensures { result ≡ bodies.has_lines (map (header_bytes text.now) lines.now) }
-{
-    let mut so_far = false;
-    for line in lines {
-        if is_word(b"content-type", line.name.of(text)) {
-            so_far = is_lines_type(line.value.of(text));
-        }
-    }
-    so_far
-}
-
 /// Whether the body of a request is of script lines, one or more: its last Content-Type is
 /// `application/x-ndjson`, in any case and with any parameters.
 pub(crate) fn has_lines(request: &Request) -> bool
     ensures { result ≡ bodies.has_lines (said_by request.now).head.fields }
 {
-    has_lines_in(request.text, request.lines)
+    has_media_type(request, LINES_TYPE)
 }
