@@ -33,7 +33,7 @@ store_send : IsSend store.the_field.row
 store_send = search (crosses, sendable, global.the_field_send, entities_send, txns.the_send) depth 60 fits 20000
 
 watched_send : IsSend watched.the_field.row
-watched_send = view_send inside.the_row _ _ _ _ (recorded_send inside.the_field.row _ _ inside.the_type.to_one (struct_send (shape inside.the_type) (store_send, (search sendable, tt))))
+watched_send = view_send inside.the_row _ _ _ _ (recorded_send inside.the_field.row _ _ inside.the_type.to_one (struct_send (shape inside.the_type) (store_send, (search sendable, (search sendable, tt)))))
 
 pub engine_send : IsSend engine.the_field.row
 engine_send = search (crosses, sendable, global.the_field_send, clients.the_send, watched_send) depth 60 fits 20000

@@ -195,6 +195,11 @@ impl Engine {
         self.space.is_due(moment)
     }
 
+    /// A moment, in ms since 1970, before which nothing comes due by itself; `u64::MAX` where nothing does.
+    pub fn soonest(&self) -> u64 {
+        self.space.soonest()
+    }
+
     /// What happens as time comes up to a moment, in ms since 1970; nobody waits for its answer.
     /// It changes nothing, and looks at each copy.
     pub fn plan_tick(&self, moment: u64) -> Result<Plan, Refusal>
@@ -233,6 +238,14 @@ impl Engine {
         keep(&mut self.clients, kept);
         self.moment = moment;
         answered
+    }
+
+    /// The marks ([`crate::mark_of`]) of the parts in which the plans that were carried out since this was
+    /// asked last brought something to receive, or made a session free.
+    pub fn take_entered(&mut self) -> u64
+        ensures same { self.new ≡ self.old }
+    {
+        self.space.take_entered()
     }
 
     // ---- numbers

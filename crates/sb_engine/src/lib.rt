@@ -20,6 +20,7 @@
 #![tactic(auto)]
 
 mod acts;
+mod arrivals;
 mod behind;
 mod calls;
 mod claims;
@@ -53,6 +54,7 @@ mod ticks;
 mod via;
 mod watched;
 
+pub use arrivals::mark_of;
 use draft::Draft;
 pub use engine::Engine;
 pub use plan::Plan;

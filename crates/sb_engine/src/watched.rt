@@ -1,4 +1,5 @@
-// A namespace in memory, and a moment before which nothing of it comes due by itself.
+// A namespace in memory, a moment before which nothing of it comes due by itself, and for which parts of
+// entities something came.
 ghost use Rattle.std.specs.Prelude.{◌≡◌, true, false, is_some, OnOk};
 ghost use Rattle.std.specs.List.{list_any};
 ghost use Rattle.std.specs.Result.{IsOk};
@@ -9,6 +10,7 @@ ghost use Rattle.sb_entities.specs.Places.{place_of};
 ghost use Rattle.sb_entities.specs.Stores.{space_in, IsRoomFor};
 ghost use Rattle.sb_engine.specs.Soonest.{IsLater};
 
+use crate::arrivals::marks_of;
 use crate::behind::soonest_behind;
 use crate::due::is_due;
 use crate::soonest::soonest_of;
@@ -16,13 +18,17 @@ use sb_entities::SpaceStore;
 use sb_machine::Changes;
 use std::alloc::{AllocError, Global};
 use std::marker::Model;
+use std::mem;
 
-/// A namespace that knows how long nothing in it comes due.
+/// A namespace that knows how long nothing in it comes due, and for which parts something came since
+/// this was asked last.
 #[derive(Drop)]
 pub struct Watched {
     space: SpaceStore,
     // in ms since 1970
     soonest: u64,
+    // The marks of these parts.
+    entered: u64,
 }
 
 impl Model for Watched {
@@ -45,6 +51,7 @@ impl Watched {
         Watched {
             space: SpaceStore::new(alloc, salt),
             soonest: u64::MAX,
+            entered: 0,
         }
     }
 
@@ -65,6 +72,18 @@ impl Watched {
         is_due(&self.space, moment)
     }
 
+    /// A moment, in ms since 1970, before which nothing comes due by itself; `u64::MAX` where nothing does.
+    pub fn soonest(&self) -> u64 {
+        self.soonest
+    }
+
+    /// The marks of the parts for which something came since this was asked last.
+    pub fn take_entered(&mut self) -> u64
+        ensures same { self.new ≡ self.old }
+    {
+        mem::replace(&mut self.entered, 0)
+    }
+
     /// Takes all memory that these changes need; where it is wanting, all stays.
     pub fn reserve(&mut self, changes: &Changes) -> Result<(), AllocError>
         ensures state { space_in self.new ≡ space_in self.old }
@@ -81,6 +100,7 @@ impl Watched {
         ensures { space_in self.new ≡ machine.after_all moment changes (space_in self.old) }
     {
         let soonest = soonest_behind(&self.space, moment, &changes, self.soonest);
+        self.entered |= marks_of(&self.space, &changes);
         self.space.carry_out(moment, changes);
         self.soonest = soonest_from(&self.space, moment, soonest);
     }
