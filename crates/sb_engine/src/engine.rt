@@ -181,6 +181,9 @@ impl Engine {
         ensures ok { IfOk result (λ p. IsPlanOf (engine_state self.now) moment call.now p × IsSound (engine_state self.now) moment p) }
         ensures err { IfErr result (λ r. (r ≡ OutOfMemory) ⊎ (answer_of (engine_state self.now) moment call.now ≡ Err r)) }
         ensures free { takes_no_memory (engine_state self.now).space call.now ≡ true → IfErr result (λ r. answer_of (engine_state self.now) moment call.now ≡ Err r) }
+
+        // Nor does `reserve` take memory for what such a call would do.
+        ensures bare { takes_no_memory (engine_state self.now).space call.now ≡ true → IfOk result (λ p. (is_some p.kept ≡ false) × (adds_nothing p.changes ≡ true)) }
     {
         self.plan_call(moment, call)
     }

@@ -1,6 +1,6 @@
 use Rattle.sb_engine.specs.Engines.{engine_state}
 use Rattle.sb_engine.proofs.Plannings.{plans, refused_as}
-use Rattle.sb_engine.proofs.Small.{small_answered}
+use Rattle.sb_engine.proofs.Small.{small_answered, small_bare}
 use Rattle.sb_engine.proofs.engine.Engine.plan.Goals as goal
 
 pub returns-clause-ok : goal.returns-clause-ok
@@ -11,3 +11,6 @@ returns-clause-err c = refused_as (engine_state c.args.self.now) c.args.moment c
 
 pub returns-clause-free : goal.returns-clause-free
 returns-clause-free c = λ is. small_answered (engine_state c.args.self.now) c.args.moment c.args.call.now c.plan_call.result (c.plan_call.ensures.free is)
+
+pub returns-clause-bare : goal.returns-clause-bare
+returns-clause-bare c = λ is. small_bare (engine_state c.args.self.now) c.args.moment c.args.call.now c.plan_call.result is c.plan_call.ensures.plan
