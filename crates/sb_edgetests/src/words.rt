@@ -24,6 +24,14 @@ fn says_what_is_wrong(rt: HostRuntime) -> Result<(), Fail> {
             "serve --data=a --port=80 --workers=65536",
             "--workers takes a number from 1 to 65535",
         ),
+        (
+            "serve --data=a --port=80 --request-time=0",
+            "--request-time takes a number from 1 to 86400",
+        ),
+        (
+            "serve --data=a --port=80 --idle-time=86401",
+            "--idle-time takes a number from 1 to 86400",
+        ),
         ("serve --data=a --port=80 --host=", hosts),
         (
             "run --data=a --max-jump=07",
@@ -59,6 +67,8 @@ fn helps_with_each_command(rt: HostRuntime) -> Result<(), Fail> {
         ("run -h", "Example: bus run"),
         ("help check", "--look"),
         ("help serve", "--log"),
+        ("help serve", "[default: 60]"),
+        ("help serve", "[default: 600]"),
         ("--version", "bus 0.1.0"),
     ];
     for (line, wanted) in rows {
@@ -80,5 +90,6 @@ fn reads_who_may_call(rt: HostRuntime) -> Result<(), Fail> {
         (form.key_file, form.max_jump, form.patience),
         ("k", 400, 0)
     );
+    assert_eq!(rt; (form.request_time, form.idle_time), (60, 600));
     Ok(())
 }

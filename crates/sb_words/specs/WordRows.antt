@@ -15,7 +15,7 @@ with_port port = record (form_of Client) { port = port; patience = 120 }
 
 -- a server's call
 abbrev pub serving : (workers connections : ℕ) → Form
-serving workers connections = record (over Serve (codes "a")) { port = 80; workers = workers; connections = connections; max_jump = 400 }
+serving workers connections = record (over Serve (codes "a")) { port = 80; workers = workers; connections = connections; max_jump = 400; request_time = 60; idle_time = 600 }
 
 -- the words of a server, with these options
 abbrev pub serve_with : List Text → List Text
@@ -43,9 +43,9 @@ abbrev pub callers : List (List Text × Form)
 callers = (codes "--host=a.example" ∷ codes "--max-jump=0" ∷ codes "--host" ∷ codes "b" ∷ codes "--key=k" ∷ [], record (serving 1024 (2 ^ 64 - 1)) { hosts = codes "a.example" ∷ codes "b" ∷ []; max_jump = 0; key_file = codes "k" })
     ∷ (codes "--max-jump=100000" ∷ replicate 8 (codes "--host=a"), record (serving 1024 (2 ^ 64 - 1)) { max_jump = 100000; hosts = replicate 8 (codes "a") }) ∷ []
 
--- the options of a server that tells each call, and the form
+-- the options of a server that tells each call, or has limits of time of its own, and the form
 abbrev pub tellers : List (List Text × Form)
-tellers = (codes "--workers=2" ∷ codes "--log" ∷ codes "--connections=9" ∷ [], record (serving 2 9) { log = true }) ∷ []
+tellers = (codes "--workers=2" ∷ codes "--log" ∷ codes "--connections=9" ∷ [], record (serving 2 9) { log = true }) ∷ (codes "--idle-time=86400" ∷ codes "--request-time" ∷ codes "1" ∷ [], record (serving 1024 (2 ^ 64 - 1)) { request_time = 1; idle_time = 86400 }) ∷ []
 
 -- words with an option that isn't a server's, and the form
 abbrev pub others : List (List Text × Form)
@@ -69,10 +69,11 @@ no_servers = (codes "serve" ∷ codes "--data=a" ∷ []) ∷ (codes "serve" ∷ 
     ∷ serve_with (codes "--connections=0" ∷ []) ∷ serve_with (codes "--connections=1000001" ∷ []) ∷ serve_with (codes "--connections=2" ∷ codes "--connections=2" ∷ [])
     ∷ (codes "client" ∷ codes "--port=80" ∷ codes "--workers=2" ∷ []) ∷ []
 
--- the same of the options that say who may call and how far time may jump
+-- the same of the options that say who may call, how far time may jump and how long a caller may take
 abbrev pub no_callers : List (List Text)
 no_callers = serve_with (codes "--max-jump=100001" ∷ []) ∷ serve_with (codes "--max-jump=" ∷ []) ∷ serve_with (codes "--max-jump=00" ∷ []) ∷ serve_with (codes "--max-jump=-1" ∷ []) ∷ serve_with (codes "--max-jump=1" ∷ codes "--max-jump=1" ∷ [])
     ∷ serve_with (codes "--host=" ∷ []) ∷ serve_with (codes "--host=a b" ∷ []) ∷ serve_with (replicate 9 (codes "--host=a")) ∷ serve_with (codes "--key=" ∷ []) ∷ serve_with (codes "--key=a" ∷ codes "--key=a" ∷ [])
+    ∷ serve_with (codes "--request-time=0" ∷ []) ∷ serve_with (codes "--idle-time=86401" ∷ []) ∷ serve_with (codes "--idle-time=09" ∷ [])
     ∷ serve_with (codes "--patience=1" ∷ []) ∷ serve_with (codes "--look" ∷ []) ∷ []
 
 -- the same of a run, a check and a client, and of a flag of a server

@@ -57,9 +57,13 @@ plain_server = with_rule (with_rule (with_rule (new_app (codes "serve")) data_op
 abbrev pub limited_server : App
 limited_server = with_rule (with_rule (with_rule plain_server (value_option (codes "connections"))) (value_option (codes "max-jump"))) (flag_option (codes "log"))
 
+-- the same, with its limits of time
+abbrev pub timed_server : App
+timed_server = with_rule (with_rule limited_server (value_option (codes "request-time"))) (value_option (codes "idle-time"))
+
 -- `serve`, with all its options
 abbrev pub serve_command : Shape
-serve_command = (with_rule (with_rule limited_server (list_option (codes "host"))) (value_option (codes "key"))).top
+serve_command = (with_rule (with_rule timed_server (list_option (codes "host"))) (value_option (codes "key"))).top
 
 -- the commands over a folder
 abbrev pub folder_commands : App
@@ -79,6 +83,8 @@ pub record Form : Type 0 where
   pub workers : ℕ
   pub connections : ℕ
   pub max_jump : ℕ
+  pub request_time : ℕ
+  pub idle_time : ℕ
   pub hosts : List Text
   pub key_file : Text
   pub patience : ℕ
@@ -94,6 +100,8 @@ form_value f = record {
   workers = f.workers;
   connections = f.connections;
   max_jump = f.max_jump;
+  request_time = f.request_time;
+  idle_time = f.idle_time;
   hosts = map (λ h. h.now) f.hosts.items;
   key_file = f.key_file.now;
   patience = f.patience;
@@ -110,6 +118,8 @@ form_of command = record {
   workers = 0;
   connections = 0;
   max_jump = 0;
+  request_time = 0;
+  idle_time = 0;
   hosts = [];
   key_file = [];
   patience = 0;
@@ -159,6 +169,11 @@ connections_by (Some word) = number_within 1000000 word
 abbrev pub max_jump_by : ℕ → Option Text → Option ℕ
 max_jump_by usual None = Some usual
 max_jump_by usual (Some word) = number_to 100000 word
+
+-- for how many seconds a request may take, or a connection be kept without one: 1 to 86,400, where this is the server's own number
+abbrev pub seconds_by : ℕ → Option Text → Option ℕ
+seconds_by usual None = Some usual
+seconds_by usual (Some word) = number_within 86400 word
 
 -- for how many seconds a server may say nothing, 1 to 7,200, by default 120
 abbrev pub patience_by : Option Text → Option ℕ
@@ -210,6 +225,11 @@ abbrev pub client_at : Option ℕ → Option Text → Option ℕ → Option Form
 client_at (Some port) (Some key_file) (Some patience) = Some (record (form_of Client) { port = port; key_file = key_file; patience = patience })
 client_at _ _ _ = None
 
+-- the limits of time, in a form that is there
+abbrev pub with_times : Option Form → (request_time idle_time : Option ℕ) → Option Form
+with_times (Some form) (Some request_time) (Some idle_time) = Some (record form { request_time = request_time; idle_time = idle_time })
+with_times _ _ _ = None
+
 -- who may call a server, in a form that is there
 abbrev pub with_callers : Option Form → Option (List Text) → Option Text → Option Form
 with_callers (Some form) (Some hosts) (Some key_file) = Some (record form { hosts = hosts; key_file = key_file })
@@ -241,9 +261,13 @@ client_in rows = client_at (port_by (first_of (codes "port") rows)) (key_by (fir
 abbrev pub open_server_in : List Row → Option Form
 open_server_in rows = open_server_at (first_of (codes "data") rows) (port_by (first_of (codes "port") rows)) (workers_by (first_of (codes "workers") rows)) (connections_by (first_of (codes "connections") rows)) (max_jump_by 400 (first_of (codes "max-jump") rows))
 
+-- the same with its limits of time
+abbrev pub timed_server_in : List Row → Option Form
+timed_server_in rows = with_times (open_server_in rows) (seconds_by 60 (first_of (codes "request-time") rows)) (seconds_by 600 (first_of (codes "idle-time") rows))
+
 -- a server by what was found for its options
 abbrev pub serve_in : List Row → Option Form
-serve_in rows = with_log (with_callers (open_server_in rows) (hosts_by (all_of (codes "host") rows)) (key_by (first_of (codes "key") rows))) (flag_by (first_of (codes "log") rows))
+serve_in rows = with_log (with_callers (timed_server_in rows) (hosts_by (all_of (codes "host") rows)) (key_by (first_of (codes "key") rows))) (flag_by (first_of (codes "log") rows))
 
 -- the form of a command, by its options
 abbrev pub form_by : Option Command → List Row → Option Form
@@ -288,6 +312,24 @@ max_jump_of (Some form) = form.max_jump
 -- the most days that time may jump, as they name it; 0 where they are no form
 abbrev pub max_jump_in : List Text → ℕ
 max_jump_in words = max_jump_of (form_in words)
+
+-- the seconds that a request may take by a form, if there is one
+abbrev pub request_time_of : Option Form → ℕ
+request_time_of None = 0
+request_time_of (Some form) = form.request_time
+
+-- the same, as they name it; 0 where they are no form
+abbrev pub request_time_in : List Text → ℕ
+request_time_in words = request_time_of (form_in words)
+
+-- the seconds that a connection is kept without a request by a form, if there is one
+abbrev pub idle_time_of : Option Form → ℕ
+idle_time_of None = 0
+idle_time_of (Some form) = form.idle_time
+
+-- the same, as they name it; 0 where they are no form
+abbrev pub idle_time_in : List Text → ℕ
+idle_time_in words = idle_time_of (form_in words)
 
 -- whether a form is a look, if there is one
 abbrev pub look_of : Option Form → Bool

@@ -29,6 +29,11 @@ pub struct Form<'w> {
     pub connections: u64,
     /// The most days, up to 100,000, that time may jump; at 0 it may jump by any number.
     pub max_jump: u32,
+    /// For how many seconds, 1 to 86,400, a request may take until it is whole, or a response until it is
+    /// taken.
+    pub request_time: u32,
+    /// For how many seconds, 1 to 86,400, a connection is kept without a request.
+    pub idle_time: u32,
     /// The names, up to 8, by which a server lets itself be called beside those of this machine; with
     /// none it doesn't look at the name.
     pub hosts: Vec<&'w str>,

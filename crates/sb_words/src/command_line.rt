@@ -140,7 +140,27 @@ fn serve_command<'a>(alloc: Global) -> Result<clap::Command<'a>, AllocError>
         "NAME",
         "A name by which the server may be called, beside localhost: up to 8 times, each of 1 to 255 visible characters [default: any name]",
     );
-    limited_server(alloc)?.arg(host)?.arg(key_option(alloc))
+    timed_server(alloc)?.arg(host)?.arg(key_option(alloc))
+}
+
+// The same server with its limits of time.
+fn timed_server<'a>(alloc: Global) -> Result<clap::Command<'a>, AllocError>
+    ensures app { IfOk result (λ c. app_of c ≡ line.timed_server) }
+    ensures local { IfOk result (λ c. (fields_of c).has_globals ≡ false) }
+{
+    let request_time = value_option(
+        alloc,
+        "request-time",
+        "S",
+        "For how many seconds a request may take, and its response: 1 to 86400; each KiB of it allows one more [default: 60]",
+    );
+    let idle_time = value_option(
+        alloc,
+        "idle-time",
+        "S",
+        "For how many seconds a connection is kept without a request: 1 to 86400 [default: 600]",
+    );
+    limited_server(alloc)?.arg(request_time)?.arg(idle_time)
 }
 
 // The server with its limits, and whether each call is told.

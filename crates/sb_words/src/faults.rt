@@ -6,7 +6,7 @@ use crate::command::{Command, WordsFault};
 use crate::command_line::parsed;
 use crate::words::{
     command_of, connections_of, hosts_of, key_of, max_jump_of, patience_of, port_of, read_form,
-    word_of, words_of, workers_of,
+    seconds_of, word_of, words_of, workers_of,
 };
 use clap::ArgMatches;
 use std::alloc::{AllocError, Global};
@@ -81,6 +81,10 @@ fn serve_range(options: &ArgMatches) -> &'static str {
         CONNECTIONS_RANGE
     } else if max_jump_of(0, word_of(options, "max-jump")).is_none() {
         JUMP_RANGE
+    } else if seconds_of(0, word_of(options, "request-time")).is_none() {
+        REQUEST_TIME_RANGE
+    } else if seconds_of(0, word_of(options, "idle-time")).is_none() {
+        IDLE_TIME_RANGE
     } else if hosts_of(words_of(options, "host")).is_none() {
         HOST_RANGE
     } else {
@@ -97,6 +101,10 @@ const WORKERS_RANGE: &str = "--workers takes a number from 1 to 65535";
 const CONNECTIONS_RANGE: &str = "--connections takes a number from 1 to 1000000";
 
 const JUMP_RANGE: &str = "--max-jump takes a number from 0 to 100000";
+
+const REQUEST_TIME_RANGE: &str = "--request-time takes a number from 1 to 86400";
+
+const IDLE_TIME_RANGE: &str = "--idle-time takes a number from 1 to 86400";
 
 const HOST_RANGE: &str = "--host takes names of 1 to 255 visible characters, up to 8 times";
 

@@ -16,7 +16,7 @@ pub fn worked_words()
 {}
 
 /// Words with the options that say who may call a server, that it tells each call, how far time may
-/// jump, how long a client waits, and that a check only looks.
+/// jump, how long a caller may take, how long a client waits, and that a check only looks.
 pub fn worked_options()
     ensures callers { map (λ row. form_in (serve_with row.0)) callers ≡ map (λ row. Some row.1) callers }
     ensures tellers { map (λ row. form_in (serve_with row.0)) tellers ≡ map (λ row. Some row.1) tellers }

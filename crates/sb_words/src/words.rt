@@ -35,6 +35,15 @@ const SERVE_JUMP: u32 = 400;
 /// A run lets time jump by any number of days where words name none.
 const RUN_JUMP: u32 = 0;
 
+/// The longest limit of time that words may ask for, in seconds.
+const MAX_SECONDS: u64 = 86_400;
+
+/// The seconds that a request may take where words name no number.
+const REQUEST_TIME: u32 = 60;
+
+/// The seconds that a connection is kept without a request where words name no number.
+const IDLE_TIME: u32 = 600;
+
 /// The longest patience that words may ask for, in seconds.
 const MAX_PATIENCE: u64 = 7_200;
 
@@ -159,6 +168,8 @@ fn form_with<'w>(alloc: Global, command: Command) -> Form<'w>
         workers: 0,
         connections: 0,
         max_jump: 0,
+        request_time: 0,
+        idle_time: 0,
         hosts: Vec::new(alloc),
         key_file: "",
         patience: 0,
@@ -219,7 +230,7 @@ fn client_form<'w>(alloc: Global, options: &ArgMatches<'w>) -> Option<Form<'w>>
 fn serve_form<'w>(alloc: Global, options: &ArgMatches<'w>) -> Result<Option<Form<'w>>, AllocError>
     ensures { IfOk result (λ form. option_map form_value form ≡ line.serve_in (rows_of (found_of options.now))) }
 {
-    let Some(mut form) = open_server_form(alloc, options) else {
+    let Some(mut form) = timed_server_form(alloc, options) else {
         return Ok(None);
     };
     let Some(names) = hosts_of(words_of(options, "host")) else {
@@ -234,7 +245,25 @@ fn serve_form<'w>(alloc: Global, options: &ArgMatches<'w>) -> Result<Option<Form
     Ok(Some(form))
 }
 
-// The form of a server without the rules of who may call it.
+// The form of a server without the rules of who may call it, with its limits of time.
+fn timed_server_form<'w>(alloc: Global, options: &ArgMatches<'w>) -> Option<Form<'w>>
+    ensures { option_map form_value result ≡ line.timed_server_in (rows_of (found_of options.now)) }
+{
+    let Some(mut form) = open_server_form(alloc, options) else {
+        return None;
+    };
+    let Some(request_time) = seconds_of(REQUEST_TIME, word_of(options, "request-time")) else {
+        return None;
+    };
+    let Some(idle_time) = seconds_of(IDLE_TIME, word_of(options, "idle-time")) else {
+        return None;
+    };
+    form.request_time = request_time;
+    form.idle_time = idle_time;
+    Some(form)
+}
+
+// The same without them.
 fn open_server_form<'w>(alloc: Global, options: &ArgMatches<'w>) -> Option<Form<'w>>
     ensures { option_map form_value result ≡ line.open_server_in (rows_of (found_of options.now)) }
 {
@@ -320,6 +349,18 @@ pub(crate) fn max_jump_of(usual: u32, word: Option<&str>) -> Option<u32>
         return None;
     };
     Some(days as u32)
+}
+
+pub(crate) fn seconds_of(usual: u32, word: Option<&str>) -> Option<u32>
+    ensures { result ≡ line.seconds_by usual (option_map (λ w. w.now) word.entry) }
+{
+    let Some(word) = word else {
+        return Some(usual);
+    };
+    let Some(seconds) = number_within(word, MAX_SECONDS) else {
+        return None;
+    };
+    Some(seconds as u32)
 }
 
 pub(crate) fn patience_of(word: Option<&str>) -> Option<u16>
