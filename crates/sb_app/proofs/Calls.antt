@@ -1,7 +1,7 @@
 -- A whole call, by the task that its words name, and what words name.
 use Rattle.std.proofs.Common.{◌≡◌, ◌≢◌, ℕ, List, Bool, true, false, Option, Some, None, Result, Err, refl, sym, ◌∙◌, ap}
 use Rattle.std.specs.Prelude.{option_and_then, option_map}
-use Rattle.sb_words.specs.Words.{command_in, connections_in, connections_of, form_in, form_value, look_in, look_of, max_jump_in, max_jump_of}
+use Rattle.sb_words.specs.Words.{command_in, connections_in, connections_of, form_in, form_value, look_in, look_of, max_jump_in, max_jump_of, request_time_of, idle_time_of}
 use Rattle.sb_words.specs.declared.command.Command.{Command}
 use Rattle.sb_words.specs.declared.command.Command.TheVariants.{Run as RunCommand, Check as CheckCommand, Client as ClientCommand, Serve}
 use Rattle.sb_words.specs.declared.command.Form.{Form as ReadForm}
@@ -16,6 +16,7 @@ use Rattle.sb_app.specs.Tops.{usage_line, IsCarriedOut}
 use Rattle.sb_app.specs.Clients.{Exchanges, IsClientCall}
 use Rattle.sb_app.specs.Looks.{IsLooked}
 use Rattle.sb_app.specs.Calls.{IsCall, IsNamed, task_in, task_of}
+use Rattle.sb_app.specs.Servings.{limits_for, limits_in}
 use Rattle.sb_app.proofs.Carried.{unread_alone, usage_alone}
 use Rattle.sb_app.proofs.Clients.{at_once}
 use Rattle.sb_app.proofs.Looks.{look_at_once}
@@ -53,6 +54,9 @@ most_in words f is = sym (ap connections_of is)
 
 pub days_in : (words : List (List ℕ)) (f : ReadForm) → form_in words ≡ Some (form_value f) → f.max_jump ≡ max_jump_in words
 days_in words f is = sym (ap max_jump_of is)
+
+pub limits_are : (words : List (List ℕ)) (f : ReadForm) → form_in words ≡ Some (form_value f) → limits_for f.request_time f.idle_time ≡ limits_in words
+limits_are words f is = sym (ap (λ o. limits_for (request_time_of o) (idle_time_of o)) is)
 
 -- words that couldn't be read name no task, or memory was wanting
 pub unnamed : (words : List (List ℕ)) (days : ℕ) (fault : WordsFault) → (fault ≡ BadWords → form_in words ≡ None) → IsNamed (task_in words) days (Err fault)

@@ -1,5 +1,5 @@
 -- What a server's call does: the connections of its doors are served over one history, whose numbers are told at the end.
-use Rattle.std.specs.Prelude.{◌≡◌, ◌≢◌, ◌⊎◌, ℕ, List, [], ◌∷◌, ◌++◌, codes, length, map, max, Bool, true, false}
+use Rattle.std.specs.Prelude.{◌≡◌, ◌≢◌, ◌⊎◌, ℕ, ◌*◌, List, [], ◌∷◌, ◌++◌, codes, length, map, max, Bool, true, false}
 use Rattle.std.specs.Fmt.{decimal}
 use Rattle.sb_outside.specs.Causes.{Rose, RoseByOne}
 use Rattle.sb_machine.specs.Consistent.{IsConsistent}
@@ -16,8 +16,10 @@ use Rattle.sb_desk.specs.Entries.{IsReport}
 use Rattle.sb_desk.specs.Lists.{Each, HaveSeatsBelow}
 use Rattle.sb_desk.specs.declared.report.Report.{Report}
 use Rattle.sb_server.specs.Serves.{Serving, Worker}
+use Rattle.sb_server.specs.declared.limits.Limits.{Limits}
 use Rattle.sb_server.specs.declared.ending.ServeEnding.{ServeEnding}
 use Rattle.sb_server.specs.declared.ending.ServeEnding.TheVariants.{Done, DoorFault, OutOfMemory}
+use Rattle.sb_words.specs.Words.{idle_time_in, request_time_in}
 use Rattle.sb_app.specs.Checks.{IsLineTold}
 use Rattle.sb_app.specs.Endings.{IsLineWritten, status_of_end}
 use Rattle.sb_app.specs.Jumps.{jumps, jump_line, IsSettled}
@@ -25,6 +27,16 @@ use Rattle.sb_app.specs.Lawful.{HasLaws}
 use Rattle.sb_app.specs.Outside.{Outside}
 use Rattle.sb_app.specs.Tops.{IsBroken, IsQuiet, IsRefused, IsUnopened}
 use Rattle.sb_app.specs.declared.ending.RunEnd.{RunEnd}
+
+-- ---- the limits of time
+
+-- so many seconds for a request, and for a connection without one
+abbrev pub limits_for : ℕ → ℕ → Limits
+limits_for request_time idle_time = record { request_ms = request_time * 1000; idle_ms = idle_time * 1000 }
+
+-- as words name them; 0 where they are no form
+abbrev pub limits_in : List (List ℕ) → Limits
+limits_in words = limits_for (request_time_in words) (idle_time_in words)
 
 -- ---- the report and the status
 

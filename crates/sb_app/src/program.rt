@@ -8,7 +8,7 @@ ghost use Rattle.sb_app.specs.Outside.{outside_of};
 ghost use Rattle.sb_app.specs.Clients.{exchanges_of};
 ghost use Rattle.sb_app.specs.Calls.{IsCall, IsNamed, task_in};
 ghost use Rattle.sb_app.specs.Calls as calls;
-ghost use Rattle.sb_app.specs.Servings.{IsServeCall};
+ghost use Rattle.sb_app.specs.Servings.{IsServeCall, limits_for, limits_in};
 
 use crate::alone::carry_out;
 use crate::notices::{Notice, Watcher};
@@ -16,6 +16,7 @@ use crate::serving::serve_over;
 use crate::task::{Named, Task};
 use sb_outside::{Clock, Disk, Door, Link, Lobby, Sink, Source};
 use sb_rest::Access;
+use sb_server::Limits;
 use sb_words::{Command, WordsFault, read_form};
 use std::alloc::Global;
 use std::sync::Wait;
@@ -98,7 +99,7 @@ where
     ensures done { command_in (map (λ w. w.now) words.now) ≢ Some Serve
         → IfSome result.1 (λ disks. IsCall (C.reads clock.now) (max_jump_in (map (λ w. w.now) words.now)) (task_in (map (λ w. w.now) words.now)) salt (outside_of D.Disk S.Source K.Sink disk_a disk_b input.old output.old) (outside_of D.Disk S.Source K.Sink disks.0 disks.1 input.new output.new) (exchanges_of key.now N.Link link.old) (exchanges_of key.now N.Link link.new) result.0) }
     ensures serves { command_in (map (λ w. w.now) words.now) ≡ Some Serve
-        → IfSome result.1 (λ disks. IsServeCall (C.reads clock.now) (max_jump_in (map (λ w. w.now) words.now)) (λ desk. Working (ServesBy (C.reads clock.now) access.now R.Conn.left R.Conn.given R.Conn.reads R.Conn.writes) R.left R.taken R.ended R.count R.out desk (connections_in (map (λ w. w.now) words.now))) R.count salt
+        → IfSome result.1 (λ disks. IsServeCall (C.reads clock.now) (max_jump_in (map (λ w. w.now) words.now)) (λ desk. Working (ServesBy (C.reads clock.now) access.now (limits_in (map (λ w. w.now) words.now)) R.Conn.left R.Conn.given R.Conn.reads R.Conn.writes) R.left R.taken R.ended R.count R.out desk (connections_in (map (λ w. w.now) words.now))) R.count salt
         (outside_of D.Disk S.Source K.Sink disk_a disk_b input.old output.old) (outside_of D.Disk S.Source K.Sink disks.0 disks.1 input.new output.new) doors.old.items doors.new.items result.0) }
     ensures usage { result.0 ≡ 2 → command_in (map (λ w. w.now) words.now) ≡ None }
     ensures usage_alone { result.0 ≡ 2 → (result.1 ≡ Some (disk_a, disk_b)) × (input.new ≡ input.old) }
@@ -132,6 +133,7 @@ where
             rt,
             alloc,
             access,
+            limits_of(form.request_time, form.idle_time),
             disk_a,
             disk_b,
             salt,
@@ -162,6 +164,16 @@ where
         link,
     );
     (status, Some((disk_a, disk_b)))
+}
+
+// The limits of time of so many seconds for a request and for a connection without one.
+fn limits_of(request_time: u32, idle_time: u32) -> Limits
+    ensures { result ≡ limits_for request_time idle_time }
+{
+    Limits {
+        request_ms: u64::from(request_time) * 1000,
+        idle_ms: u64::from(idle_time) * 1000,
+    }
 }
 
 fn task_of(command: Command, look: bool) -> Option<Task>

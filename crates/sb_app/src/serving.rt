@@ -17,17 +17,18 @@ use sb_node::Node;
 use sb_outside::{Clock, Disk, Door, Lobby, Sink, write_all};
 use sb_rest::Access;
 use sb_routes::Routes;
-use sb_server::{ServeEnding, serve};
+use sb_server::{Limits, ServeEnding, serve};
 use std::alloc::{AllocError, Global};
 use std::sync::Wait;
 use std::thread::Threads;
 
 /// Serves the connections of these doors, at most so many each, in the calling thread, which waits in
-/// the lobby, over the namespace of these disks, to whom `access` lets in, and tells the numbers of its
-/// history once all workers have ended. The status is 0; 5 for a disk that failed, 6 for a journal that can't be trusted, 8 for a door that failed, 7
-/// for want of memory and 4 for a fault of the output: the first of 5, 8, 7 and 4 where several came. It
-/// is 14, and no door is used, where behind the opening the clock reads more than `max_jump` days past
-/// the moment of the namespace, by 0 never. The salt is that of a new journal.
+/// the lobby, over the namespace of these disks, to whom `access` lets in and within these limits of
+/// time, and tells the numbers of its history once all workers have ended. The status is 0; 5 for a disk
+/// that failed, 6 for a journal that can't be trusted, 8 for a door that failed, 7 for want of memory and
+/// 4 for a fault of the output: the first of 5, 8, 7 and 4 where several came. It is 14, and no door is
+/// used, where behind the opening the clock reads more than `max_jump` days past the moment of the
+/// namespace, by 0 never. The salt is that of a new journal.
 #[tactic(auto, using(crate::proofs::Servings::unserved_at_once))]
 pub fn serve_over<
     T: Threads + Wait + Sync,
@@ -41,6 +42,7 @@ pub fn serve_over<
     rt: &T,
     alloc: Global,
     access: &Access,
+    limits: Limits,
     disk_a: D,
     disk_b: D,
     salt: u64,
@@ -54,7 +56,7 @@ pub fn serve_over<
 ) -> (u8, D, D)
 where
     R::Conn: Send,
-    ensures { (input : Input) → IsServeCall (C.reads clock.now) max_jump (λ desk. Working (ServesBy (C.reads clock.now) access.now R.Conn.left R.Conn.given R.Conn.reads R.Conn.writes) R.left R.taken R.ended R.count R.out desk most) R.count salt
+    ensures { (input : Input) → IsServeCall (C.reads clock.now) max_jump (λ desk. Working (ServesBy (C.reads clock.now) access.now limits R.Conn.left R.Conn.given R.Conn.reads R.Conn.writes) R.left R.taken R.ended R.count R.out desk most) R.count salt
         (record { input = input; output = output_of K.Sink output.old; disks = disks_of D.Disk disk_a disk_b }) (record { input = input; output = output_of K.Sink output.new; disks = disks_of D.Disk result.1 result.2 })
         doors.old.items doors.new.items result.0 }
 {
@@ -90,6 +92,7 @@ where
         alloc,
         &routes,
         access,
+        limits,
         &desk,
         &mut passes,
         doors,

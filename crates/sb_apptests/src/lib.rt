@@ -11,6 +11,8 @@ mod client_tests;
 #[cfg(test)]
 mod jump_tests;
 #[cfg(test)]
+mod limits_tests;
+#[cfg(test)]
 mod lines_tests;
 #[cfg(test)]
 mod linked_tests;

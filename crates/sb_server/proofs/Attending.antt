@@ -8,8 +8,10 @@ use Rattle.sb_outside.specs.Streams.{Gains, Stays}
 use Rattle.sb_outside.specs.declared.door.Given.TheVariants.{One, NoneYet, End}
 use Rattle.sb_http.specs.Streams.{Requests}
 use Rattle.sb_rest.specs.declared.access.Access.{Access}
+use Rattle.sb_server.specs.declared.limits.Limits.{Limits}
 use Rattle.sb_server.specs.declared.doing.Doing.TheVariants.{Reads}
 use Rattle.sb_server.specs.declared.ending.Ending.{Ending}
+use Rattle.sb_server.specs.declared.limits.Since.TheVariants.{Never}
 use Rattle.sb_server.specs.declared.ending.Ending.TheVariants.{OutOfMemory as NoMemory}
 use Rattle.sb_server.specs.declared.stage.Guest.{Guest}
 use Rattle.sb_server.specs.declared.stage.Stage.{Stage}
@@ -20,22 +22,23 @@ use Rattle.sb_server.specs.Doings.{IsDoing}
 use Rattle.sb_server.specs.Reads.{Stand, stand_of}
 use Rattle.sb_server.specs.Stages.{start_of, here_of, IsWanting, IsServing, IsAt, stage_behind}
 use Rattle.sb_server.specs.Talks.{Start, Ends}
+use Rattle.sb_server.specs.Times.{IsSince}
 use Rattle.sb_server.specs.Works.{Visit, Works, ServesBy, GoesOn, MayStopBy, stop_of}
 use Rattle.sb_server.proofs.Turning.{talks_from, no_inbox}
 use Rattle.sb_server.proofs.Working.{works_none, works_on, works_one, works_failed, works_ended, each_both, may_end, may_fail, may_stop, stops_after, gone_more, gone_enough, GoneOn}
 
-module _ {D X : Type 0} (IsReading : ℕ → Type 0) (access : Access) (there given : X → Option (List ℕ)) (reads writes : X → ℕ) (waiting taken : D → Option (List X)) (ended : D → Bool) (count out : D → ℕ) (most : ℕ) (p : Sitting) (d : D) where
+module _ {D X : Type 0} (IsReading : ℕ → Type 0) (access : Access) (limits : Limits) (there given : X → Option (List ℕ)) (reads writes : X → ℕ) (waiting taken : D → Option (List X)) (ended : D → Bool) (count out : D → ℕ) (most : ℕ) (p : Sitting) (d : D) where
   abbrev At : Sitting → D → Stage X → Type 0
-  At q e stage = IsAt IsReading access there given reads writes waiting taken ended count out most p d q e stage
+  At q e stage = IsAt IsReading access limits there given reads writes waiting taken ended count out most p d q e stage
 
   abbrev Wanting : Sitting → D → ℕ → Type 0
-  Wanting q e left = IsWanting IsReading access there given reads writes waiting taken ended count out most p d q e left
+  Wanting q e left = IsWanting IsReading access limits there given reads writes waiting taken ended count out most p d q e left
 
   abbrev Serving : Sitting → D → ℕ → Guest X → Type 0
-  Serving q e left guest = IsServing IsReading access there given reads writes waiting taken ended count out most p d q e left guest
+  Serving q e left guest = IsServing IsReading access limits there given reads writes waiting taken ended count out most p d q e left guest
 
   abbrev By : Sitting → Visit X → Sitting → Type 0
-  By = ServesBy IsReading access there given reads writes
+  By = ServesBy IsReading access limits there given reads writes
 
   -- how it begins
   pub at_first : At p d (Wants most)
@@ -82,8 +85,8 @@ module _ {D X : Type 0} (IsReading : ℕ → Type 0) (access : Access) (there gi
 
   -- one was given
   pub at_one : (q : Sitting) (e f : D) (left : ℕ) (guest : Guest X) → Wanting q e left → 1 ≤ left → GivesInOrder (waiting e) (waiting f) (One guest.conn) → Stays (taken e) (taken f) → count f ≡ count e → out f ≡ out e + 1
-      → Requests [] [] guest.inbox.incoming.left → ((l : Option (List ℕ)) → stand_of guest.inbox l ≡ record { left = guest.inbox.incoming.left; fed = 0; there = l }) → guest.doing ≡ Reads → At q f (Serves (left - 1) guest)
-  at_one q e f left guest w some a b counts more requests stand reading = record {
+      → Requests [] [] guest.inbox.incoming.left → ((l : Option (List ℕ)) → stand_of guest.inbox l ≡ record { left = guest.inbox.incoming.left; fed = 0; there = l }) → guest.doing ≡ Reads → guest.since ≡ Never → At q f (Serves (left - 1) guest)
+  at_one q e f left guest w some a b counts more requests stand reading never = record {
     visits = w.visits;
     mid = q;
     waited = waiting e;
@@ -96,7 +99,8 @@ module _ {D X : Type 0} (IsReading : ℕ → Type 0) (access : Access) (there gi
     few = omega (arith, w.few, some);
     count_is = counts ∙ w.count_is;
     out_is = omega (arith, more, w.out_is);
-    doing = subst (λ (x : _). IsDoing IsReading (start_of there given reads writes access q guest.conn) (here_of there given reads writes q guest) x) (sym reading) (talks_from IsReading (start_of there given reads writes access q guest.conn) guest.inbox.incoming.left (stand_of guest.inbox (there guest.conn)) requests (stand (there guest.conn)));
+    doing = subst (λ (x : _). IsDoing IsReading (start_of there given reads writes access limits q guest.conn) (here_of there given reads writes q guest) x) (sym reading) (talks_from IsReading (start_of there given reads writes access limits q guest.conn) guest.inbox.incoming.left (stand_of guest.inbox (there guest.conn)) requests (stand (there guest.conn)));
+    since = subst (IsSince IsReading) (sym never) tt;
   }
 
   -- a connection is over and was given back
@@ -119,13 +123,14 @@ module _ {D X : Type 0} (IsReading : ℕ → Type 0) (access : Access) (there gi
   at_lost q e f g left conn w some a b counts more stays gains later less =
       let v : Visit X = record { before = conn; after = conn; ending = NoMemory } in
       behind q q e g (left - 1) w.visits v (waiting e) (waiting g) (taken e) (Some OutOfMemory) w.works w.on (omega (arith, w.few, some)) w.count_is
-      (works_one By q q (waiting e) (waiting f) (waiting g) (taken e) (taken f) (taken g) v a stays b gains (_, no_inbox IsReading (start_of there given reads writes access q conn)))
+      (works_one By q q (waiting e) (waiting f) (waiting g) (taken e) (taken f) (taken g) v a stays b gains (_, no_inbox IsReading (start_of there given reads writes access limits q conn)))
       (may_stop v (ended g) (count e) (count f) (count g) (Some OutOfMemory) refl later counts) (omega (arith, more, less, w.out_is))
 
   -- a step was made
   pub at_step : (q r : Sitting) (e : D) (left : ℕ) (old new : Guest X) → Serving q e left old
-      → ((s : Start) → s.access ≡ access → IsDoing IsReading s (here_of there given reads writes q old) old.doing → IsDoing IsReading s (here_of there given reads writes r new) new.doing) → At r e (Serves left new)
-  at_step q r e left old new w steps = record {
+      → ((s : Start) → s.access ≡ access → s.limits ≡ limits → IsSince IsReading old.since → IsDoing IsReading s (here_of there given reads writes q old) old.doing → IsDoing IsReading s (here_of there given reads writes r new) new.doing)
+      → (IsSince IsReading old.since → IsSince IsReading new.since) → At r e (Serves left new)
+  at_step q r e left old new w steps since = record {
     visits = w.visits;
     mid = w.mid;
     waited = w.waited;
@@ -138,15 +143,16 @@ module _ {D X : Type 0} (IsReading : ℕ → Type 0) (access : Access) (there gi
     few = w.few;
     count_is = w.count_is;
     out_is = w.out_is;
-    doing = steps (start_of there given reads writes access w.mid w.conn) refl w.doing;
+    doing = steps (start_of there given reads writes access limits w.mid w.conn) refl refl w.since w.doing;
+    since = since w.since;
   }
 
   -- the connection ended with it
   pub at_over : (q r : Sitting) (e f : D) (left : ℕ) (old : Guest X) (stand : Stand) (conn : X) (ending : Ending) → Serving q e left old
-      → ((s : Start) → s.access ≡ access → IsDoing IsReading s (here_of there given reads writes q old) old.doing → Ends IsReading s (record { pass = r; stand = stand; written = given conn; reads = reads conn; writes = writes conn }) ending)
+      → ((s : Start) → s.access ≡ access → s.limits ≡ limits → IsSince IsReading old.since → IsDoing IsReading s (here_of there given reads writes q old) old.doing → Ends IsReading s (record { pass = r; stand = stand; written = given conn; reads = reads conn; writes = writes conn }) ending)
       → Stays (waiting e) (waiting f) → Gains (taken e) (taken f) (conn ∷ []) → count f ≡ count e → out f ≡ out e - 1 → At r f (stage_behind (stop_of ending) left)
   at_over q r e f left old stand conn ending w steps stays gains later less =
       let v : Visit X = record { before = w.conn; after = conn; ending = ending } in
       behind w.mid r e f left w.visits v w.waited (waiting f) w.given_back (stop_of ending) w.works w.on w.few w.count_is
-      (works_one By w.mid r w.waited (waiting e) (waiting f) w.given_back (taken e) (taken f) v w.gives stays w.stays gains (stand, steps (start_of there given reads writes access w.mid w.conn) refl w.doing))
+      (works_one By w.mid r w.waited (waiting e) (waiting f) w.given_back (taken e) (taken f) v w.gives stays w.stays gains (stand, steps (start_of there given reads writes access limits w.mid w.conn) refl refl w.since w.doing))
       (may_stop v (ended f) (count e) (count e) (count f) (stop_of ending) refl later refl) (omega (arith, less, w.out_is))

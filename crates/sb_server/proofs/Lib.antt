@@ -5,6 +5,7 @@ pub mod Responding
 pub mod Reading
 pub mod Turning
 pub mod Stepping
+pub mod Looking
 pub mod Calling
 pub mod Working
 pub mod Attending

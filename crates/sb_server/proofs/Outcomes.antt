@@ -18,12 +18,13 @@ use Rattle.sb_outside.specs.Causes.{Rose}
 use Rattle.sb_input.specs.Lines.{lines_of}
 use Rattle.sb_http.specs.Messages.{RequestMessage}
 use Rattle.sb_rest.specs.declared.access.Access.{Access}
+use Rattle.sb_server.specs.declared.limits.Limits.{Limits}
 use Rattle.sb_server.specs.declared.telling.Turn.{Turn}
 use Rattle.sb_server.specs.declared.telling.Turn.TheVariants.{Stops}
 use Rattle.sb_server.specs.declared.ask.Ask.{Ask}
 use Rattle.sb_server.specs.declared.ask.Ask.TheVariants.{Once, Patient, Line, BadLine, Lines, Fault as NoCall}
 use Rattle.sb_server.specs.declared.ending.Ending.{Ending}
-use Rattle.sb_server.specs.declared.ending.Ending.TheVariants.{Closed, BadHead, HeadTooLarge, BodyTooLarge, Truncated, LongConnection, ReadFault, Gone, WriteFault, Stopped as NodeStopped, OutOfMemory as Lost}
+use Rattle.sb_server.specs.declared.ending.Ending.TheVariants.{Closed, BadHead, HeadTooLarge, BodyTooLarge, Truncated, LongConnection, ReadFault, Gone, WriteFault, Slow, Stopped as NodeStopped, OutOfMemory as Lost}
 use Rattle.sb_server.specs.declared.ending.ServeEnding.{ServeEnding}
 use Rattle.sb_server.specs.declared.ending.ServeEnding.TheVariants.{Done, DoorFault, OutOfMemory}
 use Rattle.sb_server.specs.declared.work.Stop.{Stop}
@@ -54,14 +55,17 @@ ends_go IsReading s h BodyTooLarge t = (t.talks.made, t.talks.goes)
 ends_go IsReading s h Gone t = (t.1.made ++ t.1.mine, t.1.goes)
 ends_go IsReading s h WriteFault (inl t, rose) = (t.made, t.goes)
 ends_go IsReading s h WriteFault (inr t, rose) = (t.1.made ++ t.1.mine, t.1.goes)
+ends_go IsReading s h Slow (inl t) = (t.0.0.made, t.0.0.goes)
+ends_go IsReading s h Slow (inr (inl t, passed)) = (t.made, t.goes)
+ends_go IsReading s h Slow (inr (inr t, passed)) = (t.1.made ++ t.1.mine, t.1.goes)
 ends_go IsReading s h Lost t = (t.made, t.goes)
 
 -- a worker's pass goes on by the entries of its connections' calls
-pub worked_goes : {X : Type 0} (IsReading : ℕ → Type 0) (access : Access) (there given : X → Option (List ℕ)) (reads writes : X → ℕ) (p q : Sitting) (vs : List (Visit X)) → Worked (ServesBy IsReading access there given reads writes) p vs q → (made : List Entry) × GoesBy p made q
-worked_goes IsReading access there given reads writes p q [] w = ([], subst (λ (r : Sitting). GoesBy p [] r) (sym w) (goes_by_none p))
-worked_goes IsReading access there given reads writes p q (v ∷ vs) w =
+pub worked_goes : {X : Type 0} (IsReading : ℕ → Type 0) (access : Access) (limits : Limits) (there given : X → Option (List ℕ)) (reads writes : X → ℕ) (p q : Sitting) (vs : List (Visit X)) → Worked (ServesBy IsReading access limits there given reads writes) p vs q → (made : List Entry) × GoesBy p made q
+worked_goes IsReading access limits there given reads writes p q [] w = ([], subst (λ (r : Sitting). GoesBy p [] r) (sym w) (goes_by_none p))
+worked_goes IsReading access limits there given reads writes p q (v ∷ vs) w =
     let one = ends_go IsReading _ _ v.ending w.1.1 in
-    let rest = worked_goes IsReading access there given reads writes w.0 q vs w.2 in
+    let rest = worked_goes IsReading access limits there given reads writes w.0 q vs w.2 in
     (one.0 ++ rest.0, goes_by_both p w.0 q one.0 rest.0 one.1 rest.1)
 
 -- ---- a namespace that acts no more
@@ -175,19 +179,19 @@ stop_seen IsReading s h t =
     let more : list_any is_stop t.goes.0 ≡ true = any_kept (λ (e : Entry). seat_of e == s.pass.seat) is_stop t.goes.0 mine in
     ap (λ (p : Sitting). list_any is_stop p.seen) t.goes.1 ∙ stop_right s.pass.seen t.goes.0 more
 
-last_stops : {X : Type 0} (IsReading : ℕ → Type 0) (access : Access) (there given : X → Option (List ℕ)) (reads writes : X → ℕ) (p q : Sitting) (front : List (Visit X)) (v : Visit X) → v.ending ≡ NodeStopped → Worked (ServesBy IsReading access there given reads writes) p (front ++ v ∷ []) q → list_any is_stop q.seen ≡ true
-last_stops IsReading access there given reads writes p q [] v is w =
-    let s : Start = record { access = access; pass = p; there = there v.before; given = given v.before; reads = reads v.before; writes = writes v.before } in
+last_stops : {X : Type 0} (IsReading : ℕ → Type 0) (access : Access) (limits : Limits) (there given : X → Option (List ℕ)) (reads writes : X → ℕ) (p q : Sitting) (front : List (Visit X)) (v : Visit X) → v.ending ≡ NodeStopped → Worked (ServesBy IsReading access limits there given reads writes) p (front ++ v ∷ []) q → list_any is_stop q.seen ≡ true
+last_stops IsReading access limits there given reads writes p q [] v is w =
+    let s : Start = record { access = access; limits = limits; pass = p; there = there v.before; given = given v.before; reads = reads v.before; writes = writes v.before } in
     let h : Here = record { pass = w.0; stand = w.1.0; written = given v.after; reads = reads v.after; writes = writes v.after } in
     ap (λ (r : Sitting). list_any is_stop r.seen) w.2 ∙ stop_seen IsReading s h (subst (λ (e : Ending). Ends IsReading s h e) is w.1.1)
-last_stops IsReading access there given reads writes p q (u ∷ front) v is w = last_stops IsReading access there given reads writes w.0 q front v is w.2
+last_stops IsReading access limits there given reads writes p q (u ∷ front) v is w = last_stops IsReading access limits there given reads writes w.0 q front v is w.2
 
 -- a worker that ended with the namespace has seen that it acts no more
-pub stopped_seen : {X : Type 0} (IsReading : ℕ → Type 0) (access : Access) (there given : X → Option (List ℕ)) (reads writes : X → ℕ) (p q : Sitting) (vs : List (Visit X)) (s : Stop) (most : ℕ) (ended : Bool) (before now : ℕ)
-    → Worked (ServesBy IsReading access there given reads writes) p vs q → StopsBy s most vs ended before now → s ≡ Stopped → list_any is_stop q.seen ≡ true
-stopped_seen {X = X} IsReading access there given reads writes p q vs s most ended before now w stops is =
+pub stopped_seen : {X : Type 0} (IsReading : ℕ → Type 0) (access : Access) (limits : Limits) (there given : X → Option (List ℕ)) (reads writes : X → ℕ) (p q : Sitting) (vs : List (Visit X)) (s : Stop) (most : ℕ) (ended : Bool) (before now : ℕ)
+    → Worked (ServesBy IsReading access limits there given reads writes) p vs q → StopsBy s most vs ended before now → s ≡ Stopped → list_any is_stop q.seen ≡ true
+stopped_seen {X = X} IsReading access limits there given reads writes p q vs s most ended before now w stops is =
     let by : StopsBy Stopped most vs ended before now = subst (λ (t : Stop). StopsBy t most vs ended before now) is stops in
-    last_stops IsReading access there given reads writes p q by.cause.0 by.cause.1 by.cause.3 (subst (λ (l : List (Visit X)). Worked (ServesBy IsReading access there given reads writes) p l q) by.cause.2 w)
+    last_stops IsReading access limits there given reads writes p q by.cause.0 by.cause.1 by.cause.3 (subst (λ (l : List (Visit X)). Worked (ServesBy IsReading access limits there given reads writes) p l q) by.cause.2 w)
 
 -- ---- a door that failed
 

@@ -4,6 +4,7 @@ use Rattle.std.specs.Prelude.{All, slice_index_or, slice_set}
 use Rattle.std.specs.List.{list_all}
 use Rattle.sb_desk.specs.Desks.{Open, Sitting, IsOf}
 use Rattle.sb_rest.specs.declared.access.Access.{Access}
+use Rattle.sb_server.specs.declared.limits.Limits.{Limits}
 use Rattle.sb_server.specs.declared.job.Job.{Job}
 use Rattle.sb_server.specs.declared.stage.Stage.{Stage}
 use Rattle.sb_server.specs.declared.stage.Stage.TheVariants.{Wants, Serves, Over}
@@ -40,9 +41,9 @@ all_of p [] e k d lt = absurd (omega (arith, lt))
 all_of p (x ∷ xs) e zero d lt = and_first (p x) (list_all p xs) e
 all_of p (x ∷ xs) e (suc k) d lt = all_of p xs (and_second (p x) (list_all p xs) e) k d (omega (arith, lt))
 
-module _ {D X : Type 0} (IsReading : ℕ → Type 0) (access : Access) (there given : X → Option (List ℕ)) (reads writes : X → ℕ) (waiting taken : D → Option (List X)) (ended : D → Bool) (count out : D → ℕ) (most : ℕ) where
+module _ {D X : Type 0} (IsReading : ℕ → Type 0) (access : Access) (limits : Limits) (there given : X → Option (List ℕ)) (reads writes : X → ℕ) (waiting taken : D → Option (List X)) (ended : D → Bool) (count out : D → ℕ) (most : ℕ) where
   abbrev Come : Job D X → Job D X → Type 0
-  Come began now = HasCome IsReading access there given reads writes waiting taken ended count out most began now
+  Come began now = HasCome IsReading access limits there given reads writes waiting taken ended count out most began now
 
   -- how it begins
   pub come_first : (desk : Open) (job : Job D X) → HasPass desk most job → Come job job
@@ -51,20 +52,20 @@ module _ {D X : Type 0} (IsReading : ℕ → Type 0) (access : Access) (there gi
     pass_now = h.pass;
     had = h.has;
     has = h.has;
-    at = subst (λ (s : Stage X). IsAt IsReading access there given reads writes waiting taken ended count out most h.pass job.door h.pass job.door s) (sym h.fresh) (at_first IsReading access there given reads writes waiting taken ended count out most h.pass job.door);
+    at = subst (λ (s : Stage X). IsAt IsReading access limits there given reads writes waiting taken ended count out most h.pass job.door h.pass job.door s) (sym h.fresh) (at_first IsReading access limits there given reads writes waiting taken ended count out most h.pass job.door);
     stop_is = sym (ap (λ (s : Stage X). stop_at s job.stop) h.fresh);
   }
 
   -- one worker made a step
   pub come_on : (began old new : Job D X) (pass after : Sitting) → Come began old → old.pass ≡ Some pass → new.pass ≡ Some after
-      → ((p : Sitting) (d : D) → IsAt IsReading access there given reads writes waiting taken ended count out most p d pass old.door old.stage → IsAt IsReading access there given reads writes waiting taken ended count out most p d after new.door new.stage)
+      → ((p : Sitting) (d : D) → IsAt IsReading access limits there given reads writes waiting taken ended count out most p d pass old.door old.stage → IsAt IsReading access limits there given reads writes waiting taken ended count out most p d after new.door new.stage)
       → new.stop ≡ stop_at new.stage new.stop → Come began new
   come_on began old new pass after c had has goes stop = record {
     pass = c.pass;
     pass_now = after;
     had = c.had;
     has = has;
-    at = goes c.pass began.door (subst (λ (p : Sitting). IsAt IsReading access there given reads writes waiting taken ended count out most c.pass began.door p old.door old.stage) (some_same c.pass_now pass (sym c.has ∙ had)) c.at);
+    at = goes c.pass began.door (subst (λ (p : Sitting). IsAt IsReading access limits there given reads writes waiting taken ended count out most c.pass began.door p old.door old.stage) (some_same c.pass_now pass (sym c.has ∙ had)) c.at);
     stop_is = stop;
   }
     where
@@ -76,17 +77,17 @@ module _ {D X : Type 0} (IsReading : ℕ → Type 0) (access : Access) (there gi
   come_again began now again c = record { pass = c.pass; pass_now = c.pass_now; had = c.had; has = c.has; at = c.at; stop_is = c.stop_is }
 
   -- it is over
-  pub come_over : (desk : Open) (began now : Job D X) → Come began now → IsAtWork out desk now → is_over now.stage ≡ true → Did (Working (ServesBy IsReading access there given reads writes) waiting taken ended count out desk most) began now
+  pub come_over : (desk : Open) (began now : Job D X) → Come began now → IsAtWork out desk now → is_over now.stage ≡ true → Did (Working (ServesBy IsReading access limits there given reads writes) waiting taken ended count out desk most) began now
   come_over desk began now c w over = by now.stage refl over
     where
       some_same : (p q : Sitting) → Some p ≡ Some q → p ≡ q
       some_same p q e = ap (λ (o : Option Sitting). elim o [ Some z ↦ z | None ↦ p ]) e
 
-      by : (stage : Stage X) → now.stage ≡ stage → is_over stage ≡ true → Did (Working (ServesBy IsReading access there given reads writes) waiting taken ended count out desk most) began now
+      by : (stage : Stage X) → now.stage ≡ stage → is_over stage ≡ true → Did (Working (ServesBy IsReading access limits there given reads writes) waiting taken ended count out desk most) began now
       by (Wants left) is e = absurd cc
       by (Serves left guest) is e = absurd cc
       by (Over stop) is e =
-          let o : IsOver IsReading access there given reads writes waiting taken ended count out most c.pass began.door c.pass_now now.door stop = subst (λ (s : Stage X). IsAt IsReading access there given reads writes waiting taken ended count out most c.pass began.door c.pass_now now.door s) is c.at in
+          let o : IsOver IsReading access limits there given reads writes waiting taken ended count out most c.pass began.door c.pass_now now.door stop = subst (λ (s : Stage X). IsAt IsReading access limits there given reads writes waiting taken ended count out most c.pass began.door c.pass_now now.door s) is c.at in
           let worker : Worker D = record { pass = c.pass; door = began.door; pass_after = c.pass_now; door_after = now.door; stop = stop } in
           record {
             worker = worker;
@@ -102,7 +103,7 @@ module _ {D X : Type 0} (IsReading : ℕ → Type 0) (access : Access) (there gi
               works = o.works;
               stops = o.stops;
               out_is = o.out_is;
-              stopped = stopped_seen IsReading access there given reads writes c.pass c.pass_now o.visits stop most (ended now.door) (count began.door) (count now.door) o.works.worked o.stops;
+              stopped = stopped_seen IsReading access limits there given reads writes c.pass c.pass_now o.visits stop most (ended now.door) (count began.door) (count now.door) o.works.worked o.stops;
             };
           }
 

@@ -16,7 +16,7 @@ use Rattle.sb_server.specs.declared.telling.Turn.{Turn}
 use Rattle.sb_server.specs.declared.telling.Turn.TheVariants.{Goes, Closes, Stops}
 use Rattle.sb_server.specs.declared.ask.Ask.{Ask}
 use Rattle.sb_server.specs.declared.ending.Ending.{Ending}
-use Rattle.sb_server.specs.declared.ending.Ending.TheVariants.{Closed, BadHead, HeadTooLarge, BodyTooLarge, Truncated, LongConnection, ReadFault, Gone, WriteFault, Stopped, OutOfMemory}
+use Rattle.sb_server.specs.declared.ending.Ending.TheVariants.{Closed, BadHead, HeadTooLarge, BodyTooLarge, Truncated, LongConnection, ReadFault, Gone, WriteFault, Slow, Stopped, OutOfMemory}
 use Rattle.sb_server.specs.Asks.{AsksFor, asks_close}
 use Rattle.sb_server.specs.Reads.{Stand, Takes, EndsWith, IsDone, WaitsForMore}
 use Rattle.sb_server.specs.Responds.{GivenUp, RespondsTo, Responds}
@@ -70,6 +70,7 @@ over IsReading s h n ending t x e waits pass written writes = by ending e
     by BodyTooLarge e = absurd e
     by Gone e = absurd e
     by WriteFault e = absurd e
+    by Slow e = absurd e
     by Stopped e = absurd e
     by OutOfMemory e = absurd e
 

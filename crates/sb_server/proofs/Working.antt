@@ -7,7 +7,7 @@ use Rattle.sb_outside.specs.Streams.{Gains, Stays}
 use Rattle.sb_outside.specs.Doors.{GivesInOrder}
 use Rattle.sb_outside.specs.declared.door.Given.TheVariants.{One, End}
 use Rattle.sb_server.specs.declared.ending.Ending.{Ending}
-use Rattle.sb_server.specs.declared.ending.Ending.TheVariants.{Closed, BadHead, HeadTooLarge, BodyTooLarge, Truncated, LongConnection, ReadFault, Gone, WriteFault, Stopped as NodeStopped, OutOfMemory as NoMemory}
+use Rattle.sb_server.specs.declared.ending.Ending.TheVariants.{Closed, BadHead, HeadTooLarge, BodyTooLarge, Truncated, LongConnection, ReadFault, Gone, WriteFault, Slow, Stopped as NodeStopped, OutOfMemory as NoMemory}
 use Rattle.sb_server.specs.declared.work.Stop.{Stop}
 use Rattle.sb_server.specs.declared.work.Stop.TheVariants.{Enough, Ended, Fault, Stopped, OutOfMemory}
 use Rattle.sb_server.specs.Works.{Visit, Works, Worked, befores, afters, HasGiven, GoesOn, EndsAt, MayStopBy, StopsBy, stop_of}
@@ -117,6 +117,7 @@ may_stop {X = X} visit ended before mid now r is later first = subst (λ (o : Op
     by ReadFault is = goes (ap stop_of is)
     by Gone is = goes (ap stop_of is)
     by WriteFault is = goes (ap stop_of is)
+    by Slow is = goes (ap stop_of is)
 
 last_on : {X : Type 0} (vs ws : List (Visit X)) (e : Ending) → Each GoesOn vs → EndsAt ws e → EndsAt (vs ++ ws) e
 last_on {X = X} vs ws e on l = (vs ++ l.0, l.1, ap (λ (k : List (Visit X)). vs ++ k) l.2 ∙ sym (append_assoc vs l.0 (l.1 ∷ [])), l.3, each_both GoesOn vs l.0 on l.4)

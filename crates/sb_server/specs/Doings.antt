@@ -28,7 +28,7 @@ use Rattle.sb_server.specs.declared.doing.Begun.TheVariants.{Done, Waits, Calls 
 use Rattle.sb_server.specs.declared.doing.Doing.{Doing}
 use Rattle.sb_server.specs.declared.doing.Doing.TheVariants.{Reads, Asks, Calls, Says as WillSay, Tells, Writes}
 use Rattle.sb_server.specs.declared.doing.Next.{Next}
-use Rattle.sb_server.specs.declared.doing.Next.TheVariants.{On, Blocked, Over}
+use Rattle.sb_server.specs.declared.doing.Next.TheVariants.{On, NothingYet, Blocked, Over}
 use Rattle.sb_server.specs.declared.doing.Outgoing.{Outgoing}
 use Rattle.sb_server.specs.declared.patience.Patience.{Patience}
 use Rattle.sb_server.specs.declared.script.Script.{Script}
@@ -38,7 +38,7 @@ use Rattle.sb_server.specs.Asks.{AsksFor, asks_close}
 use Rattle.sb_server.specs.Reads.{Takes}
 use Rattle.sb_server.specs.Bodies.{IsLineInOrder}
 use Rattle.sb_server.specs.Responds.{LineCalled, AreCalled, AnswersCall, RespondsTo, any_stops, fault_bytes, form_of, line_bytes, lines_bytes, replies_to, turn_of}
-use Rattle.sb_server.specs.Talks.{Start, Here, Talks, Ends, TurnsTo, ending_of}
+use Rattle.sb_server.specs.Talks.{Start, Here, Talks, ReadsOut, Ends, TurnsTo, ending_of}
 use Rattle.sb_server.specs.Waiting.{GoesBy, Waiting, is_empty}
 
 -- ---- what is to be told of a request
@@ -167,9 +167,10 @@ IsDoing IsReading s h (WillSay script form answer) = IsSaying IsReading s h scri
 IsDoing IsReading s h (Tells told) = IsDue IsReading s h told
 IsDoing IsReading s h (Writes out) = Owes IsReading s h out
 
--- it goes on, or ends
+-- it goes on, waits for more of a request, waits, or ends
 abbrev pub IsNext : (ℕ → Type 0) → Start → Here → Next → Type 0
 IsNext IsReading s h (On doing) = IsDoing IsReading s h doing
+IsNext IsReading s h NothingYet = ReadsOut IsReading s h
 IsNext IsReading s h (Blocked doing) = IsDoing IsReading s h doing
 IsNext IsReading s h (Over ending) = Ends IsReading s h ending
 
@@ -191,6 +192,7 @@ IsDoingInOrder (Writes out) = Unit {0}
 -- that of what comes next
 abbrev pub IsNextInOrder : Next → Type 0
 IsNextInOrder (On doing) = IsDoingInOrder doing
+IsNextInOrder NothingYet = Unit {0}
 IsNextInOrder (Blocked doing) = IsDoingInOrder doing
 IsNextInOrder (Over ending) = Unit {0}
 

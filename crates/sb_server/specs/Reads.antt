@@ -13,7 +13,7 @@ use Rattle.sb_server.specs.declared.came.Filled.TheVariants.{Full, NotYet, Over 
 use Rattle.sb_server.specs.declared.came.Took.{Took}
 use Rattle.sb_server.specs.declared.came.Took.TheVariants.{One, NoneYet, Fault}
 use Rattle.sb_server.specs.declared.ending.Ending.{Ending}
-use Rattle.sb_server.specs.declared.ending.Ending.TheVariants.{Closed, BadHead, HeadTooLarge, BodyTooLarge, Truncated, LongConnection, ReadFault, Gone, WriteFault, Stopped, OutOfMemory}
+use Rattle.sb_server.specs.declared.ending.Ending.TheVariants.{Closed, BadHead, HeadTooLarge, BodyTooLarge, Truncated, LongConnection, ReadFault, Gone, WriteFault, Slow, Stopped, OutOfMemory}
 use Rattle.sb_server.specs.declared.inbox.Inbox.{Inbox}
 use Rattle.sb_server.specs.Asks.{AsksFor, asks_close}
 
@@ -90,6 +90,7 @@ EndsWith HeadTooLarge there new count_before count = ⊥
 EndsWith BodyTooLarge there new count_before count = ⊥
 EndsWith Gone there new count_before count = ⊥
 EndsWith WriteFault there new count_before count = ⊥
+EndsWith Slow there new count_before count = ⊥
 EndsWith Stopped there new count_before count = ⊥
 EndsWith OutOfMemory there new count_before count = ⊥
 
@@ -102,7 +103,7 @@ IfOver (Done ending) P = P ending
 -- a request, none yet, a fault, or an end
 abbrev pub Comes : Access → Stand → Came → Stand → ℕ → ℕ → Type 0
 Comes access old (Asked ask closes) new count_before count = (m : RequestMessage) × AsksFor access m ask × (closes ≡ asks_close m) × Takes old (m ∷ []) new
-Comes access old NothingYet new count_before count = Takes old [] new
+Comes access old NothingYet new count_before count = Takes old [] new × WaitsForMore new.left
 Comes access old (Refused fault) new count_before count = Takes old [] new × Refuses fault new.left
 Comes access old (Over ending) new count_before count = Takes old [] new × EndsWith ending old.there new count_before count × WaitsForMore new.left
 

@@ -4,6 +4,7 @@ use Rattle.std.specs.List.{list_all, list_any}
 use Rattle.sb_desk.specs.Desks.{Open, Sitting, IsOf}
 use Rattle.sb_desk.specs.Lists.{Each}
 use Rattle.sb_rest.specs.declared.access.Access.{Access}
+use Rattle.sb_server.specs.declared.limits.Limits.{Limits}
 use Rattle.sb_server.specs.declared.ending.ServeEnding.{ServeEnding}
 use Rattle.sb_server.specs.declared.ending.ServeEnding.TheVariants.{Done, DoorFault, OutOfMemory}
 use Rattle.sb_server.specs.declared.job.Job.{Job}
@@ -58,12 +59,12 @@ pub record IsAtWork {D X : Type 0} (out : D → ℕ) (desk : Open) (job : Job D 
   pub sound : IsSound job.stage (out job.door)
 
 -- a worker as far as it has come, from how it began
-pub record HasCome {D X : Type 0} (IsReading : ℕ → Type 0) (access : Access) (there given : X → Option (List ℕ)) (reads writes : X → ℕ) (waiting taken : D → Option (List X)) (ended : D → Bool) (count out : D → ℕ) (most : ℕ) (began now : Job D X) : Type 0 where
+pub record HasCome {D X : Type 0} (IsReading : ℕ → Type 0) (access : Access) (limits : Limits) (there given : X → Option (List ℕ)) (reads writes : X → ℕ) (waiting taken : D → Option (List X)) (ended : D → Bool) (count out : D → ℕ) (most : ℕ) (began now : Job D X) : Type 0 where
   pub pass : Sitting
   pub pass_now : Sitting
   pub had : began.pass ≡ Some pass
   pub has : now.pass ≡ Some pass_now
-  pub at : IsAt IsReading access there given reads writes waiting taken ended count out most pass began.door pass_now now.door now.stage
+  pub at : IsAt IsReading access limits there given reads writes waiting taken ended count out most pass began.door pass_now now.door now.stage
   pub stop_is : now.stop ≡ stop_at now.stage now.stop
 
 -- each worker is over

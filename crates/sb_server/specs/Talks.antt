@@ -14,18 +14,21 @@ use Rattle.sb_http.specs.Responses.{ResponseMessage, response_bytes}
 use Rattle.sb_http.specs.Stages.{whole, held}
 use Rattle.sb_http.specs.Streams.{Requests}
 use Rattle.sb_rest.specs.declared.access.Access.{Access}
+use Rattle.sb_server.specs.declared.limits.Limits.{Limits}
 use Rattle.sb_server.specs.declared.telling.Turn.{Turn}
 use Rattle.sb_server.specs.declared.telling.Turn.TheVariants.{Goes, Closes, Stops}
 use Rattle.sb_server.specs.declared.ending.Ending.{Ending}
-use Rattle.sb_server.specs.declared.ending.Ending.TheVariants.{Closed, BadHead, HeadTooLarge, BodyTooLarge, Truncated, LongConnection, ReadFault, Gone, WriteFault, Stopped, OutOfMemory}
+use Rattle.sb_server.specs.declared.ending.Ending.TheVariants.{Closed, BadHead, HeadTooLarge, BodyTooLarge, Truncated, LongConnection, ReadFault, Gone, WriteFault, Slow, Stopped, OutOfMemory}
 use Rattle.sb_server.specs.Reads.{Stand, HasRead, IsDone, WaitsForMore}
 use Rattle.sb_server.specs.Responds.{GivenUp, Responds}
+use Rattle.sb_server.specs.Times.{Passed, with_bytes}
 use Rattle.sb_server.specs.Waiting.{GoesBy}
 
--- How a connection began: whom the server answers, the pass, what it has left and what it was given, where it tells, and its counts of
--- faults.
+-- How a connection began: whom the server answers, its limits of time, the pass, what it has left and what it was given, where it tells,
+-- and its counts of faults.
 pub record Start : Type 0 where
   pub access : Access
+  pub limits : Limits
   pub pass : Sitting
   pub there : Option (List ℕ)
   pub given : Option (List ℕ)
@@ -140,6 +143,16 @@ LeavesPart IsReading s h = (all : List ℕ) × Leaves IsReading s h all × Gains
 abbrev pub ReadsOut : (ℕ → Type 0) → Start → Here → Type 0
 ReadsOut IsReading s h = Talks IsReading s h Goes × WaitsForMore h.stand.left
 
+-- the limit of the next request has passed: none has begun, or one has and isn't whole
+abbrev pub IsUnasked : (ℕ → Type 0) → Start → Here → Type 0
+IsUnasked IsReading s h =
+    ((h.stand.left ≡ whole []) × Passed IsReading s.limits.idle_ms) ⊎ ((0 < held h.stand.left) × Passed IsReading (with_bytes s.limits.request_ms (held h.stand.left)))
+
+-- The other side was too slow: no request is whole and the limit has passed, or a front of what was to be written was
+-- written, and the limit of a response has passed.
+abbrev pub IsSlow : (ℕ → Type 0) → Start → Here → Type 0
+IsSlow IsReading s h = (ReadsOut IsReading s h × IsUnasked IsReading s h) ⊎ ((Parts IsReading s h ⊎ LeavesPart IsReading s h) × Passed IsReading s.limits.request_ms)
+
 -- each ending by its cause; want of memory comes only where each request that was taken is answered
 abbrev pub Ends : (ℕ → Type 0) → Start → Here → Ending → Type 0
 Ends IsReading s h Closed = Talks IsReading s h Closes ⊎ (ReadsOut IsReading s h × IsDone s.there h.stand.there × (h.stand.left ≡ whole []))
@@ -152,6 +165,7 @@ Ends IsReading s h HeadTooLarge = IsRefused IsReading s h HeadLarge
 Ends IsReading s h BodyTooLarge = IsRefused IsReading s h BodyLarge
 Ends IsReading s h Gone = HasGone IsReading s h
 Ends IsReading s h WriteFault = (Parts IsReading s h ⊎ LeavesPart IsReading s h) × Rose s.writes h.writes
+Ends IsReading s h Slow = IsSlow IsReading s h
 Ends IsReading s h OutOfMemory = Talks IsReading s h Goes
 
 -- it goes on, or ends

@@ -8,8 +8,9 @@ use Rattle.sb_desk.specs.Lists.{Each}
 use Rattle.sb_outside.specs.Causes.{Rose}
 use Rattle.sb_outside.specs.Streams.{Gains}
 use Rattle.sb_rest.specs.declared.access.Access.{Access}
+use Rattle.sb_server.specs.declared.limits.Limits.{Limits}
 use Rattle.sb_server.specs.declared.ending.Ending.{Ending}
-use Rattle.sb_server.specs.declared.ending.Ending.TheVariants.{Closed, BadHead, HeadTooLarge, BodyTooLarge, Truncated, LongConnection, ReadFault, Gone, WriteFault, Stopped as NodeStopped, OutOfMemory as NoMemory}
+use Rattle.sb_server.specs.declared.ending.Ending.TheVariants.{Closed, BadHead, HeadTooLarge, BodyTooLarge, Truncated, LongConnection, ReadFault, Gone, WriteFault, Slow, Stopped as NodeStopped, OutOfMemory as NoMemory}
 use Rattle.sb_server.specs.declared.work.Stop.{Stop}
 use Rattle.sb_server.specs.declared.work.Stop.TheVariants.{Enough, Ended, Fault, Stopped, OutOfMemory}
 use Rattle.sb_server.specs.Reads.{Stand}
@@ -21,10 +22,10 @@ pub record Visit (X : Type 0) : Type 0 where
   pub after : X
   pub ending : Ending
 
--- the connection was served with this pass, by a clock that may read what `IsReading` holds of
-abbrev pub ServesBy : {X : Type 0} → (ℕ → Type 0) → Access → (X → Option (List ℕ)) → (X → Option (List ℕ)) → (X → ℕ) → (X → ℕ) → Sitting → Visit X → Sitting → Type 0
-ServesBy IsReading access there given reads writes p v q = (stand : Stand)
-    × Ends IsReading (record { access = access; pass = p; there = there v.before; given = given v.before; reads = reads v.before; writes = writes v.before })
+-- the connection was served with this pass within these limits of time, by a clock that may read what `IsReading` holds of
+abbrev pub ServesBy : {X : Type 0} → (ℕ → Type 0) → Access → Limits → (X → Option (List ℕ)) → (X → Option (List ℕ)) → (X → ℕ) → (X → ℕ) → Sitting → Visit X → Sitting → Type 0
+ServesBy IsReading access limits there given reads writes p v q = (stand : Stand)
+    × Ends IsReading (record { access = access; limits = limits; pass = p; there = there v.before; given = given v.before; reads = reads v.before; writes = writes v.before })
     (record { pass = q; stand = stand; written = given v.after; reads = reads v.after; writes = writes v.after }) v.ending
 
 -- connections were served one after the other, from pass to pass
@@ -66,6 +67,7 @@ stop_of LongConnection = None
 stop_of ReadFault = None
 stop_of Gone = None
 stop_of WriteFault = None
+stop_of Slow = None
 
 -- a worker goes on behind it
 abbrev pub GoesOn : {X : Type 0} → Visit X → Type 0

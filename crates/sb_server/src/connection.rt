@@ -7,6 +7,7 @@ ghost use Rattle.sb_server.specs.Talks as talks;
 use crate::doing::{Doing, Next};
 use crate::ending::Ending;
 use crate::inbox::Inbox;
+use crate::limits::{Limits, Since, look};
 use crate::step::step;
 use sb_desk::{Desk, Pass, Served};
 use sb_outside::{Clock, Conn};
@@ -16,21 +17,22 @@ use std::alloc::Global;
 use std::sync::Wait;
 
 /// Takes the requests of a connection, one after the other, makes their calls at this pass, and writes
-/// their responses, until it ends. Where nothing can be read or written yet, and where a receive waits,
-/// it goes on behind a pause of the clock. It holds one buffer of requests and one piece of 4,096
-/// bytes.
+/// their responses, until it ends, or the other side was slower than the limits. Where nothing can be read
+/// or written yet, and where a receive waits, it goes on behind a pause of the clock. It holds one buffer
+/// of requests and one piece of 4,096 bytes.
 pub fn serve_connection<V: Served, R: Wait, C: Clock, N: Conn>(
     rt: &R,
     alloc: Global,
     routes: &Routes,
     access: &Access,
+    limits: Limits,
     desk: &Desk<V>,
     pass: Pass,
     clock: &C,
     conn: &mut N,
 ) -> (Pass, Ending)
     requires { IsOf desk.now pass }
-    ensures ends { (stand : Stand) × talks.Ends (C.reads clock.now) (record { access = access.now; pass = pass; there = N.left conn.old; given = N.given conn.old; reads = N.reads conn.old; writes = N.writes conn.old })
+    ensures ends { (stand : Stand) × talks.Ends (C.reads clock.now) (record { access = access.now; limits = limits; pass = pass; there = N.left conn.old; given = N.given conn.old; reads = N.reads conn.old; writes = N.writes conn.old })
         (record { pass = result.0; stand = stand; written = N.given conn.new; reads = N.reads conn.new; writes = N.writes conn.new }) result.1 }
     ensures desk { IsOf desk.now result.0 }
 {
@@ -39,13 +41,20 @@ pub fn serve_connection<V: Served, R: Wait, C: Clock, N: Conn>(
     };
     let mut current = pass;
     let mut doing = Doing::Reads;
+    let mut since = Since::Never;
     for _ in rt.forever() {
         let (went, next) = step(
             rt, alloc, routes, access, desk, current, clock, conn, &mut inbox, doing,
         );
         current = went;
+        let (next, from, _) = look(clock, limits, &inbox, since, next);
+        since = from;
         match next {
             Next::On(on) => doing = on,
+            Next::NothingYet => {
+                clock.pause();
+                doing = Doing::Reads;
+            }
             Next::Blocked(on) => {
                 clock.pause();
                 doing = on;

@@ -33,10 +33,12 @@ pub(crate) enum Doing {
     Writes(Outgoing),
 }
 
-/// What comes next: this at once, this once it may go on, or the end.
+/// What comes next: this at once, the rest of a request, of which nothing can be read yet, this once it
+/// may go on, or the end.
 #[derive(Drop)]
 pub(crate) enum Next {
     On(Doing),
+    NothingYet,
     Blocked(Doing),
     Over(Ending),
 }

@@ -9,6 +9,7 @@ ghost use Rattle.sb_server.specs.Stages.{is_over, stop_at};
 
 use crate::ending::ServeEnding;
 use crate::job::{Job, ending_of, pair_up, put_back};
+use crate::limits::Limits;
 use crate::stage::{Stage, let_go};
 use crate::work::{Stop, go_on};
 use sb_desk::{Desk, Pass, Served};
@@ -27,8 +28,9 @@ const STEPS_EACH: usize = 8;
 const CALLS_EACH: usize = 32;
 
 /// Serves each door by a worker of its own with one of the last passes, at most so many connections
-/// each. The calling thread goes on with those that the lobby calls, each until it is blocked, and where none may
-/// go on it waits in the lobby. Passes and doors stand in their lists as before.
+/// each, within these limits of time. The calling thread goes on with those that the lobby calls, each
+/// until it is blocked, and where none may go on it waits in the lobby. Passes and doors stand in their
+/// lists as before.
 pub fn serve<
     V: Served + Send,
     R: Threads + Wait + Sync,
@@ -40,6 +42,7 @@ pub fn serve<
     alloc: Global,
     routes: &Routes,
     access: &Access,
+    limits: Limits,
     desk: &Desk<V>,
     passes: &mut Vec<Pass>,
     doors: &mut Vec<D>,
@@ -51,7 +54,7 @@ where
     D::Conn: Send,
     requires enough { length doors.old.items ≤ length passes.old.items }
     requires desk { Each (IsOf desk.now) passes.old.items }
-    ensures serves { Serving (Working (ServesBy (C.reads clock.now) access.now D.Conn.left D.Conn.given D.Conn.reads D.Conn.writes) D.left D.taken D.ended D.count D.out desk.now most) passes.old.items passes.new.items doors.old.items doors.new.items result }
+    ensures serves { Serving (Working (ServesBy (C.reads clock.now) access.now limits D.Conn.left D.Conn.given D.Conn.reads D.Conn.writes) D.left D.taken D.ended D.count D.out desk.now most) passes.old.items passes.new.items doors.old.items doors.new.items result }
     ensures desk { (length passes.new.items ≡ length passes.old.items) × Each (IsOf desk.now) passes.new.items }
 {
     let Ok(room) = Vec::with_capacity(alloc, doors.len()) else {
@@ -63,6 +66,7 @@ where
         alloc,
         routes,
         access,
+        limits,
         desk,
         clock,
         lobby,
@@ -86,6 +90,7 @@ fn serve_doors<
     alloc: Global,
     routes: &Routes,
     access: &Access,
+    limits: Limits,
     desk: &Desk<V>,
     clock: &C,
     lobby: &L,
@@ -96,12 +101,12 @@ where
     D::Conn: Send,
     requires { All (λ j. HasPass desk.now most j) jobs.old }
     ensures { (i : ℕ) (d : Job D D.Conn) → i < length jobs.old
-        → Did (Working (ServesBy (C.reads clock.now) access.now D.Conn.left D.Conn.given D.Conn.reads D.Conn.writes) D.left D.taken D.ended D.count D.out desk.now most) (slice_index_or jobs.old i d) (slice_index_or jobs.new i d) }
+        → Did (Working (ServesBy (C.reads clock.now) access.now limits D.Conn.left D.Conn.given D.Conn.reads D.Conn.writes) D.left D.taken D.ended D.count D.out desk.now most) (slice_index_or jobs.old i d) (slice_index_or jobs.new i d) }
 {
     if jobs.is_empty() {
         return;
     }
-    serve_share(rt, alloc, routes, access, desk, clock, lobby, 0, jobs);
+    serve_share(rt, alloc, routes, access, limits, desk, clock, lobby, 0, jobs);
 }
 
 // The workers of one thread: those that are called go on until each is over, and where none may it waits.
@@ -110,6 +115,7 @@ fn serve_share<V: Served, R: Wait, C: Clock, L: Lobby, D: Door>(
     alloc: Global,
     routes: &Routes,
     access: &Access,
+    limits: Limits,
     desk: &Desk<V>,
     clock: &C,
     lobby: &L,
@@ -118,13 +124,13 @@ fn serve_share<V: Served, R: Wait, C: Clock, L: Lobby, D: Door>(
 )
     requires { All (λ j. IsAtWork D.out desk.now j) jobs.old }
     ensures { (most i : ℕ) (d : Job D D.Conn) → i < length jobs.old → HasPass desk.now most (slice_index_or jobs.old i d)
-        → Did (Working (ServesBy (C.reads clock.now) access.now D.Conn.left D.Conn.given D.Conn.reads D.Conn.writes) D.left D.taken D.ended D.count D.out desk.now most) (slice_index_or jobs.old i d) (slice_index_or jobs.new i d) }
+        → Did (Working (ServesBy (C.reads clock.now) access.now limits D.Conn.left D.Conn.given D.Conn.reads D.Conn.writes) D.left D.taken D.ended D.count D.out desk.now most) (slice_index_or jobs.old i d) (slice_index_or jobs.new i d) }
 {
     // At which reading a worker is looked at again, at the least; 0 where all are to be looked at.
     let mut soonest = 0;
     for _ in rt.forever() {
         match go_round(
-            rt, alloc, routes, access, desk, clock, lobby, first, soonest, jobs,
+            rt, alloc, routes, access, limits, desk, clock, lobby, first, soonest, jobs,
         ) {
             Round::AllOver => return,
             Round::Moves(again) => soonest = again,
@@ -177,6 +183,7 @@ fn go_round<V: Served, R: Wait, C: Clock, L: Lobby, D: Door>(
     alloc: Global,
     routes: &Routes,
     access: &Access,
+    limits: Limits,
     desk: &Desk<V>,
     clock: &C,
     lobby: &L,
@@ -187,13 +194,13 @@ fn go_round<V: Served, R: Wait, C: Clock, L: Lobby, D: Door>(
     requires { All (λ j. IsAtWork D.out desk.now j) jobs.old }
     ensures work { All (λ j. IsAtWork D.out desk.now j) jobs.new }
     ensures come { (most : ℕ) (began : Job D D.Conn) (i : ℕ) (d : Job D D.Conn) → i < length jobs.old
-        → HasCome (C.reads clock.now) access.now D.Conn.left D.Conn.given D.Conn.reads D.Conn.writes D.left D.taken D.ended D.count D.out most began (slice_index_or jobs.old i d)
-        → HasCome (C.reads clock.now) access.now D.Conn.left D.Conn.given D.Conn.reads D.Conn.writes D.left D.taken D.ended D.count D.out most began (slice_index_or jobs.new i d) }
+        → HasCome (C.reads clock.now) access.now limits D.Conn.left D.Conn.given D.Conn.reads D.Conn.writes D.left D.taken D.ended D.count D.out most began (slice_index_or jobs.old i d)
+        → HasCome (C.reads clock.now) access.now limits D.Conn.left D.Conn.given D.Conn.reads D.Conn.writes D.left D.taken D.ended D.count D.out most began (slice_index_or jobs.new i d) }
     ensures over { result ≡ AllOver → All (λ j. is_over j.stage ≡ true) jobs.new }
 {
     let now = reading_for(clock, soonest);
     let looked = look(
-        rt, alloc, routes, access, desk, clock, lobby, first, soonest, now, jobs,
+        rt, alloc, routes, access, limits, desk, clock, lobby, first, soonest, now, jobs,
     );
     if all_over(looked, jobs) {
         return Round::AllOver;
@@ -225,6 +232,7 @@ fn look<V: Served, R: Wait, C: Clock, L: Lobby, D: Door>(
     alloc: Global,
     routes: &Routes,
     access: &Access,
+    limits: Limits,
     desk: &Desk<V>,
     clock: &C,
     lobby: &L,
@@ -236,17 +244,17 @@ fn look<V: Served, R: Wait, C: Clock, L: Lobby, D: Door>(
     requires { All (λ j. IsAtWork D.out desk.now j) jobs.old }
     ensures work { All (λ j. IsAtWork D.out desk.now j) jobs.new }
     ensures come { (most : ℕ) (began : Job D D.Conn) (i : ℕ) (d : Job D D.Conn) → i < length jobs.old
-        → HasCome (C.reads clock.now) access.now D.Conn.left D.Conn.given D.Conn.reads D.Conn.writes D.left D.taken D.ended D.count D.out most began (slice_index_or jobs.old i d)
-        → HasCome (C.reads clock.now) access.now D.Conn.left D.Conn.given D.Conn.reads D.Conn.writes D.left D.taken D.ended D.count D.out most began (slice_index_or jobs.new i d) }
+        → HasCome (C.reads clock.now) access.now limits D.Conn.left D.Conn.given D.Conn.reads D.Conn.writes D.left D.taken D.ended D.count D.out most began (slice_index_or jobs.old i d)
+        → HasCome (C.reads clock.now) access.now limits D.Conn.left D.Conn.given D.Conn.reads D.Conn.writes D.left D.taken D.ended D.count D.out most began (slice_index_or jobs.new i d) }
 {
     if now < soonest {
         return drain(
-            rt, alloc, routes, access, desk, clock, lobby, first, soonest, jobs,
+            rt, alloc, routes, access, limits, desk, clock, lobby, first, soonest, jobs,
         );
     }
     let due = due_by(soonest, now);
     sweep(
-        rt, alloc, routes, access, desk, clock, lobby, first, due, jobs,
+        rt, alloc, routes, access, limits, desk, clock, lobby, first, due, jobs,
     )
 }
 
@@ -264,6 +272,7 @@ fn sweep<V: Served, R: Wait, C: Clock, L: Lobby, D: Door>(
     alloc: Global,
     routes: &Routes,
     access: &Access,
+    limits: Limits,
     desk: &Desk<V>,
     clock: &C,
     lobby: &L,
@@ -274,8 +283,8 @@ fn sweep<V: Served, R: Wait, C: Clock, L: Lobby, D: Door>(
     requires { All (λ j. IsAtWork D.out desk.now j) jobs.old }
     ensures work { All (λ j. IsAtWork D.out desk.now j) jobs.new }
     ensures come { (most : ℕ) (began : Job D D.Conn) (i : ℕ) (d : Job D D.Conn) → i < length jobs.old
-        → HasCome (C.reads clock.now) access.now D.Conn.left D.Conn.given D.Conn.reads D.Conn.writes D.left D.taken D.ended D.count D.out most began (slice_index_or jobs.old i d)
-        → HasCome (C.reads clock.now) access.now D.Conn.left D.Conn.given D.Conn.reads D.Conn.writes D.left D.taken D.ended D.count D.out most began (slice_index_or jobs.new i d) }
+        → HasCome (C.reads clock.now) access.now limits D.Conn.left D.Conn.given D.Conn.reads D.Conn.writes D.left D.taken D.ended D.count D.out most began (slice_index_or jobs.old i d)
+        → HasCome (C.reads clock.now) access.now limits D.Conn.left D.Conn.given D.Conn.reads D.Conn.writes D.left D.taken D.ended D.count D.out most began (slice_index_or jobs.new i d) }
 {
     let mut looked = Looked {
         soonest: u64::MAX,
@@ -283,7 +292,7 @@ fn sweep<V: Served, R: Wait, C: Clock, L: Lobby, D: Door>(
     };
     for i in 0..jobs.len() {
         let this = go_at(
-            rt, alloc, routes, access, desk, clock, lobby, first, due, i, jobs,
+            rt, alloc, routes, access, limits, desk, clock, lobby, first, due, i, jobs,
         );
         looked = both(looked, this);
     }
@@ -297,6 +306,7 @@ fn drain<V: Served, R: Wait, C: Clock, L: Lobby, D: Door>(
     alloc: Global,
     routes: &Routes,
     access: &Access,
+    limits: Limits,
     desk: &Desk<V>,
     clock: &C,
     lobby: &L,
@@ -307,8 +317,8 @@ fn drain<V: Served, R: Wait, C: Clock, L: Lobby, D: Door>(
     requires { All (λ j. IsAtWork D.out desk.now j) jobs.old }
     ensures work { All (λ j. IsAtWork D.out desk.now j) jobs.new }
     ensures come { (most : ℕ) (began : Job D D.Conn) (i : ℕ) (d : Job D D.Conn) → i < length jobs.old
-        → HasCome (C.reads clock.now) access.now D.Conn.left D.Conn.given D.Conn.reads D.Conn.writes D.left D.taken D.ended D.count D.out most began (slice_index_or jobs.old i d)
-        → HasCome (C.reads clock.now) access.now D.Conn.left D.Conn.given D.Conn.reads D.Conn.writes D.left D.taken D.ended D.count D.out most began (slice_index_or jobs.new i d) }
+        → HasCome (C.reads clock.now) access.now limits D.Conn.left D.Conn.given D.Conn.reads D.Conn.writes D.left D.taken D.ended D.count D.out most began (slice_index_or jobs.old i d)
+        → HasCome (C.reads clock.now) access.now limits D.Conn.left D.Conn.given D.Conn.reads D.Conn.writes D.left D.taken D.ended D.count D.out most began (slice_index_or jobs.new i d) }
 {
     let mut looked = Looked {
         soonest,
@@ -324,6 +334,7 @@ fn drain<V: Served, R: Wait, C: Clock, L: Lobby, D: Door>(
             alloc,
             routes,
             access,
+            limits,
             desk,
             clock,
             lobby,
@@ -343,6 +354,7 @@ fn go_at<V: Served, R: Wait, C: Clock, L: Lobby, D: Door>(
     alloc: Global,
     routes: &Routes,
     access: &Access,
+    limits: Limits,
     desk: &Desk<V>,
     clock: &C,
     lobby: &L,
@@ -354,8 +366,8 @@ fn go_at<V: Served, R: Wait, C: Clock, L: Lobby, D: Door>(
     requires { All (λ j. IsAtWork D.out desk.now j) jobs.old }
     ensures work { All (λ j. IsAtWork D.out desk.now j) jobs.new }
     ensures come { (most : ℕ) (began : Job D D.Conn) (i : ℕ) (d : Job D D.Conn) → i < length jobs.old
-        → HasCome (C.reads clock.now) access.now D.Conn.left D.Conn.given D.Conn.reads D.Conn.writes D.left D.taken D.ended D.count D.out most began (slice_index_or jobs.old i d)
-        → HasCome (C.reads clock.now) access.now D.Conn.left D.Conn.given D.Conn.reads D.Conn.writes D.left D.taken D.ended D.count D.out most began (slice_index_or jobs.new i d) }
+        → HasCome (C.reads clock.now) access.now limits D.Conn.left D.Conn.given D.Conn.reads D.Conn.writes D.left D.taken D.ended D.count D.out most began (slice_index_or jobs.old i d)
+        → HasCome (C.reads clock.now) access.now limits D.Conn.left D.Conn.given D.Conn.reads D.Conn.writes D.left D.taken D.ended D.count D.out most began (slice_index_or jobs.new i d) }
 {
     if i >= jobs.len() {
         return Looked {
@@ -369,6 +381,7 @@ fn go_at<V: Served, R: Wait, C: Clock, L: Lobby, D: Door>(
         alloc,
         routes,
         access,
+        limits,
         desk,
         clock,
         lobby,
@@ -385,6 +398,7 @@ fn go_job<V: Served, R: Wait, C: Clock, L: Lobby, D: Door>(
     alloc: Global,
     routes: &Routes,
     access: &Access,
+    limits: Limits,
     desk: &Desk<V>,
     clock: &C,
     lobby: &L,
@@ -394,8 +408,8 @@ fn go_job<V: Served, R: Wait, C: Clock, L: Lobby, D: Door>(
 ) -> Looked
     requires { IsAtWork D.out desk.now job.old }
     ensures work { IsAtWork D.out desk.now job.new }
-    ensures come { (most : ℕ) (began : Job D D.Conn) → HasCome (C.reads clock.now) access.now D.Conn.left D.Conn.given D.Conn.reads D.Conn.writes D.left D.taken D.ended D.count D.out most began job.old
-        → HasCome (C.reads clock.now) access.now D.Conn.left D.Conn.given D.Conn.reads D.Conn.writes D.left D.taken D.ended D.count D.out most began job.new }
+    ensures come { (most : ℕ) (began : Job D D.Conn) → HasCome (C.reads clock.now) access.now limits D.Conn.left D.Conn.given D.Conn.reads D.Conn.writes D.left D.taken D.ended D.count D.out most began job.old
+        → HasCome (C.reads clock.now) access.now limits D.Conn.left D.Conn.given D.Conn.reads D.Conn.writes D.left D.taken D.ended D.count D.out most began job.new }
 {
     if due < job.again {
         return Looked {
@@ -403,7 +417,7 @@ fn go_job<V: Served, R: Wait, C: Clock, L: Lobby, D: Door>(
             over: false,
         };
     }
-    let went = go_far(rt, alloc, routes, access, desk, clock, job);
+    let went = go_far(rt, alloc, routes, access, limits, desk, clock, job);
     let again = again_behind(lobby, number, went);
     job.again = again;
     Looked {
@@ -427,17 +441,18 @@ fn go_far<V: Served, R: Wait, C: Clock, D: Door>(
     alloc: Global,
     routes: &Routes,
     access: &Access,
+    limits: Limits,
     desk: &Desk<V>,
     clock: &C,
     job: &mut Job<D, D::Conn>,
 ) -> u64
     requires { IsAtWork D.out desk.now job.old }
     ensures work { IsAtWork D.out desk.now job.new }
-    ensures come { (most : ℕ) (began : Job D D.Conn) → HasCome (C.reads clock.now) access.now D.Conn.left D.Conn.given D.Conn.reads D.Conn.writes D.left D.taken D.ended D.count D.out most began job.old
-        → HasCome (C.reads clock.now) access.now D.Conn.left D.Conn.given D.Conn.reads D.Conn.writes D.left D.taken D.ended D.count D.out most began job.new }
+    ensures come { (most : ℕ) (began : Job D D.Conn) → HasCome (C.reads clock.now) access.now limits D.Conn.left D.Conn.given D.Conn.reads D.Conn.writes D.left D.taken D.ended D.count D.out most began job.old
+        → HasCome (C.reads clock.now) access.now limits D.Conn.left D.Conn.given D.Conn.reads D.Conn.writes D.left D.taken D.ended D.count D.out most began job.new }
 {
     for _ in 0..STEPS_EACH {
-        let again = go_once(rt, alloc, routes, access, desk, clock, job);
+        let again = go_once(rt, alloc, routes, access, limits, desk, clock, job);
         if again > 0 {
             return again;
         }
@@ -451,14 +466,15 @@ fn go_once<V: Served, R: Wait, C: Clock, D: Door>(
     alloc: Global,
     routes: &Routes,
     access: &Access,
+    limits: Limits,
     desk: &Desk<V>,
     clock: &C,
     job: &mut Job<D, D::Conn>,
 ) -> u64
     requires { IsAtWork D.out desk.now job.old }
     ensures work { IsAtWork D.out desk.now job.new }
-    ensures come { (most : ℕ) (began : Job D D.Conn) → HasCome (C.reads clock.now) access.now D.Conn.left D.Conn.given D.Conn.reads D.Conn.writes D.left D.taken D.ended D.count D.out most began job.old
-        → HasCome (C.reads clock.now) access.now D.Conn.left D.Conn.given D.Conn.reads D.Conn.writes D.left D.taken D.ended D.count D.out most began job.new }
+    ensures come { (most : ℕ) (began : Job D D.Conn) → HasCome (C.reads clock.now) access.now limits D.Conn.left D.Conn.given D.Conn.reads D.Conn.writes D.left D.taken D.ended D.count D.out most began job.old
+        → HasCome (C.reads clock.now) access.now limits D.Conn.left D.Conn.given D.Conn.reads D.Conn.writes D.left D.taken D.ended D.count D.out most began job.new }
 {
     let Some(pass) = job.pass.take() else {
         unreachable!()
@@ -470,6 +486,7 @@ fn go_once<V: Served, R: Wait, C: Clock, D: Door>(
         alloc,
         routes,
         access,
+        limits,
         desk,
         pass,
         clock,

@@ -1,6 +1,7 @@
 // How a connection ends, and how serving does.
 
-/// How a connection ended, for its server. Each response but where a write failed was written in full.
+/// How a connection ended, for its server. Each response was written in full, but where a write failed or the
+/// other side was too slow.
 #[derive(Clone, Copy, PartialEq, Eq)]
 pub enum Ending {
     /// The other side ended between two requests, or a response ended the connection.
@@ -20,6 +21,9 @@ pub enum Ending {
     /// found nothing by its end.
     Gone,
     WriteFault,
+    /// The other side was too slow: a request wasn't whole in time, or hadn't begun, and has no response,
+    /// or a response wasn't taken in time.
+    Slow,
     /// The namespace acts no more: so the last response says.
     Stopped,
     OutOfMemory,

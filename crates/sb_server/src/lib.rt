@@ -5,12 +5,15 @@
 //! [`serve`] gives each door a worker, which serves its connections one after the other.
 //! [`receive_waiting`] is a receive that waits for a message. It stands on `sb_desk` for calls,
 //! `sb_http` for the bytes of requests and responses, `sb_rest` and `sb_lines` for what they ask for,
-//! and `sb_outside` for connections and the clock. Nothing is said of how long it waits.
+//! and `sb_outside` for connections and the clock. A connection whose other side is slower than its
+//! [`Limits`] is ended; nothing is said of how long a worker waits.
 //!
 //! ```text
 //! let routes = Routes::new(alloc)?;
 //! let access = Access::unlocked(alloc);
-//! let (pass, ending) = serve_connection(&rt, alloc, &routes, &access, &desk, pass, &clock, &mut conn);
+//! let limits = Limits { request_ms: 60_000, idle_ms: 600_000 };
+//! let (pass, ending) =
+//!     serve_connection(&rt, alloc, &routes, &access, limits, &desk, pass, &clock, &mut conn);
 //! ```
 #![tactic(auto)]
 
@@ -26,6 +29,7 @@ mod head;
 mod inbox;
 mod job;
 mod laws;
+mod limits;
 mod lines;
 mod patience;
 mod script;
@@ -40,6 +44,7 @@ pub use connection::serve_connection;
 pub use doors::serve;
 pub use ending::{Ending, ServeEnding};
 pub use laws::{lines_are_the_body, unwelcome_makes_no_entry};
+pub use limits::Limits;
 pub use waiting::receive_waiting;
 pub use work::{Stop, serve_door};
 pub use worked::{worked_bodies, worked_connections};

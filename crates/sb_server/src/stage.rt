@@ -6,14 +6,17 @@ ghost use Rattle.sb_server.specs.Works.{stop_of};
 use crate::doing::Doing;
 use crate::ending::Ending;
 use crate::inbox::Inbox;
+use crate::limits::Since;
 use crate::work::Stop;
 
-/// A connection that is being served: what came of it and isn't answered yet, and what it does now.
+/// A connection that is being served: what came of it and isn't answered yet, what it does now, and since
+/// when it waits for the other side.
 #[derive(Drop)]
 pub(crate) struct Guest<N> {
     pub(crate) conn: N,
     pub(crate) inbox: Inbox,
     pub(crate) doing: Doing,
+    pub(crate) since: Since,
 }
 
 /// Where a worker stands. It says how many connections more are served at most.
@@ -41,7 +44,8 @@ fn stop_of(ending: Ending) -> Option<Stop>
         | Ending::LongConnection
         | Ending::ReadFault
         | Ending::Gone
-        | Ending::WriteFault => None,
+        | Ending::WriteFault
+        | Ending::Slow => None,
     }
 }
 

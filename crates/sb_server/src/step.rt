@@ -87,7 +87,7 @@ fn read_on<V: Served, R: Wait, C: Clock, N: Conn>(
             let (pass, begun) = answer(rt, alloc, desk, pass, clock, ask, closes);
             (pass, next_of(begun))
         }
-        Came::NothingYet => (pass, Next::Blocked(Doing::Reads)),
+        Came::NothingYet => (pass, Next::NothingYet),
         Came::Refused(fault) => {
             let bytes = refusal_bytes(alloc, fault);
             (pass, refusing(bytes, refusal_ending(fault)))

@@ -8,6 +8,7 @@ ghost use Rattle.sb_server.specs.Works.{Visit, Works, ServesBy, StopsBy};
 
 use crate::doing::{Doing, Next};
 use crate::inbox::Inbox;
+use crate::limits::{Limits, Since, look};
 use crate::stage::{Guest, Stage, stage_behind};
 use crate::step::step;
 use sb_desk::{Desk, Pass, Served};
@@ -37,13 +38,14 @@ pub enum Stop {
     OutOfMemory,
 }
 
-/// Serves the connections of a door with one pass, at most so many, each until it ends. A fault of a
-/// connection ends that connection alone.
+/// Serves the connections of a door with one pass, at most so many, each until it ends, within these limits
+/// of time. A fault of a connection ends that connection alone.
 pub fn serve_door<V: Served, R: Wait, C: Clock, D: Door>(
     rt: &R,
     alloc: Global,
     routes: &Routes,
     access: &Access,
+    limits: Limits,
     desk: &Desk<V>,
     pass: Pass,
     clock: &C,
@@ -51,7 +53,7 @@ pub fn serve_door<V: Served, R: Wait, C: Clock, D: Door>(
     most: u64,
 ) -> (Pass, Stop)
     requires { IsOf desk.now pass }
-    ensures works { (vs : List (Visit D.Conn)) × Works (ServesBy (C.reads clock.now) access.now D.Conn.left D.Conn.given D.Conn.reads D.Conn.writes) pass (D.left door.old) (D.taken door.old) result.0 (D.left door.new) (D.taken door.new) vs
+    ensures works { (vs : List (Visit D.Conn)) × Works (ServesBy (C.reads clock.now) access.now limits D.Conn.left D.Conn.given D.Conn.reads D.Conn.writes) pass (D.left door.old) (D.taken door.old) result.0 (D.left door.new) (D.taken door.new) vs
         × StopsBy result.1 most vs (D.ended door.new) (D.count door.old) (D.count door.new) }
     ensures out { D.out door.new ≡ D.out door.old }
     ensures desk { IsOf desk.now result.0 }
@@ -60,7 +62,7 @@ pub fn serve_door<V: Served, R: Wait, C: Clock, D: Door>(
     let mut stage = Stage::Wants(most);
     for _ in rt.forever() {
         let (next, went, again) = go_on(
-            rt, alloc, routes, access, desk, current, clock, door, stage,
+            rt, alloc, routes, access, limits, desk, current, clock, door, stage,
         );
         current = next;
         if let Stage::Over(stop) = went {
@@ -85,6 +87,7 @@ pub(crate) fn go_on<V: Served, R: Wait, C: Clock, D: Door>(
     alloc: Global,
     routes: &Routes,
     access: &Access,
+    limits: Limits,
     desk: &Desk<V>,
     pass: Pass,
     clock: &C,
@@ -93,20 +96,20 @@ pub(crate) fn go_on<V: Served, R: Wait, C: Clock, D: Door>(
 ) -> (Pass, Stage<D::Conn>, u64)
     requires desk { IsOf desk.now pass }
     requires sound { IsSound stage (D.out door.old) }
-    ensures goes { (most : ℕ) (p : Sitting) (d : D) → IsAt (C.reads clock.now) access.now D.Conn.left D.Conn.given D.Conn.reads D.Conn.writes D.left D.taken D.ended D.count D.out most p d pass door.old stage
-        → IsAt (C.reads clock.now) access.now D.Conn.left D.Conn.given D.Conn.reads D.Conn.writes D.left D.taken D.ended D.count D.out most p d result.0 door.new result.1 }
+    ensures goes { (most : ℕ) (p : Sitting) (d : D) → IsAt (C.reads clock.now) access.now limits D.Conn.left D.Conn.given D.Conn.reads D.Conn.writes D.left D.taken D.ended D.count D.out most p d pass door.old stage
+        → IsAt (C.reads clock.now) access.now limits D.Conn.left D.Conn.given D.Conn.reads D.Conn.writes D.left D.taken D.ended D.count D.out most p d result.0 door.new result.1 }
     ensures desk { IsOf desk.now result.0 }
     ensures sound { IsSound result.1 (D.out door.new) }
 {
     match stage {
         Stage::Wants(left) => {
-            let stage = want(alloc, access, clock, door, left);
+            let stage = want(alloc, access, limits, clock, door, left);
             let again = again_at(&stage);
             (pass, stage, again)
         }
         Stage::Serves(left, guest) => {
             attend(
-                rt, alloc, routes, access, desk, pass, clock, door, left, guest,
+                rt, alloc, routes, access, limits, desk, pass, clock, door, left, guest,
             )
         }
         Stage::Over(stop) => (pass, Stage::Over(stop), u64::MAX),
@@ -139,15 +142,17 @@ fn asks_at<C: Clock>(clock: &C, doing: &Doing) -> u64 {
 fn want<C: Clock, D: Door>(
     alloc: Global,
     access: &Access,
+    limits: Limits,
     clock: &C,
     door: &mut D,
     left: u64,
 ) -> Stage<D::Conn>
-    ensures goes { (most : ℕ) (p q : Sitting) (d : D) → IsAt (C.reads clock.now) access.now D.Conn.left D.Conn.given D.Conn.reads D.Conn.writes D.left D.taken D.ended D.count D.out most p d q door.old (Wants left)
-        → IsAt (C.reads clock.now) access.now D.Conn.left D.Conn.given D.Conn.reads D.Conn.writes D.left D.taken D.ended D.count D.out most p d q door.new result }
+    ensures goes { (most : ℕ) (p q : Sitting) (d : D) → IsAt (C.reads clock.now) access.now limits D.Conn.left D.Conn.given D.Conn.reads D.Conn.writes D.left D.taken D.ended D.count D.out most p d q door.old (Wants left)
+        → IsAt (C.reads clock.now) access.now limits D.Conn.left D.Conn.given D.Conn.reads D.Conn.writes D.left D.taken D.ended D.count D.out most p d q door.new result }
     ensures sound { IsSound result (D.out door.new) }
 {
     let _ = access;
+    let _ = limits;
     let _ = clock;
     if left == 0 {
         return Stage::Over(Stop::Enough);
@@ -161,8 +166,13 @@ fn want<C: Clock, D: Door>(
                 door.done(conn);
                 return Stage::Over(Stop::OutOfMemory);
             };
-            let doing = Doing::Reads;
-            Stage::Serves(left - 1, Guest { conn, inbox, doing })
+            let guest = Guest {
+                conn,
+                inbox,
+                doing: Doing::Reads,
+                since: Since::Never,
+            };
+            Stage::Serves(left - 1, guest)
         }
         Given::NoneYet => Stage::Wants(left),
         Given::End => Stage::Over(Stop::Ended),
@@ -175,6 +185,7 @@ fn attend<V: Served, R: Wait, C: Clock, D: Door>(
     alloc: Global,
     routes: &Routes,
     access: &Access,
+    limits: Limits,
     desk: &Desk<V>,
     pass: Pass,
     clock: &C,
@@ -185,30 +196,46 @@ fn attend<V: Served, R: Wait, C: Clock, D: Door>(
     requires desk { IsOf desk.now pass }
     requires out { 1 ≤ D.out door.old }
     requires order { IsDoingInOrder guest.doing }
-    ensures goes { (most : ℕ) (p : Sitting) (d : D) → IsAt (C.reads clock.now) access.now D.Conn.left D.Conn.given D.Conn.reads D.Conn.writes D.left D.taken D.ended D.count D.out most p d pass door.old (Serves left guest)
-        → IsAt (C.reads clock.now) access.now D.Conn.left D.Conn.given D.Conn.reads D.Conn.writes D.left D.taken D.ended D.count D.out most p d result.0 door.new result.1 }
+    ensures goes { (most : ℕ) (p : Sitting) (d : D) → IsAt (C.reads clock.now) access.now limits D.Conn.left D.Conn.given D.Conn.reads D.Conn.writes D.left D.taken D.ended D.count D.out most p d pass door.old (Serves left guest)
+        → IsAt (C.reads clock.now) access.now limits D.Conn.left D.Conn.given D.Conn.reads D.Conn.writes D.left D.taken D.ended D.count D.out most p d result.0 door.new result.1 }
     ensures desk { IsOf desk.now result.0 }
     ensures sound { IsSound result.1 (D.out door.new) }
 {
-    let Guest { conn, inbox, doing } = guest;
+    let Guest {
+        conn,
+        inbox,
+        doing,
+        since,
+    } = guest;
     let mut conn = conn;
     let mut inbox = inbox;
     let (pass, next) = step(
         rt, alloc, routes, access, desk, pass, clock, &mut conn, &mut inbox, doing,
     );
+    let (next, since, until) = look(clock, limits, &inbox, since, next);
     match next {
-        Next::On(doing) => (pass, Stage::Serves(left, Guest { conn, inbox, doing }), 0),
+        Next::On(doing) => (pass, serving(left, conn, inbox, doing, since), 0),
+        Next::NothingYet => (pass, serving(left, conn, inbox, Doing::Reads, since), until),
         Next::Blocked(doing) => {
-            let again = asks_at(clock, &doing);
-            (
-                pass,
-                Stage::Serves(left, Guest { conn, inbox, doing }),
-                again,
-            )
+            let again = asks_at(clock, &doing).min(until);
+            (pass, serving(left, conn, inbox, doing, since), again)
         }
         Next::Over(ending) => {
             door.done(conn);
             (pass, stage_behind(ending, left), 0)
         }
     }
+}
+
+// It goes on to serve a connection.
+fn serving<N>(left: u64, conn: N, inbox: Inbox, doing: Doing, since: Since) -> Stage<N>
+    ensures { result ≡ Serves left (record { conn = conn; inbox = inbox; doing = doing; since = since }) }
+{
+    let guest = Guest {
+        conn,
+        inbox,
+        doing,
+        since,
+    };
+    Stage::Serves(left, guest)
 }

@@ -19,6 +19,7 @@ ghost use Rattle.sb_server.specs.Asks.{is_close, lists_close, ms_in, waits};
 ghost use Rattle.sb_server.specs.Responds.{fault_bytes, lines_bytes, turn_of};
 ghost use Rattle.sb_server.specs.Serves.{serve_ending};
 ghost use Rattle.sb_server.specs.Talks.{refusal_bytes};
+ghost use Rattle.sb_server.specs.Times.{with_bytes};
 
 /// The definitions say of these lines, answers and endings what was worked out by hand.
 pub fn worked_connections()
@@ -27,6 +28,9 @@ pub fn worked_connections()
     ensures line { is_close (codes "CONNECTION", codes "close") ≡ true }
     ensures another_line { is_close (codes "Keep-Alive", codes "close") ≡ false }
     ensures minute { ms_in 60 ≡ 60000 }
+    ensures a_kib_more { with_bytes 60000 1024 ≡ 61000 }
+    ensures no_kib_more { with_bytes 60000 1023 ≡ 60000 }
+    ensures a_mib_more { with_bytes 1000 1048576 ≡ 1025000 }
     ensures goes { turn_of false false ≡ Goes }
     ensures closes { turn_of true false ≡ Closes }
     ensures stops_first { turn_of true true ≡ Stops }

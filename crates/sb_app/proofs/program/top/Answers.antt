@@ -1,18 +1,18 @@
-use Rattle.std.proofs.Common.{List, ℕ, map, refl, subst}
+use Rattle.std.proofs.Common.{◌∙◌, List, ℕ, map, refl, subst}
 use Rattle.sb_words.specs.Words.{connections_in, max_jump_in}
 use Rattle.sb_server.specs.Serves.{Working}
 use Rattle.sb_server.specs.Works.{ServesBy}
 use Rattle.sb_app.specs.Calls.{task_in}
 use Rattle.sb_app.specs.Outside.{input_of, outside_of}
-use Rattle.sb_app.specs.Servings.{IsServeCall}
-use Rattle.sb_app.proofs.Calls.{client_task, days_in, most_in, other_task, unnamed}
+use Rattle.sb_app.specs.Servings.{IsServeCall, limits_in}
+use Rattle.sb_app.proofs.Calls.{client_task, days_in, limits_are, most_in, other_task, unnamed}
 use Rattle.sb_app.proofs.Servings.{no_two_serve, unread_serve}
 use Rattle.sb_app.proofs.program.top.Goals as goal
 
 pub returns-in-Err-clause-serves : goal.returns-in-Err-clause-serves
 returns-in-Err-clause-serves g c serves =
     let words : List (List ℕ) = map (λ w. w.now) c.args.words.now in
-    unread_serve (g.C.Clock.reads c.args.clock.now) (max_jump_in words) (λ desk. Working (ServesBy (g.C.Clock.reads c.args.clock.now) c.args.access.now g.R.Conn.Conn.left g.R.Conn.Conn.given g.R.Conn.Conn.reads g.R.Conn.Conn.writes) g.R.Door.left g.R.Door.taken g.R.Door.ended g.R.Door.count g.R.Door.out desk (connections_in words)) g.R.Door.count words c.in-Err.fault c.args.salt _ _ _ _ c.args.doors.now.items _ c.in-Err.ensures.bad serves c.carry_out-status.ensures.done c.carry_out-status.ensures.usage
+    unread_serve (g.C.Clock.reads c.args.clock.now) (max_jump_in words) (λ desk. Working (ServesBy (g.C.Clock.reads c.args.clock.now) c.args.access.now (limits_in words) g.R.Conn.Conn.left g.R.Conn.Conn.given g.R.Conn.Conn.reads g.R.Conn.Conn.writes) g.R.Door.left g.R.Door.taken g.R.Door.ended g.R.Door.count g.R.Door.out desk (connections_in words)) g.R.Door.count words c.in-Err.fault c.args.salt _ _ _ _ c.args.doors.now.items _ c.in-Err.ensures.bad serves c.carry_out-status.ensures.done c.carry_out-status.ensures.usage
 
 pub returns-in-Err-clause-link : goal.returns-in-Err-clause-link
 returns-in-Err-clause-link g c other =
@@ -32,10 +32,12 @@ returns-in_default-clause-serves g c serves =
     let words : List (List ℕ) = map (λ w. w.now) c.args.words.now in
     let was = outside_of g.D.Disk g.S.Source g.K.Sink c.args.disk_a c.args.disk_b c.args.input.now c.args.output.now in
     let now = outside_of g.D.Disk g.S.Source g.K.Sink c.serve_over-status.result.1 c.serve_over-status.result.2 c.args.input.now c.serve_over-status.new.output in
-    subst (λ days. IsServeCall (g.C.Clock.reads c.args.clock.now) days (λ desk. Working (ServesBy (g.C.Clock.reads c.args.clock.now) c.args.access.now g.R.Conn.Conn.left g.R.Conn.Conn.given g.R.Conn.Conn.reads g.R.Conn.Conn.writes) g.R.Door.left g.R.Door.taken g.R.Door.ended g.R.Door.count g.R.Door.out desk (connections_in words)) g.R.Door.count c.args.salt was now c.args.doors.now.items c.serve_over-status.new.doors.items c.serve_over-status.result.0)
+    subst (λ days. IsServeCall (g.C.Clock.reads c.args.clock.now) days (λ desk. Working (ServesBy (g.C.Clock.reads c.args.clock.now) c.args.access.now (limits_in words) g.R.Conn.Conn.left g.R.Conn.Conn.given g.R.Conn.Conn.reads g.R.Conn.Conn.writes) g.R.Door.left g.R.Door.taken g.R.Door.ended g.R.Door.count g.R.Door.out desk (connections_in words)) g.R.Door.count c.args.salt was now c.args.doors.now.items c.serve_over-status.new.doors.items c.serve_over-status.result.0)
     (days_in words c.in-Ok.form c.in-Ok.ensures.ok)
-    (subst (λ most. IsServeCall (g.C.Clock.reads c.args.clock.now) c.in-Ok.form.max_jump (λ desk. Working (ServesBy (g.C.Clock.reads c.args.clock.now) c.args.access.now g.R.Conn.Conn.left g.R.Conn.Conn.given g.R.Conn.Conn.reads g.R.Conn.Conn.writes) g.R.Door.left g.R.Door.taken g.R.Door.ended g.R.Door.count g.R.Door.out desk most) g.R.Door.count c.args.salt was now c.args.doors.now.items c.serve_over-status.new.doors.items c.serve_over-status.result.0)
-    (most_in words c.in-Ok.form c.in-Ok.ensures.ok) (c.serve_over-status.ensures (input_of g.S.Source c.args.input.now)))
+    (subst (λ most. IsServeCall (g.C.Clock.reads c.args.clock.now) c.in-Ok.form.max_jump (λ desk. Working (ServesBy (g.C.Clock.reads c.args.clock.now) c.args.access.now (limits_in words) g.R.Conn.Conn.left g.R.Conn.Conn.given g.R.Conn.Conn.reads g.R.Conn.Conn.writes) g.R.Door.left g.R.Door.taken g.R.Door.ended g.R.Door.count g.R.Door.out desk most) g.R.Door.count c.args.salt was now c.args.doors.now.items c.serve_over-status.new.doors.items c.serve_over-status.result.0)
+    (most_in words c.in-Ok.form c.in-Ok.ensures.ok)
+    (subst (λ limits. IsServeCall (g.C.Clock.reads c.args.clock.now) c.in-Ok.form.max_jump (λ desk. Working (ServesBy (g.C.Clock.reads c.args.clock.now) c.args.access.now limits g.R.Conn.Conn.left g.R.Conn.Conn.given g.R.Conn.Conn.reads g.R.Conn.Conn.writes) g.R.Door.left g.R.Door.taken g.R.Door.ended g.R.Door.count g.R.Door.out desk c.in-Ok.form.connections) g.R.Door.count c.args.salt was now c.args.doors.now.items c.serve_over-status.new.doors.items c.serve_over-status.result.0)
+    (c.limits_of.ensures ∙ limits_are words c.in-Ok.form c.in-Ok.ensures.ok) (c.serve_over-status.ensures (input_of g.S.Source c.args.input.now))))
 
 pub returns-in_default-clause-usage : goal.returns-in_default-clause-usage
 returns-in_default-clause-usage g c two = absurd (no_two_serve _ (c.serve_over-status.ensures (input_of g.S.Source c.args.input.now)).known two)

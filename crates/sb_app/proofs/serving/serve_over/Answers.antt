@@ -32,7 +32,7 @@ returns-in-Err g c input =
 pub returns-in-Err-new : goal.returns-in-Err-new
 returns-in-Err-new g c input =
     let was : Outside = record { input = input; output = output_of g.K.Sink c.args.output.now; disks = disks_of g.D.Disk c.args.disk_a c.args.disk_b } in
-    let works : Open → Worker g.row.R.Denot → Type 0 = λ desk. Working (ServesBy (g.C.Clock.reads c.args.clock.now) c.args.access.now g.R.Conn.Conn.left g.R.Conn.Conn.given g.R.Conn.Conn.reads g.R.Conn.Conn.writes) g.R.Door.left g.R.Door.taken g.R.Door.ended g.R.Door.count g.R.Door.out desk c.args.most in
+    let works : Open → Worker g.row.R.Denot → Type 0 = λ desk. Working (ServesBy (g.C.Clock.reads c.args.clock.now) c.args.access.now c.args.limits g.R.Conn.Conn.left g.R.Conn.Conn.given g.R.Conn.Conn.reads g.R.Conn.Conn.writes) g.R.Door.left g.R.Door.taken g.R.Door.ended g.R.Door.count g.R.Door.out desk c.args.most in
     let doors = c.args.doors.now.items in
     let node = c.in-Ok-open_node.node in
     let back = c.node_back.ensures ∙ c.in-Err-new.ensures.value in
@@ -50,7 +50,7 @@ serve-ending-requires-clause-desk g c κs within = each_of c.in-Ok-new.opened.0 
 pub returns : goal.returns
 returns g c input =
     let was : Outside = record { input = input; output = output_of g.K.Sink c.args.output.now; disks = disks_of g.D.Disk c.args.disk_a c.args.disk_b } in
-    let works : Open → Worker g.row.R.Denot → Type 0 = λ desk. Working (ServesBy (g.C.Clock.reads c.args.clock.now) c.args.access.now g.R.Conn.Conn.left g.R.Conn.Conn.given g.R.Conn.Conn.reads g.R.Conn.Conn.writes) g.R.Door.left g.R.Door.taken g.R.Door.ended g.R.Door.count g.R.Door.out desk c.args.most in
+    let works : Open → Worker g.row.R.Denot → Type 0 = λ desk. Working (ServesBy (g.C.Clock.reads c.args.clock.now) c.args.access.now c.args.limits g.R.Conn.Conn.left g.R.Conn.Conn.given g.R.Conn.Conn.reads g.R.Conn.Conn.writes) g.R.Door.left g.R.Door.taken g.R.Door.ended g.R.Door.count g.R.Door.out desk c.args.most in
     let doors = c.args.doors.now.items in
     let doors_now = c.serve-ending.new.doors.items in
     let first = c.in-Ok-open_node.node in
@@ -93,7 +93,7 @@ returns g c input =
 pub returns-in-Err-hold_server : goal.returns-in-Err-hold_server
 returns-in-Err-hold_server g c input =
     let was : Outside = record { input = input; output = output_of g.K.Sink c.args.output.now; disks = disks_of g.D.Disk c.args.disk_a c.args.disk_b } in
-    let works : Open → Worker g.row.R.Denot → Type 0 = λ desk. Working (ServesBy (g.C.Clock.reads c.args.clock.now) c.args.access.now g.R.Conn.Conn.left g.R.Conn.Conn.given g.R.Conn.Conn.reads g.R.Conn.Conn.writes) g.R.Door.left g.R.Door.taken g.R.Door.ended g.R.Door.count g.R.Door.out desk c.args.most in
+    let works : Open → Worker g.row.R.Denot → Type 0 = λ desk. Working (ServesBy (g.C.Clock.reads c.args.clock.now) c.args.access.now c.args.limits g.R.Conn.Conn.left g.R.Conn.Conn.given g.R.Conn.Conn.reads g.R.Conn.Conn.writes) g.R.Door.left g.R.Door.taken g.R.Door.ended g.R.Door.count g.R.Door.out desk c.args.most in
     let doors = c.args.doors.now.items in
     let node = c.in-Ok-open_node.node in
     let output = output_of g.K.Sink c.jump_status-status.new.output in

@@ -6,4 +6,4 @@ returns-clause-work g c = work_again g.D.Door.out c.args.desk.now c.go_far-went.
 
 pub returns-clause-come : goal.returns-clause-come
 returns-clause-come g c = λ most began was.
-    come_again (g.C.Clock.reads c.args.clock.now) c.args.access.now g.D.Conn.Conn.left g.D.Conn.Conn.given g.D.Conn.Conn.reads g.D.Conn.Conn.writes g.D.Door.left g.D.Door.taken g.D.Door.ended g.D.Door.count g.D.Door.out most began c.go_far-went.new.job _ (c.go_far-went.ensures.come most began was)
+    come_again (g.C.Clock.reads c.args.clock.now) c.args.access.now c.args.limits g.D.Conn.Conn.left g.D.Conn.Conn.given g.D.Conn.Conn.reads g.D.Conn.Conn.writes g.D.Door.left g.D.Door.taken g.D.Door.ended g.D.Door.count g.D.Door.out most began c.go_far-went.new.job _ (c.go_far-went.ensures.come most began was)
