@@ -9,9 +9,10 @@ after each byte. A thousand sends in one piece have the numbers 1 to 1,000. The 
 byte. A message of 100,000 user properties is refused within 20 seconds, in a batch and in a line. A moment lies
 between two readings of the clock here. Two connections are open at once where a receive waits for a send. What a
 server tells on standard error, with a log of its calls, is read. A server that has no file left for a connection says
-so once, and takes it as soon as there is one. The one worker of a server is free again once its caller has said
-nothing for 60 seconds, or has taken nothing of its response for some minutes; --short leaves these two out. The exit
-status is 1 where something is answered otherwise.
+so once, and takes it as soon as there is one. A hundred callers of a byte a second are let go once the time of a
+request has passed. The one worker of a server is free again once its caller has said nothing for 60 seconds, or has
+taken nothing of its response for some minutes; --short leaves these two out. The exit status is 1 where something is
+answered otherwise.
 """
 import contextlib
 import os
@@ -193,6 +194,7 @@ def all_rows(program, is_short):
     two_workers_end(program)
     lines_told(program)
     out_of_files(program)
+    slow_callers(program)
     if not is_short:
         each_at_once(lambda: silent_caller(program), lambda: caller_who_takes_nothing(program))
 
@@ -212,6 +214,34 @@ def port_in_use(program, port):
         busy.returncode == 11 and busy.stderr.count("\n") == 1 and not busy.stdout,
         f"a port in use: status {busy.returncode}, {busy.stderr}",
     )
+
+
+def slow_callers(program):
+    """A hundred callers of a byte a second, who are let go behind two seconds, and another who is served beside them."""
+    port = free_port()
+    with tempfile.TemporaryDirectory() as folder, serving(program, folder, port, "--request-time", "2"):
+        with ThreadPoolExecutor(100) as pool:
+            kept = [pool.submit(seconds_kept, port) for _ in range(100)]
+            code, _ = curl(port, "-X", "POST", "--data-binary", "hi", "/q/messages")
+            times = [it.result() for it in kept]
+    wants(code == 410, f"{code} beside slow callers")
+    wants(1.5 < min(times) and max(times) < 6, f"slow callers were kept {min(times):.1f} to {max(times):.1f} seconds")
+
+
+def seconds_kept(port):
+    """For how long a caller of a byte a second is kept."""
+    begun = time.monotonic()
+    with socket.create_connection(("127.0.0.1", port), 1) as conn:
+        for byte in SEND:
+            try:
+                conn.sendall(bytes([byte]))
+                if not conn.recv(1):
+                    break
+            except TimeoutError:
+                continue
+            except OSError:
+                break
+    return time.monotonic() - begun
 
 
 def silent_caller(program):
