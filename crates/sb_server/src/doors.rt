@@ -106,7 +106,9 @@ where
     if jobs.is_empty() {
         return;
     }
-    serve_share(rt, alloc, routes, access, limits, desk, clock, lobby, 0, jobs);
+    serve_share(
+        rt, alloc, routes, access, limits, desk, clock, lobby, 0, jobs,
+    );
 }
 
 // The workers of one thread: those that are called go on until each is over, and where none may it waits.
