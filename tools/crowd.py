@@ -5,6 +5,8 @@ usage: tools/crowd.py PROGRAM [--short] [--seconds S] [ROW..]
 
 PROGRAM is the built program (crates/sb_bus/out/sb_bus). Each row has a server of its own:
 kept      2,000 kept connections send once a second each, for --seconds (60): each message is there once, behind a kill
+greeted   1,000 connections send again as soon as they are answered, all from the begin on: each has its first response
+          before the others have had twenty each
 handed    1,000 receives wait, by DELETE and by POST, and 1,000 messages are sent: each receive has one of its own
 killed    the server is killed while 1,000 kept connections send numbered messages, and 500 receive and complete, all as
           fast as they can, and is started again, twice: what was acknowledged is there once, or was completed once
@@ -109,6 +111,25 @@ def kept(program, part, seconds):
     lib.wants(bodies == list(range(sent)), f"{len(bodies)} messages of {sent} sends, or others")
     wanted = f"{sent} of the {many * seconds:.0f} messages that they would have had time for"
     return f"{many} connections sent {wanted}, each is there once; a send took {milliseconds(times)}"
+
+
+def greeted(program, part, _):
+    many, silent, answered = 1000 // part, set(range(1000 // part)), 0
+    with served(program, many) as (_, port, _), Crowd(port, many) as crowd:
+        begun = time.monotonic()
+        for number, it in enumerate(crowd.all):
+            crowd.ask(it, request("POST", "/q/messages", b"x"), number)
+        for it, status, _, body in crowd.answers(begun + 300):
+            accepted(status, body)
+            answered += 1
+            silent.discard(it.asked)
+            if not silent:
+                break
+            lib.wants(answered < 20 * many, f"{len(silent)} of {many} have no response, the others {answered}")
+            crowd.ask(it, request("POST", "/q/messages", b"x"), it.asked)
+        took = time.monotonic() - begun
+    lib.wants(not silent, f"{len(silent)} of {many} have no response behind 300 seconds, the others {answered}")
+    return f"{many} connections that ask at once have a response each when {answered} have come, in {took:.1f} s"
 
 
 def handed(program, part, _):
@@ -387,7 +408,7 @@ def proxied(program, part, seconds):
     return f"64 callers behind nginx sent and had {len(sent)} messages, each once; no answer of 500 or above"
 
 
-ROWS = {row.__name__: row for row in (kept, handed, killed, left, beside, proxied)}
+ROWS = {row.__name__: row for row in (kept, greeted, handed, killed, left, beside, proxied)}
 
 
 def main():
