@@ -16,7 +16,7 @@ beside    how long a sender waits: alone; beside 1,000 idle connections; 500 rec
           byte a second; 100 who read nothing of what they ask for; 10,000 connections that are made and reset
 proxied   nginx before it with kept connections, and 64 callers who send and receive for --seconds (20): none has an
           answer of 500 or above, and each message is had once. Not without nginx
-Without a ROW all of them. With --short there are a tenth of each, for some seconds. The exit status is 1 where a message
+Without a ROW all of them. With --short there are a tenth of each, for some seconds, without nginx. The exit status is 1 where a message
 is lost or doubled, or a sender waits for more than 5 seconds for a response.
 """
 import argparse
@@ -424,7 +424,7 @@ def main():
         return
 
     def rows():
-        for name in given.rows or ROWS:
+        for name in given.rows or [it for it in ROWS if not given.short or it != "proxied"]:
             print(f"{name}: {ROWS[name](os.path.realpath(given.program), part, given.seconds)}", flush=True)
 
     lib.tell(rows)
