@@ -6,7 +6,8 @@
  * response, and ends so many seconds later. One line says of it: how many responses came, in how many seconds; the
  * median, the 99th of a hundred and the greatest of the times from a request to its response, in microseconds; the
  * microseconds that the process PID, the server, took of its own and in the kernel, and those that this one took in
- * all. The status is 1 where a response is none to a send that was accepted, or a connection ends.
+ * all. The status is 1 where a response is none to a send that was accepted, a connection ends, or one has no response
+ * a minute behind the begin.
  */
 #define _GNU_SOURCE
 #include <arpa/inet.h>
@@ -25,7 +26,7 @@
 #include <time.h>
 #include <unistd.h>
 
-enum { BODY = 1024, MOST = 1 << 23, AT_ONCE = 256, PATIENCE = 120 };
+enum { BODY = 1024, MOST = 1 << 23, AT_ONCE = 256, PATIENCE = 60 };
 
 struct connection {
     int socket;
@@ -119,10 +120,11 @@ static int by_size(const void *one, const void *other) {
 /* Takes responses and sends again, until all have had one or the time has come. */
 static void go_round(int poll, unsigned *silent, double until) {
     struct epoll_event events[AT_ONCE];
+    double begun = now();
     while (*silent || (until && now() < until)) {
-        int ready = epoll_wait(poll, events, AT_ONCE, until ? 100 : PATIENCE * 1000);
+        int ready = epoll_wait(poll, events, AT_ONCE, 100);
         if (ready < 0 && errno != EINTR) fail("epoll: %s", strerror(errno));
-        if (ready == 0 && !until) fail("no response for %d seconds", PATIENCE);
+        if (!until && now() > begun + PATIENCE) fail("%u connections without a response in %d seconds", *silent, PATIENCE);
         for (int k = 0; k < ready; k++) {
             struct connection *it = events[k].data.ptr;
             if (!is_whole(it)) continue;

@@ -328,9 +328,12 @@ def in_child(what, *words):
 def sends(caller, seconds, child=None):
     """The seconds that a sender waits for each response, for so long, and until the process beside has ended."""
     times, end = [], time.monotonic() + seconds
-    while time.monotonic() < end or (child and child.is_alive()):
+    while len(times) < 2 or time.monotonic() < end or (child and child.is_alive()):
         begun = time.monotonic()
-        status, _, body = caller.ask("POST", "/q/messages", b"x")
+        try:
+            status, _, body = caller.ask("POST", "/q/messages", b"x")
+        except OSError as fault:
+            raise lib.Failed(f"a sender that waited for {time.monotonic() - begun:.1f} seconds: {fault}") from fault
         accepted(status, body)
         times.append(time.monotonic() - begun)
         lib.wants(times[-1] < LONGEST, f"a sender waited for {times[-1]:.1f} seconds")
