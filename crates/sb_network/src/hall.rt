@@ -21,7 +21,7 @@ const TRIES_AGAIN_MS: u64 = 100;
 
 // So many connections are taken between two looks at who may go on, so that a flood of callers keeps those
 // who are served waiting for a short time.
-const GREETS_EACH: u64 = 8;
+const GREETS_EACH: u64 = 16;
 
 /// The token of the listener; a seat's is one more than its place.
 pub(crate) const LISTENER: Token = Token(0);
@@ -37,6 +37,10 @@ pub(crate) struct Hall<R: std::rt::Clock + Drop> {
     called: Queue,
     // The places that want a connection, the last one first.
     wanting: Queue,
+    // Those of them that are to take one.
+    greeters: Queue,
+    // The last place that was given was of those for which something has come.
+    served: AtomicBool,
     // Somebody may stand at the listener.
     callers: AtomicBool,
     // Callers are left for the next look.
@@ -76,6 +80,8 @@ impl<R: std::rt::Clock + Drop> Hall<R> {
             seats: seats(alloc, places)?,
             called: Queue::new(alloc, places)?,
             wanting: Queue::new(alloc, places)?,
+            greeters: Queue::new(alloc, places)?,
+            served: AtomicBool::new(false),
             callers: AtomicBool::new(true),
             more: AtomicBool::new(false),
             greets: AtomicU64::new(0),
@@ -153,9 +159,21 @@ impl<R: std::rt::Clock + Drop> Hall<R> {
         self.is_left();
     }
 
-    /// The next place whose worker may be able to go on.
+    /// The next place whose worker may be able to go on. Who is to take a connection and who is called
+    /// otherwise take turns, so that callers and those who are served wait for each other a short time.
     pub(crate) fn called(&self) -> Option<usize> {
-        self.called.take()
+        if self.served.swap(false, Ordering::SeqCst) {
+            if let Some(place) = self.greeters.take() {
+                return Some(place);
+            }
+        }
+        match self.called.take() {
+            Some(place) => {
+                self.served.store(true, Ordering::SeqCst);
+                Some(place)
+            }
+            None => self.greeters.take(),
+        }
     }
 
     /// Calls the worker at this place behind all for whom something has come by now, so that who always
@@ -177,7 +195,10 @@ impl<R: std::rt::Clock + Drop> Hall<R> {
 
     // For how long it may be waited until this reading.
     fn longest_ms<C: Clock>(&self, clock: &C, until_ms: u64) -> u64 {
-        if self.more.load(Ordering::SeqCst) || !self.called.is_empty() {
+        if self.more.load(Ordering::SeqCst)
+            || !self.called.is_empty()
+            || !self.greeters.is_empty()
+        {
             return 0;
         }
         let most_ms = if until_ms == u64::MAX {
@@ -230,9 +251,8 @@ impl<R: std::rt::Clock + Drop> Hall<R> {
         self.call_wanting();
     }
 
-    // Calls the next worker that wants a connection, where one may stand at the listener. It stands behind
-    // the others, and who takes a connection calls the next one, so that callers and those who are served
-    // wait for each other a short time.
+    // Calls the next worker that wants a connection, where one may stand at the listener. Who takes a
+    // connection calls the next one.
     fn call_wanting(&self) {
         if !self.may_greet() {
             return;
@@ -242,7 +262,7 @@ impl<R: std::rt::Clock + Drop> Hall<R> {
                 return;
             };
             if self.seats.get(place).is_some_and(|seat| seat.wants()) {
-                self.called.put_last(place);
+                self.greeters.put_last(place);
                 return;
             }
         }
