@@ -6,13 +6,14 @@ ghost use Rattle.sb_desk.specs.Entries.{IsReport};
 ghost use Rattle.sb_desk.specs.Lists.{IsFront, Each, HaveSeatsBelow, longer};
 ghost use Rattle.sb_desk.specs.Steps.{IsSized};
 
+use crate::arrivals::Arrivals;
 use crate::bells::Bells;
 use crate::closing::{finish, gather_all};
 use crate::notes::{note, take_in};
 use crate::opening::{deal_out, open_table};
 use crate::turns::{Place, Whole, serve_one};
 use crate::{Pass, Report, Served};
-use sb_machine::{Answer, Call};
+use sb_machine::{Answer, Call, Path};
 use std::alloc::Global;
 use std::marker::Model;
 use std::sync::Wait;
@@ -25,6 +26,7 @@ const MAX_PASSES: usize = 1 << 32;
 pub struct Desk<V: Served> {
     table: Whole<V>,
     bells: Bells,
+    arrivals: Arrivals,
 }
 
 impl<V: Served> Model for Desk<V> {
@@ -71,7 +73,15 @@ impl<V: Served> Desk<V> {
         match open_table(alloc, value, passes) {
             Ok((table, place)) => {
                 let dealt = deal_out(&table.shared, place, room, passes);
-                Ok((Desk { table, bells }, dealt))
+                let arrivals = Arrivals::new();
+                Ok((
+                    Desk {
+                        table,
+                        bells,
+                        arrivals,
+                    },
+                    dealt,
+                ))
             }
             Err(value) => Err(NewFault::OutOfMemory { value }),
         }
@@ -92,6 +102,7 @@ impl<V: Served> Desk<V> {
             rt,
             &self.table.shared,
             &self.bells,
+            &self.arrivals,
             &mut place,
             reading,
             call,
@@ -102,6 +113,23 @@ impl<V: Served> Desk<V> {
             },
             answer,
         )
+    }
+
+    /// The marks of the entities for which something to receive may have come since this was last asked,
+    /// by whoever asks: who takes them tells all who wait. Nothing is promised of when one comes.
+    pub fn take_arrivals(&self) -> u64 {
+        self.arrivals.take()
+    }
+
+    /// Before this moment, in ms since 1970, nothing comes due by itself, as the last step told it. Nothing
+    /// is promised of it.
+    pub fn soonest(&self) -> u64 {
+        self.arrivals.soonest()
+    }
+
+    /// The mark of the entity of this path among arrivals.
+    pub fn mark_of(&self, path: &Path) -> u64 {
+        V::mark_of(path)
     }
 
     /// Lets each of the two passes know what the other has seen. It waits for nobody.
@@ -140,7 +168,11 @@ impl<V: Served> Desk<V> {
         ensures err { IfErr result (λ _. ⊥) }
     {
         let mut passes = passes;
-        let Desk { table, bells: _ } = self;
+        let Desk {
+            table,
+            bells: _,
+            arrivals: _,
+        } = self;
         let Pass { badge } = passes.pop().unwrap();
         let mut place: Place<V> = badge.into_seat();
         gather_all(&table.shared, &mut place, passes);

@@ -10,7 +10,8 @@
 //! `atomic_table`: one slot for the value, and three words by which seats take turns, under a rule
 //! that each step keeps (`specs/Rule`); beside it words on which seats sleep, of which who leaves rings
 //! the one of the next ticket. Nothing is said of who comes first, nor that anybody is
-//! served.
+//! served. A step also tells, as hints, for which entities something came and when the next thing comes
+//! due; whoever waits for a message may ask the desk for that.
 //!
 //! ```text
 //! let (desk, passes) = Desk::new(alloc, namespace, 8)?;
@@ -20,6 +21,7 @@
 //! ```
 #![tactic(auto)]
 
+mod arrivals;
 mod bells;
 mod closing;
 mod desk;

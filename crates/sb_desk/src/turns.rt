@@ -10,6 +10,7 @@ ghost use Rattle.sb_desk.specs.Lists.{HaveSeatsBelow};
 ghost use Rattle.sb_desk.specs.Rule.{word, ticket_of, log_of};
 ghost use Rattle.sb_desk.specs.Steps.{IsSized, placed, with_made};
 
+use crate::arrivals::Arrivals;
 use crate::bells::{Bells, bell_of};
 use crate::plays::{Draw, Give, Leave, Look, Record, Take};
 use crate::view::{Held, Key, Made, Turns, View};
@@ -38,6 +39,7 @@ pub(crate) fn serve_one<V: Served, R: Wait>(
     rt: &R,
     top: &Top<V>,
     bells: &Bells,
+    arrivals: &Arrivals,
     place: &mut Place<V>,
     reading: u64,
     call: &Call,
@@ -57,6 +59,7 @@ pub(crate) fn serve_one<V: Served, R: Wait>(
     let stepped = value.step(reading, call);
     record_step(top, place, value, reading, call, &stepped);
     give_back(top, place);
+    arrivals.note(&stepped);
     leave(top, bells, place);
     stepped.answer
 }

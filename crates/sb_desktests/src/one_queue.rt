@@ -4,7 +4,7 @@ ghost use Rattle.sb_desk.specs.Entries.{counted};
 ghost use Rattle.sb_desktests.specs.Namespaces.{creation, no_disk, state_at, StandsFor, GoesOn};
 
 use sb_desk::{Report, Served, Stepped};
-use sb_machine::{Act, Answer, Answered, Call, Description, Refusal, Reply};
+use sb_machine::{Act, Answer, Answered, Call, Description, Path, Refusal, Reply};
 
 /// The begin of 9999-12-31, in ms since 1970: the last moment that counts.
 const MAX_MOMENT: u64 = 253_402_214_400_000;
@@ -66,10 +66,16 @@ impl Served for OneQueue {
 
     ghost origin = { λ q. record { disk_a = no_disk; disk_b = no_disk } };
 
+    fn mark_of(_path: &Path) -> u64 {
+        0
+    }
+
     fn step(&mut self, reading: u64, call: &Call) -> Stepped {
         Stepped {
             answer: self.answer(reading, call),
             tick: None,
+            entered: 0,
+            soonest: u64::MAX,
         }
     }
 
