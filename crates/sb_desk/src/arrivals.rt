@@ -1,4 +1,4 @@
-//! For which entities something to receive may have come, and when the next thing comes due. No clause
+//! For which parts of entities something to receive may have come, and when the next thing comes due. No clause
 //! says anything of it.
 use crate::Stepped;
 use std::sync::atomic::{AtomicU64, Ordering};
@@ -6,7 +6,7 @@ use std::sync::atomic::{AtomicU64, Ordering};
 /// What the steps of a value told of arrivals.
 #[derive(Drop)]
 pub(crate) struct Arrivals {
-    // The marks of the entities since they were taken last.
+    // The marks since they were taken last.
     entered: AtomicU64,
     // What the last step told, in ms since 1970.
     soonest: AtomicU64,

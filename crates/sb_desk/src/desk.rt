@@ -115,7 +115,7 @@ impl<V: Served> Desk<V> {
         )
     }
 
-    /// The marks of the entities for which something to receive may have come since this was last asked,
+    /// The marks of the parts for which something to receive may have come since this was last asked,
     /// by whoever asks: who takes them tells all who wait. Nothing is promised of when one comes.
     pub fn take_arrivals(&self) -> u64 {
         self.arrivals.take()
@@ -127,7 +127,7 @@ impl<V: Served> Desk<V> {
         self.arrivals.soonest()
     }
 
-    /// The mark of the entity of this path among arrivals.
+    /// The mark of what this path names among arrivals.
     pub fn mark_of(&self, path: &Path) -> u64 {
         V::mark_of(path)
     }

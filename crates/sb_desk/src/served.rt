@@ -17,7 +17,7 @@ pub struct Stepped {
     pub answer: Answer,
     /// The moment of the tick before the call, in ms since 1970, where something was due.
     pub tick: Option<u64>,
-    /// The marks ([`Served::mark_of`]) of the entities in which there may be something to receive, or a
+    /// The marks ([`Served::mark_of`]) of the parts in which there may be something to receive, or a
     /// free session, that wasn't there before this step. A hint: no clause says anything of it.
     pub entered: u64,
     /// Nothing comes due by itself before this moment, in ms since 1970; `u64::MAX` where nothing does. A
@@ -36,8 +36,8 @@ pub trait Served {
     /// What it found as it was opened. No call changes it.
     ghost origin: { Self → Origin };
 
-    /// The mark of an entity, whatever the part: some of 64 bits, by its path alone. Others may have the
-    /// same; marks of several are joined, and an entity is among them where all its bits are.
+    /// The mark of a part of an entity: some of 64 bits, by its path alone. Others may have the same; marks
+    /// of several are joined, and a part is among them where all its bits are.
     fn mark_of(path: &Path) -> u64;
 
     /// Makes a call at a reading of the clock, in ms since 1970. The entries are those of
