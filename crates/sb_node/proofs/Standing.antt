@@ -333,6 +333,10 @@ stands_with old new seat reading call answer start h tick told go is =
     subst (λ (es : List Entry). StandsFor new start (h ++ es)) (made_is (node_ticked new) seat reading call answer ∙ ap (λ (t : Option ℕ). made_by seat t reading call answer) (sym told))
     (stands_on old new seat reading call answer start h go is)
 
+-- what is the same stands for the same
+pub still_stands : {D : Type 0} {B : Ghosts D} (old new : Node D B) (start : State) (h : List Entry) → new ≡ old → StandsFor old start h → StandsFor new start h
+still_stands old new start h same is = subst (λ n. StandsFor n start h) (sym same) is
+
 -- ---- as it was opened
 
 pub were_honest_first : (was mid later : Disks) → SameHonesty was mid → SameHonesty mid later → AreHonest later → AreHonest was

@@ -4,7 +4,7 @@ ghost use Rattle.sb_node.specs.Serving.{node_origin, StandsFor};
 
 use crate::Node;
 use sb_desk::{Report, Served, Stepped};
-use sb_machine::Call;
+use sb_machine::{Call, Path};
 use sb_outside::Disk;
 
 impl<D: Disk> Served for Node<D> {
@@ -14,11 +14,19 @@ impl<D: Disk> Served for Node<D> {
 
     ghost origin = { λ n. node_origin n };
 
+    fn mark_of(path: &Path) -> u64 {
+        sb_engine::mark_of(path)
+    }
+
     fn step(&mut self, reading: u64, call: &Call) -> Stepped {
         let answer = Node::step(self, reading, call);
+        let tick = self.ticked();
+        let entered = self.take_entered();
         Stepped {
             answer,
-            tick: self.ticked(),
+            tick,
+            entered,
+            soonest: self.soonest(),
         }
     }
 
