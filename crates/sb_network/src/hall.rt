@@ -1,13 +1,14 @@
 // The hall of one thread: the seats of its workers, and their wait.
+use crate::arrivals::{Arrivals, Kinds};
 use crate::queue::Queue;
 use crate::seat::Seat;
-use mio::{Events, Poll, Registry, Token};
+use mio::{Events, Poll, Registry, Token, Waker};
 use sb_outside::Clock;
 use std::alloc::Global;
 use std::io;
 use std::net::Net;
 use std::sync::Mutex;
-use std::sync::atomic::{AtomicBool, AtomicU64, Ordering};
+use std::sync::atomic::{AtomicBool, AtomicU64, AtomicUsize, Ordering};
 use std::time::{Duration, Instant};
 
 // How many events one wait takes.
@@ -26,6 +27,9 @@ const GREETS_EACH: u64 = 16;
 /// The token of the listener; a seat's is one more than its place.
 pub(crate) const LISTENER: Token = Token(0);
 
+// The token of the waker, which no seat has.
+const WAKER: Token = Token(usize::MAX);
+
 /// A hall, with a clock of its own for the limits of time.
 #[derive(Drop)]
 pub(crate) struct Hall<R: std::rt::Clock + Drop> {
@@ -41,6 +45,11 @@ pub(crate) struct Hall<R: std::rt::Clock + Drop> {
     greeters: Queue,
     // The last place that was given was of those for which something has come.
     served: AtomicBool,
+    arrivals: Arrivals,
+    // Behind the place that was rung for last.
+    next_rung: AtomicUsize,
+    // Ends the wait from another thread.
+    waker: Waker,
     // Somebody may stand at the listener.
     callers: AtomicBool,
     // Callers are left for the next look.
@@ -72,6 +81,7 @@ impl<R: std::rt::Clock + Drop> Hall<R> {
         let start = Instant::now(&system)?;
         let poll = Poll::new(net)?;
         let registry = poll.registry().try_clone()?;
+        let waker = Waker::new(&registry, WAKER)?;
         let events = Events::with_capacity(alloc, EVENTS)?;
         Ok(Hall {
             system,
@@ -82,6 +92,9 @@ impl<R: std::rt::Clock + Drop> Hall<R> {
             wanting: Queue::new(alloc, places)?,
             greeters: Queue::new(alloc, places)?,
             served: AtomicBool::new(false),
+            arrivals: Arrivals::new(),
+            next_rung: AtomicUsize::new(0),
+            waker,
             callers: AtomicBool::new(true),
             more: AtomicBool::new(false),
             greets: AtomicU64::new(0),
@@ -162,6 +175,9 @@ impl<R: std::rt::Clock + Drop> Hall<R> {
     /// The next place whose worker may be able to go on. Who is to take a connection and who is called
     /// otherwise take turns, so that callers and those who are served wait for each other a short time.
     pub(crate) fn called(&self) -> Option<usize> {
+        if self.arrivals.take_rung() {
+            self.call_rung();
+        }
         if self.served.swap(false, Ordering::SeqCst) {
             if let Some(place) = self.greeters.take() {
                 return Some(place);
@@ -173,6 +189,67 @@ impl<R: std::rt::Clock + Drop> Hall<R> {
                 Some(place)
             }
             None => self.greeters.take(),
+        }
+    }
+
+    // Calls those for whom something came.
+    fn call_rung(&self) {
+        for place in 0..self.seats.len() {
+            if self.seats.get(place).is_some_and(|seat| seat.take_rung()) {
+                self.called.put_last(place);
+            }
+        }
+    }
+
+    /// The worker at this place waits for arrivals with this mark, of this kind, or for none where the mark
+    /// is 0. Its call may have been made before some that came since the last wait: it makes it once more
+    /// then. The mark for which it waits no more, or 0.
+    pub(crate) fn listen(&self, place: usize, mark: u64, kind: u64) -> u64 {
+        let Some(seat) = self.seats.get(place) else {
+            return 0;
+        };
+        let before = seat.mark();
+        if !seat.wait_for(mark, kind) {
+            return 0;
+        }
+        if mark != 0 && self.arrivals.listen(mark) {
+            self.called.put_last(place);
+        }
+        before
+    }
+
+    /// Arrivals with these bits came: of each kind that waits for some of them, but of those that were called
+    /// already, one worker is called, and the thread is woken, unless it is the calling one.
+    pub(crate) fn ring(&self, arrivals: u64, kinds: &mut Kinds, own: bool) {
+        if !self.arrivals.come(arrivals) || !self.ring_seats(arrivals, kinds) {
+            return;
+        }
+        if self.arrivals.ring() && !own {
+            let _ = self.waker.wake();
+        }
+    }
+
+    // Rings for the first of each kind that waits for some of these arrivals, from behind the one of last time
+    // on, and says whether there is one.
+    fn ring_seats(&self, arrivals: u64, kinds: &mut Kinds) -> bool {
+        let start = self.next_rung.load(Ordering::SeqCst);
+        let mut any = false;
+        for i in 0..self.seats.len() {
+            let place = start.wrapping_add(i) % self.seats.len().max(1);
+            if self.ring_seat(place, arrivals, kinds) {
+                let behind = place.wrapping_add(1);
+                self.next_rung.store(behind, Ordering::SeqCst);
+                any = true;
+            }
+        }
+        any
+    }
+
+    // Rings for the worker at this place, where it waits for some of these arrivals as the first of its kind.
+    fn ring_seat(&self, place: usize, arrivals: u64, kinds: &mut Kinds) -> bool {
+        match self.seats.get(place) {
+            Some(seat) => seat.ring(arrivals, kinds),
+            None => false,
         }
     }
 
@@ -193,12 +270,14 @@ impl<R: std::rt::Clock + Drop> Hall<R> {
         true
     }
 
+    // Whether callers are left, or a place is called.
+    fn is_more(&self) -> bool {
+        self.more.load(Ordering::SeqCst) || !self.called.is_empty() || !self.greeters.is_empty()
+    }
+
     // For how long it may be waited until this reading.
     fn longest_ms<C: Clock>(&self, clock: &C, until_ms: u64) -> u64 {
-        if self.more.load(Ordering::SeqCst)
-            || !self.called.is_empty()
-            || !self.greeters.is_empty()
-        {
+        if self.is_more() || self.arrivals.is_rung() {
             return 0;
         }
         let most_ms = if until_ms == u64::MAX {
@@ -270,6 +349,7 @@ impl<R: std::rt::Clock + Drop> Hall<R> {
 
     // Looks at the listener and at the seats at this reading, where their time has come.
     fn look(&self, now_ms: u64) {
+        self.arrivals.forget();
         self.greets.store(0, Ordering::SeqCst);
         if self.more.swap(false, Ordering::SeqCst) {
             self.callers_come();
@@ -285,8 +365,18 @@ impl<R: std::rt::Clock + Drop> Hall<R> {
         }
     }
 
+    // All marks for which somebody waits here.
+    fn marks(&self) -> u64 {
+        let mut marks = 0;
+        for seat in &self.seats {
+            marks |= seat.mark();
+        }
+        marks
+    }
+
     // Looks at each seat at this reading.
     fn look_at_seats(&self, now_ms: u64) {
+        self.arrivals.listen_anew(self.marks());
         for place in 0..self.seats.len() {
             if self.seats.get(place).is_some_and(|seat| seat.look(now_ms)) {
                 self.called.put_last(place);

@@ -1,5 +1,6 @@
 // The halls of a server, one for each thread.
 use crate::Place;
+use crate::arrivals::Kinds;
 use crate::entrance::Entrance;
 use crate::hall::{Hall, LISTENER};
 use mio::Interest;
@@ -121,6 +122,33 @@ impl<R: std::rt::Clock + Drop> Lobby for Halls<R> {
                 true
             }
             None => false,
+        }
+    }
+
+    // Who leaves may have taken one of several things that came: another looks for what is left.
+    fn listen(&self, worker: usize, mark: u64, kind: u64) {
+        let left = match self.of(worker) {
+            Some((hall, place)) => hall.listen(place, mark, kind),
+            None => 0,
+        };
+        if left != 0 {
+            self.ring(worker, left);
+        }
+    }
+
+    // The calling thread's own workers come first, since no thread has to be woken for them.
+    fn ring(&self, worker: usize, arrivals: u64) {
+        let own = worker / self.stretch.max(1);
+        let mut kinds = Kinds::new();
+        if let Some(hall) = self.halls.get(own) {
+            hall.ring(arrivals, &mut kinds, true);
+        }
+        for i in 0..self.halls.len() {
+            if i != own {
+                if let Some(hall) = self.halls.get(i) {
+                    hall.ring(arrivals, &mut kinds, false);
+                }
+            }
         }
     }
 }

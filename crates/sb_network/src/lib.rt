@@ -5,6 +5,7 @@
 //! no clause says when a worker is woken.
 #![tactic(auto)]
 
+mod arrivals;
 mod caller;
 mod entrance;
 mod files;

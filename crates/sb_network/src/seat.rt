@@ -1,4 +1,5 @@
 // What a worker, its door and its connection share with the hall of their thread.
+use crate::arrivals::{Kinds, has_all};
 use std::sync::atomic::{AtomicBool, AtomicU64, Ordering};
 
 // A connection whose other side gives nothing, or takes nothing, for so many milliseconds fails.
@@ -24,6 +25,11 @@ pub(crate) struct Seat {
     has_ended: AtomicBool,
     // That nothing is left to be read was told by a read that didn't fill its piece.
     is_unsure: AtomicBool,
+    // For what arrivals its worker waits, 0 for none, and of what kind it is then.
+    mark: AtomicU64,
+    kind: AtomicU64,
+    // Some of them came.
+    rung: AtomicBool,
     // Since which look its connection waits for the other side, or one of the words above.
     silent_ms: AtomicU64,
 }
@@ -36,6 +42,9 @@ impl Seat {
             may_read: AtomicBool::new(true),
             has_ended: AtomicBool::new(false),
             is_unsure: AtomicBool::new(false),
+            mark: AtomicU64::new(0),
+            kind: AtomicU64::new(0),
+            rung: AtomicBool::new(false),
             silent_ms: AtomicU64::new(NOBODY),
         }
     }
@@ -48,6 +57,39 @@ impl Seat {
     /// Whether its worker wants a connection.
     pub(crate) fn wants(&self) -> bool {
         self.wants.load(Ordering::SeqCst)
+    }
+
+    /// For what arrivals its worker waits, or 0.
+    pub(crate) fn mark(&self) -> u64 {
+        self.mark.load(Ordering::SeqCst)
+    }
+
+    /// Its worker waits for arrivals with this mark, and is of this kind. Whether it did so for others before.
+    pub(crate) fn wait_for(&self, mark: u64, kind: u64) -> bool {
+        if self.mark() == mark && self.kind.load(Ordering::SeqCst) == kind {
+            return false;
+        }
+        self.kind.store(kind, Ordering::SeqCst);
+        self.mark.store(mark, Ordering::SeqCst);
+        true
+    }
+
+    /// Arrivals with these bits came. Whether they are some for which its worker waits, the first of its
+    /// kind.
+    pub(crate) fn ring(&self, arrivals: u64, kinds: &mut Kinds) -> bool {
+        if !has_all(arrivals, self.mark()) {
+            return false;
+        }
+        if !kinds.is_new(self.kind.load(Ordering::SeqCst)) {
+            return false;
+        }
+        self.rung.store(true, Ordering::SeqCst);
+        true
+    }
+
+    /// Whether some came since this was last asked.
+    pub(crate) fn take_rung(&self) -> bool {
+        self.rung.load(Ordering::SeqCst) && self.rung.swap(false, Ordering::SeqCst)
     }
 
     /// It has a new connection.

@@ -154,3 +154,56 @@ fn each_stands_once_in_a_queue(rt: HostRuntime) -> Result<(), Fail> {
     assert_eq!(rt; queue.take(), Some(1));
     Ok(())
 }
+
+#[test]
+fn who_waits_for_arrivals_is_called(rt: HostRuntime) -> Result<(), Fail> {
+    let clock = SystemClock::new(&rt)?;
+    let (_doors, halls, _port) = opened(&rt)?;
+    halls.listen(0, 0b0111, 1);
+    halls.ring(1, 0b1011);
+    assert_eq!(rt; halls.called(0), None);
+    halls.ring(1, 0b1111);
+    assert!(rt; woken(&halls, &clock, 0));
+    assert_eq!(rt; halls.called(0), None);
+    halls.listen(0, 0, 0);
+    halls.ring(0, 0b1111);
+    assert_eq!(rt; halls.called(0), None);
+    Ok(())
+}
+
+// A call before an arrival finds nothing, and who listens behind that makes it once more.
+#[test]
+fn what_came_before_is_looked_for(rt: HostRuntime) -> Result<(), Fail> {
+    let clock = SystemClock::new(&rt)?;
+    let (_doors, halls, _port) = opened(&rt)?;
+    halls.ring(0, 0b1111);
+    halls.listen(1, 0b0110, 1);
+    assert_eq!(rt; halls.called(1), Some(1));
+    halls.listen(1, 0b0110, 1);
+    assert_eq!(rt; halls.called(1), None);
+    assert!(rt; !halls.wait(&clock, 1, 0));
+    halls.listen(1, 0b0011, 1);
+    assert_eq!(rt; halls.called(1), None);
+    Ok(())
+}
+
+// Of those who wait for the same one is called, and once it has what came the next one is.
+#[test]
+fn one_of_a_kind_is_called(rt: HostRuntime) -> Result<(), Fail> {
+    let (_doors, halls, _port) = opened(&rt)?;
+    halls.listen(0, 0b11, 1);
+    halls.listen(1, 0b11, 1);
+    halls.ring(0, 0b11);
+    assert_eq!(rt; halls.called(0), Some(0));
+    assert_eq!(rt; halls.called(1), None);
+    halls.listen(0, 0, 0);
+    assert_eq!(rt; halls.called(0), None);
+    assert_eq!(rt; halls.called(1), Some(1));
+    halls.listen(0, 0b11, 1);
+    halls.listen(1, 0b11, 2);
+    let _ = (halls.called(0), halls.called(1));
+    halls.ring(0, 0b11);
+    assert_eq!(rt; halls.called(0), Some(0));
+    assert_eq!(rt; halls.called(1), Some(1));
+    Ok(())
+}

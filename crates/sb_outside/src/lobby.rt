@@ -17,6 +17,16 @@ pub trait Lobby {
 
     /// Calls a worker that may go on at once behind those that are called. Whether `called` will give it.
     fn call(&self, worker: usize) -> bool;
+
+    /// This worker waits for arrivals that have all bits of this mark; for none where it is 0. Workers of
+    /// one kind, which says more than the mark, wait for the same. It may be called at once, where some came
+    /// since its thread waited last. Where it waited before and waits no more, another may be called that
+    /// waits for what it has left.
+    fn listen(&self, worker: usize, mark: u64, kind: u64);
+
+    /// Arrivals with these bits came: of each kind that waits for some of them one worker is called, in
+    /// whatever thread. The one that is named is a worker of the calling thread.
+    fn ring(&self, worker: usize, arrivals: u64);
 }
 
 /// A lobby over the clock alone, for doors in memory: each wait is a pause, it calls nobody, and all
@@ -37,4 +47,8 @@ impl Lobby for PauseLobby {
     fn call(&self, _worker: usize) -> bool {
         false
     }
+
+    fn listen(&self, _worker: usize, _mark: u64, _kind: u64) {}
+
+    fn ring(&self, _worker: usize, _arrivals: u64) {}
 }
