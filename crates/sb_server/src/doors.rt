@@ -7,6 +7,7 @@ ghost use Rattle.sb_server.specs.Works.{ServesBy};
 ghost use Rattle.sb_server.specs.Serves.{HasPass, Did, IsAtWork, HasCome, Working, Serving, are_over};
 ghost use Rattle.sb_server.specs.Stages.{is_over, stop_at};
 
+use crate::arrivals::tell;
 use crate::ending::ServeEnding;
 use crate::job::{Job, ending_of, pair_up, put_back};
 use crate::limits::Limits;
@@ -420,6 +421,7 @@ fn go_job<V: Served, R: Wait, C: Clock, L: Lobby, D: Door>(
         };
     }
     let went = go_far(rt, alloc, routes, access, limits, desk, clock, job);
+    tell(desk, lobby, number, &job.stage);
     let again = again_behind(lobby, number, went);
     job.again = again;
     Looked {

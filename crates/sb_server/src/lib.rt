@@ -18,6 +18,7 @@
 #![tactic(auto)]
 
 mod answer;
+mod arrivals;
 mod ask;
 mod body;
 mod came;

@@ -19,7 +19,10 @@ use std::alloc::Global;
 use std::sync::Wait;
 
 // A receive that waits is asked again behind so many ms, if nothing wakes it before.
-const ASKS_EACH_MS: u64 = 100;
+const ASKS_EACH_MS: u64 = 1000;
+
+// It is asked again where something comes due in the namespace, at the next multiple of so many ms.
+const DUE_EACH_MS: u64 = 100;
 
 // A response for which there was no memory is tried again behind so many ms.
 const TELLS_EACH_MS: u64 = 10;
@@ -126,16 +129,27 @@ fn again_at<N>(stage: &Stage<N>) -> u64 {
 
 // When a receive that waits asks again, and what there was no memory to tell is tried again; what
 // reads or writes goes on once it can.
-fn asks_at<C: Clock>(clock: &C, doing: &Doing) -> u64 {
+fn asks_at<V: Served, C: Clock>(clock: &C, desk: &Desk<V>, doing: &Doing) -> u64 {
     match doing {
         Doing::Asks(patience) => {
             let end = patience.first_ms.saturating_add(patience.limit_ms);
-            patience.asked_ms.saturating_add(ASKS_EACH_MS).min(end)
+            let next = patience.asked_ms.saturating_add(ASKS_EACH_MS);
+            let due = due_at(desk.soonest(), patience.asked_ms);
+            next.min(due).min(end)
         }
         Doing::Says(_, _, _) | Doing::Tells(_) => clock.now().saturating_add(TELLS_EACH_MS),
         Doing::Calls(_) => 0,
         Doing::Reads | Doing::Writes(_) => u64::MAX,
     }
+}
+
+// When it is looked for what comes due then. It is never where that was so at this reading already: a call
+// at it has seen what was due.
+fn due_at(soonest_ms: u64, asked_ms: u64) -> u64 {
+    if soonest_ms <= asked_ms {
+        return u64::MAX;
+    }
+    soonest_ms.div_ceil(DUE_EACH_MS).saturating_mul(DUE_EACH_MS)
 }
 
 // Takes the next connection of a door, if another one may be served.
@@ -217,7 +231,7 @@ fn attend<V: Served, R: Wait, C: Clock, D: Door>(
         Next::On(doing) => (pass, serving(left, conn, inbox, doing, since), 0),
         Next::NothingYet => (pass, serving(left, conn, inbox, Doing::Reads, since), until),
         Next::Blocked(doing) => {
-            let again = asks_at(clock, &doing).min(until);
+            let again = asks_at(clock, desk, &doing).min(until);
             (pass, serving(left, conn, inbox, doing, since), again)
         }
         Next::Over(ending) => {
