@@ -26,3 +26,5 @@ mod stop_tests;
 mod tests;
 #[cfg(test)]
 mod waiting_tests;
+#[cfg(test)]
+mod woken_tests;
