@@ -98,6 +98,10 @@ impl<R: std::rt::Clock + Drop> Halls<R> {
 }
 
 impl<R: std::rt::Clock + Drop> Lobby for Halls<R> {
+    fn share(&self) -> usize {
+        self.stretch
+    }
+
     fn wait<C: Clock>(&self, clock: &C, first: usize, until: u64) -> bool {
         match self.of(first) {
             Some((hall, _)) => hall.wait(clock, until),

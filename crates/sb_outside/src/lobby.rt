@@ -6,6 +6,9 @@ use crate::Clock;
 /// first is worker `n - 1`'s. A thread has a stretch of them, named by its first. Nothing is said of when
 /// they are called: who is called too often goes on waiting, and each is called in the end.
 pub trait Lobby {
+    /// How many workers each thread has; the last may have fewer. 0 counts as one.
+    fn share(&self) -> usize;
+
     /// Waits until a worker of the thread whose first is this one may go on, or this reading comes; not at
     /// all where one is called. Whether the lobby doesn't say who may go on, so that all of that thread are
     /// to be looked at.
@@ -29,12 +32,16 @@ pub trait Lobby {
     fn ring(&self, worker: usize, arrivals: u64);
 }
 
-/// A lobby over the clock alone, for doors in memory: each wait is a pause, it calls nobody, and all
-/// workers are to be looked at behind it.
+/// A lobby over the clock alone, for doors in memory, all in one thread: each wait is a pause, it calls
+/// nobody, and all workers are to be looked at behind it.
 #[derive(Clone, Copy)]
 pub struct PauseLobby;
 
 impl Lobby for PauseLobby {
+    fn share(&self) -> usize {
+        usize::MAX
+    }
+
     fn wait<C: Clock>(&self, clock: &C, _first: usize, _until: u64) -> bool {
         clock.pause();
         true

@@ -14,3 +14,5 @@ pub mod Serving
 pub mod Outcomes
 pub mod Unwelcome
 pub mod Rounds
+pub mod Crossing
+pub mod Sharing

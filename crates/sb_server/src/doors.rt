@@ -1,4 +1,4 @@
-// Several doors at once, each with a worker, and all workers in one thread.
+// Several doors at once, each with a worker, and the workers shared among threads.
 ghost use Rattle.std.specs.Prelude.{◌≡◌, ◌≤◌, ◌<◌, ℕ, true, All, length, slice_index_or};
 ghost use Rattle.sb_desk.specs.Desks.{IsOf};
 ghost use Rattle.sb_desk.specs.Lists.{Each};
@@ -20,7 +20,7 @@ use sb_routes::Routes;
 use std::alloc::Global;
 use std::mem;
 use std::sync::Wait;
-use std::thread::Threads;
+use std::thread::{Threads, for_each_chunk_mut};
 
 // A worker makes so many steps at most before the others have their turn.
 const STEPS_EACH: usize = 8;
@@ -29,8 +29,9 @@ const STEPS_EACH: usize = 8;
 const CALLS_EACH: usize = 32;
 
 /// Serves each door by a worker of its own with one of the last passes, at most so many connections
-/// each, within these limits of time. The calling thread goes on with those that the lobby calls, each
-/// until it is blocked, and where none may go on it waits in the lobby. Passes and doors stand in their
+/// each, within these limits of time. Each thread has as many workers as the lobby says, and goes on with
+/// those that it calls, each until it is blocked; where none may go on it waits in the lobby. Where no
+/// further thread can be made, the shares are served one after the other. Passes and doors stand in their
 /// lists as before.
 pub fn serve<
     V: Served + Send,
@@ -79,7 +80,7 @@ where
     ending
 }
 
-// Has the calling thread go round all workers.
+// Shares the workers among threads, each of which goes round its own.
 fn serve_doors<
     V: Served + Send,
     R: Threads + Wait + Sync,
@@ -104,11 +105,19 @@ where
     ensures { (i : ℕ) (d : Job D D.Conn) → i < length jobs.old
         → Did (Working (ServesBy (C.reads clock.now) access.now limits D.Conn.left D.Conn.given D.Conn.reads D.Conn.writes) D.left D.taken D.ended D.count D.out desk.now most) (slice_index_or jobs.old i d) (slice_index_or jobs.new i d) }
 {
-    if jobs.is_empty() {
-        return;
-    }
-    serve_share(
-        rt, alloc, routes, access, limits, desk, clock, lobby, 0, jobs,
+    for_each_chunk_mut(
+        rt,
+        jobs,
+        lobby.share().max(1),
+        &|first: usize, share: &mut [Job<D, D::Conn>]|
+            requires { All (λ j. IsAtWork D.out desk.now j) share.now }
+            ensures { (most i : ℕ) (d : Job D D.Conn) → i < length share.entry.now → HasPass desk.entry.now most (slice_index_or share.entry.now i d)
+                → Did (Working (ServesBy (C.reads clock.entry.now) access.entry.now limits.entry D.Conn.left D.Conn.given D.Conn.reads D.Conn.writes) D.left D.taken D.ended D.count D.out desk.entry.now most) (slice_index_or share.entry.now i d) (slice_index_or share.exit.now i d) }
+        {
+            serve_share(
+                rt, alloc, routes, access, limits, desk, clock, lobby, first, share,
+            )
+        },
     );
 }
 
