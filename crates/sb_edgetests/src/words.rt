@@ -32,6 +32,10 @@ fn says_what_is_wrong(rt: HostRuntime) -> Result<(), Fail> {
             "serve --data=a --port=80 --idle-time=86401",
             "--idle-time takes a number from 1 to 86400",
         ),
+        (
+            "serve --data=a --port=80 --threads=65",
+            "--threads takes a number from 1 to 64",
+        ),
         ("serve --data=a --port=80 --host=", hosts),
         (
             "run --data=a --max-jump=07",

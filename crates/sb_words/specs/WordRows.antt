@@ -47,6 +47,16 @@ callers = (codes "--host=a.example" ∷ codes "--max-jump=0" ∷ codes "--host" 
 abbrev pub tellers : List (List Text × Form)
 tellers = (codes "--workers=2" ∷ codes "--log" ∷ codes "--connections=9" ∷ [], record (serving 2 9) { log = true }) ∷ (codes "--idle-time=86400" ∷ codes "--request-time" ∷ codes "1" ∷ [], record (serving 1024 (2 ^ 64 - 1)) { request_time = 1; idle_time = 86400 }) ∷ []
 
+-- the options of a server that say in how many threads, and the form
+abbrev pub sharers : List (List Text × Form)
+sharers = (codes "--threads=64" ∷ codes "--workers=9" ∷ [], record (serving 9 (2 ^ 64 - 1)) { threads = 64 })
+    ∷ (codes "--threads" ∷ codes "1" ∷ codes "--log" ∷ [], record (serving 1024 (2 ^ 64 - 1)) { threads = 1; log = true }) ∷ []
+
+-- such options that are out of range, written with a 0 first or given twice, or another command's
+abbrev pub no_sharers : List (List Text)
+no_sharers = serve_with (codes "--threads=65" ∷ []) ∷ serve_with (codes "--threads=0" ∷ []) ∷ serve_with (codes "--threads=02" ∷ []) ∷ serve_with (codes "--threads=" ∷ [])
+    ∷ serve_with (codes "--threads=2" ∷ codes "--threads=2" ∷ []) ∷ client_with (codes "--threads=2") ∷ run_with (codes "--threads=2") ∷ []
+
 -- words with an option that isn't a server's, and the form
 abbrev pub others : List (List Text × Form)
 others = (run_with (codes "--max-jump=7"), record (over Run (codes "a")) { max_jump = 7 }) ∷ (check_with (codes "--look"), record (over Check (codes "a")) { look = true })

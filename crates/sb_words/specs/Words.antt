@@ -49,9 +49,9 @@ check_command = (with_rule (with_rule (new_app (codes "check")) data_option) (fl
 abbrev pub client_command : Shape
 client_command = (with_rule (with_rule (with_rule (new_app (codes "client")) port_option) (value_option (codes "key"))) (value_option (codes "patience"))).top
 
--- a server with its folder, its port and its workers
+-- a server with its folder, its port, its workers and its threads
 abbrev pub plain_server : App
-plain_server = with_rule (with_rule (with_rule (new_app (codes "serve")) data_option) port_option) (value_option (codes "workers"))
+plain_server = with_rule (with_rule (with_rule (with_rule (new_app (codes "serve")) data_option) port_option) (value_option (codes "workers"))) (value_option (codes "threads"))
 
 -- the same, with its limits, and whether each call is told
 abbrev pub limited_server : App
@@ -81,6 +81,7 @@ pub record Form : Type 0 where
   pub folder : Text
   pub port : ℕ
   pub workers : ℕ
+  pub threads : ℕ
   pub connections : ℕ
   pub max_jump : ℕ
   pub request_time : ℕ
@@ -98,6 +99,7 @@ form_value f = record {
   folder = f.folder.now;
   port = f.port;
   workers = f.workers;
+  threads = f.threads;
   connections = f.connections;
   max_jump = f.max_jump;
   request_time = f.request_time;
@@ -116,6 +118,7 @@ form_of command = record {
   folder = [];
   port = 0;
   workers = 0;
+  threads = 0;
   connections = 0;
   max_jump = 0;
   request_time = 0;
@@ -158,6 +161,11 @@ port_by (Some word) = number_within 65535 word
 abbrev pub workers_by : Option Text → Option ℕ
 workers_by None = Some 1024
 workers_by (Some word) = number_within 65535 word
+
+-- 1 to 64 threads; 0 where no number is named
+abbrev pub threads_by : Option Text → Option ℕ
+threads_by None = Some 0
+threads_by (Some word) = number_within 64 word
 
 -- after how many connections a worker ends, 1 to 1,000,000; by default there is no such end, which is the number 2^64 - 1: no worker
 -- ever takes so many
@@ -240,6 +248,11 @@ abbrev pub with_log : Option Form → Bool → Option Form
 with_log None log = None
 with_log (Some form) log = Some (record form { log = log })
 
+-- in how many threads, in a form that is there
+abbrev pub with_threads : Option Form → Option ℕ → Option Form
+with_threads (Some form) (Some threads) = Some (record form { threads = threads })
+with_threads _ _ = None
+
 -- all five have to be there
 abbrev pub open_server_at : Option Text → (port workers connections max_jump : Option ℕ) → Option Form
 open_server_at (Some folder) (Some port) (Some workers) (Some connections) (Some max_jump) = Some (record (form_of Serve) { folder = folder; port = port; workers = workers; connections = connections; max_jump = max_jump })
@@ -267,7 +280,7 @@ timed_server_in rows = with_times (open_server_in rows) (seconds_by 60 (first_of
 
 -- a server by what was found for its options
 abbrev pub serve_in : List Row → Option Form
-serve_in rows = with_log (with_callers (timed_server_in rows) (hosts_by (all_of (codes "host") rows)) (key_by (first_of (codes "key") rows))) (flag_by (first_of (codes "log") rows))
+serve_in rows = with_threads (with_log (with_callers (timed_server_in rows) (hosts_by (all_of (codes "host") rows)) (key_by (first_of (codes "key") rows))) (flag_by (first_of (codes "log") rows))) (threads_by (first_of (codes "threads") rows))
 
 -- the form of a command, by its options
 abbrev pub form_by : Option Command → List Row → Option Form

@@ -24,6 +24,8 @@ pub struct Form<'w> {
     pub port: u16,
     /// How many connections are served at once.
     pub workers: u16,
+    /// In how many threads, 1 to 64; 0 where the words name no number.
+    pub threads: u16,
     /// After how many connections a worker ends; 2^64 - 1 where the words name no number, which is no
     /// end, as no worker takes so many.
     pub connections: u64,

@@ -187,7 +187,7 @@ fn limited_server<'a>(alloc: Global) -> Result<clap::Command<'a>, AllocError>
         .arg(log)
 }
 
-// The server with its folder, its port and its workers.
+// The server with its folder, its port, its workers and its threads.
 fn plain_server<'a>(alloc: Global) -> Result<clap::Command<'a>, AllocError>
     ensures app { IfOk result (λ c. app_of c ≡ line.plain_server) }
     ensures local { IfOk result (λ c. (fields_of c).has_globals ≡ false) }
@@ -198,12 +198,19 @@ fn plain_server<'a>(alloc: Global) -> Result<clap::Command<'a>, AllocError>
         "N",
         "How many connections are served at once: 1 to 65535 [default: 1024]",
     );
+    let threads = value_option(
+        alloc,
+        "threads",
+        "M",
+        "In how many threads, each with its share of them: 1 to 64 [default: as many as there are processors, up to 4]",
+    );
     let about = "Answer the requests of connections";
     let example = "Example: bus serve --data data --port 8080";
     described(alloc, "serve", about, example)
         .arg(data_option(alloc))?
         .arg(port_option(alloc))?
-        .arg(workers)
+        .arg(workers)?
+        .arg(threads)
 }
 
 fn data_option<'a>(alloc: Global) -> Arg<'a>

@@ -6,7 +6,7 @@ use crate::command::{Command, WordsFault};
 use crate::command_line::parsed;
 use crate::words::{
     command_of, connections_of, hosts_of, key_of, max_jump_of, patience_of, port_of, read_form,
-    seconds_of, word_of, words_of, workers_of,
+    seconds_of, threads_of, word_of, words_of, workers_of,
 };
 use clap::ArgMatches;
 use std::alloc::{AllocError, Global};
@@ -77,6 +77,8 @@ fn serve_range(options: &ArgMatches) -> &'static str {
         PORT_RANGE
     } else if workers_of(word_of(options, "workers")).is_none() {
         WORKERS_RANGE
+    } else if threads_of(word_of(options, "threads")).is_none() {
+        THREADS_RANGE
     } else if connections_of(word_of(options, "connections")).is_none() {
         CONNECTIONS_RANGE
     } else if max_jump_of(0, word_of(options, "max-jump")).is_none() {
@@ -97,6 +99,8 @@ const NO_COMMAND: &str = "no command is named";
 const PORT_RANGE: &str = "--port takes a number from 1 to 65535";
 
 const WORKERS_RANGE: &str = "--workers takes a number from 1 to 65535";
+
+const THREADS_RANGE: &str = "--threads takes a number from 1 to 64";
 
 const CONNECTIONS_RANGE: &str = "--connections takes a number from 1 to 1000000";
 

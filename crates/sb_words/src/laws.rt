@@ -1,7 +1,7 @@
 // What some words are, worked out by hand.
 ghost use Rattle.std.specs.Prelude.{◌≡◌, ◌∷◌, ◌++◌, [], List, ℕ, codes, Some, map};
 ghost use Rattle.sb_words.specs.Words.{form_in};
-ghost use Rattle.sb_words.specs.WordRows.{callers, no_callers, no_forms, no_others, no_servers, nones, others, over, serve_with, servers, tellers, with_port};
+ghost use Rattle.sb_words.specs.WordRows.{callers, no_callers, no_forms, no_others, no_servers, no_sharers, nones, others, over, serve_with, servers, sharers, tellers, with_port};
 
 use crate::command::Command;
 
@@ -23,4 +23,10 @@ pub fn worked_options()
     ensures others { map (λ row. form_in row.0) others ≡ map (λ row. Some row.1) others }
     ensures no_caller { map form_in no_callers ≡ nones no_callers }
     ensures no_other { map form_in no_others ≡ nones no_others }
+{}
+
+/// Words with the option that says in how many threads a server serves.
+pub fn worked_threads()
+    ensures sharers { map (λ row. form_in (serve_with row.0)) sharers ≡ map (λ row. Some row.1) sharers }
+    ensures no_sharer { map form_in no_sharers ≡ nones no_sharers }
 {}

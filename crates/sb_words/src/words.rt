@@ -20,6 +20,9 @@ const MAX_WORKERS: u64 = 65_535;
 /// How many workers there are where words name no number.
 const DEFAULT_WORKERS: u16 = 1024;
 
+/// The most threads that words may ask for.
+const MAX_THREADS: u64 = 64;
+
 /// The most connections of a worker that words may ask for.
 const MAX_CONNECTIONS: u64 = 1_000_000;
 
@@ -166,6 +169,7 @@ fn form_with<'w>(alloc: Global, command: Command) -> Form<'w>
         folder: "",
         port: 0,
         workers: 0,
+        threads: 0,
         connections: 0,
         max_jump: 0,
         request_time: 0,
@@ -239,9 +243,13 @@ fn serve_form<'w>(alloc: Global, options: &ArgMatches<'w>) -> Result<Option<Form
     let Some(key_file) = key_of(word_of(options, "key")) else {
         return Ok(None);
     };
+    let Some(threads) = threads_of(word_of(options, "threads")) else {
+        return Ok(None);
+    };
     form.hosts = names.to_vec(alloc)?;
     form.key_file = key_file;
     form.log = flag_of(word_of(options, "log"));
+    form.threads = threads;
     Ok(Some(form))
 }
 
@@ -328,6 +336,18 @@ pub(crate) fn workers_of(word: Option<&str>) -> Option<u16>
         return None;
     };
     Some(workers as u16)
+}
+
+pub(crate) fn threads_of(word: Option<&str>) -> Option<u16>
+    ensures { result ≡ line.threads_by (option_map (λ w. w.now) word.entry) }
+{
+    let Some(word) = word else {
+        return Some(0);
+    };
+    let Some(threads) = number_within(word, MAX_THREADS) else {
+        return None;
+    };
+    Some(threads as u16)
 }
 
 pub(crate) fn connections_of(word: Option<&str>) -> Option<u64>
