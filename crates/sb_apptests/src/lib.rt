@@ -21,6 +21,8 @@ mod look_tests;
 #[cfg(test)]
 mod server_tests;
 #[cfg(test)]
+mod sharing_tests;
+#[cfg(test)]
 mod stop_tests;
 #[cfg(test)]
 mod tests;

@@ -22,9 +22,9 @@ const SERVE_ONE: [&str; 7] = [
     "1",
 ];
 
-const SEND: &str = "POST /Q/messages HTTP/1.1\r\nHost: h\r\nContent-Length: 2\r\n\r\nhi";
+pub(crate) const SEND: &str = "POST /Q/messages HTTP/1.1\r\nHost: h\r\nContent-Length: 2\r\n\r\nhi";
 
-const SENT: &str = "HTTP/1.1 201 Created\r\nContent-Length: 0\r\n\r\n";
+pub(crate) const SENT: &str = "HTTP/1.1 201 Created\r\nContent-Length: 0\r\n\r\n";
 
 const RECEIVE: &str = "POST /q/messages/head?timeout=0 HTTP/1.1\r\nHost: h\r\n\r\n";
 

@@ -3,11 +3,11 @@
 ghost use Rattle.std.specs.Prelude.{◌≡◌, ◌≤◌, None};
 
 use crate::server_tests::SERVE;
+use crate::sharing_tests::Shares;
 use crate::tests::{ONE_EVENT, SALT};
 use sb_app::{NoWatcher, top};
 use sb_outside::{
-    Clock, Conn, Door, DoorFault, Given, MemDisk, MemSink, MemSource, NoLink, PauseLobby,
-    ReadFault, WriteFault,
+    Clock, Conn, Door, DoorFault, Given, MemDisk, MemSink, MemSource, NoLink, ReadFault, WriteFault,
 };
 use sb_rest::Access;
 use std::sync::Wait;
@@ -166,12 +166,13 @@ pub(crate) fn is_given(door: &Single<'_>, begins: &[u8], ends: &[u8]) -> bool {
     }
 }
 
-// Serves these doors over a queue without a message, and gives the status.
+// Serves these doors over a queue without a message, so many a thread, and gives the status.
 fn serve_doors<T: Threads + Wait + Sync>(
     rt: &HostRuntime,
     threads: &T,
     clock: &Still,
     doors: &mut Vec<Single<'_>>,
+    share: usize,
 ) -> Result<u8, Fail> {
     let alloc = rt.alloc();
     let disk_a = MemDisk::new(alloc, ONE_EVENT.to_vec(alloc)?, Vec::new(alloc))?;
@@ -190,7 +191,7 @@ fn serve_doors<T: Threads + Wait + Sync>(
         &mut input,
         &mut output,
         doors,
-        &PauseLobby,
+        &Shares { workers: share },
         &[],
         &mut NoLink::new(),
         &NoWatcher,
@@ -198,14 +199,18 @@ fn serve_doors<T: Threads + Wait + Sync>(
     Ok(status)
 }
 
-fn tries_two<T: Threads + Wait + Sync>(rt: &HostRuntime, threads: &T) -> Result<(), Fail> {
+fn tries_two<T: Threads + Wait + Sync>(
+    rt: &HostRuntime,
+    threads: &T,
+    share: usize,
+) -> Result<(), Fail> {
     let clock = Still {
         pauses: AtomicU64::new(0),
     };
     let mut doors = Vec::new(rt.alloc());
     doors.push(door(rt, &clock, 0, u64::MAX, RECEIVE))?;
     doors.push(door(rt, &clock, 1, u64::MAX, SEND))?;
-    if serve_doors(rt, threads, &clock, &mut doors)? != 0 {
+    if serve_doors(rt, threads, &clock, &mut doors, share)? != 0 {
         return Err(Fail::from("another status"));
     }
     let (Some(receiving), Some(sending)) = (doors.first(), doors.get(1)) else {
@@ -222,7 +227,13 @@ fn tries_two<T: Threads + Wait + Sync>(rt: &HostRuntime, threads: &T) -> Result<
 
 #[test]
 fn two_connections_at_once(rt: HostRuntime) -> Result<(), Fail> {
-    tries_two(&rt, &rt)
+    tries_two(&rt, &rt, 2)
+}
+
+// The same where each has a thread of its own.
+#[test]
+fn two_connections_in_two_threads(rt: HostRuntime) -> Result<(), Fail> {
+    tries_two(&rt, &rt, 1)
 }
 
 // A caller ends in the midst of its wait, then a message is sent: it stands in the queue.
@@ -235,7 +246,7 @@ fn who_has_gone_takes_nothing(rt: HostRuntime) -> Result<(), Fail> {
     doors.push(door(&rt, &clock, 0, 20, TAKE))?;
     doors.push(door(&rt, &clock, 40, u64::MAX, SEND))?;
     doors.push(door(&rt, &clock, 60, u64::MAX, TAKE))?;
-    assert_eq!(rt; serve_doors(&rt, &rt, &clock, &mut doors)?, 0);
+    assert_eq!(rt; serve_doors(&rt, &rt, &clock, &mut doors, 3)?, 0);
     let (Some(gone), Some(sending), Some(taking)) = (doors.first(), doors.get(1), doors.get(2))
     else {
         return Err(Fail::from("the doors come back"));
