@@ -245,9 +245,9 @@ def seconds_kept(port):
 
 
 def silent_caller(program):
-    """One worker, whose caller says nothing: another is served once a minute has passed."""
+    """One worker, whose caller says nothing: another is served once its idle time has passed."""
     port = free_port()
-    with tempfile.TemporaryDirectory() as folder, serving(program, folder, port, "--workers", "1"):
+    with tempfile.TemporaryDirectory() as folder, serving(program, folder, port, "--workers", "1", "--idle-time", "60"):
         with socket.create_connection(("127.0.0.1", port)):
             begun = time.monotonic()
             code, _ = curl(port, "-X", "POST", "--data-binary", "hi", "/q/messages")

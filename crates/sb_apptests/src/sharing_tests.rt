@@ -33,6 +33,14 @@ impl Lobby for Shares {
     fn call(&self, worker: usize) -> bool {
         PauseLobby.call(worker)
     }
+
+    fn listen(&self, worker: usize, mark: u64, kind: u64) {
+        PauseLobby.listen(worker, mark, kind)
+    }
+
+    fn ring(&self, worker: usize, arrivals: u64) {
+        PauseLobby.ring(worker, arrivals)
+    }
 }
 
 const DOORS: usize = 8;

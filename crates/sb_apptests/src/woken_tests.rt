@@ -48,6 +48,10 @@ struct Hearing {
 }
 
 impl Lobby for Hearing {
+    fn share(&self) -> usize {
+        usize::MAX
+    }
+
     fn wait<C: Clock>(&self, clock: &C, _first: usize, _until: u64) -> bool {
         clock.pause();
         for worker in &self.workers {

@@ -10,16 +10,13 @@ use std::io::{ErrorKind, Read, Write};
 use std::sync::Arc;
 
 /// A connection of a place. It tells no content. Each error of the system is a counted fault, and so is
-/// a write that takes nothing, and a read or a write that finds the other side silent for 60 seconds
-/// while nothing of the server's own is under way, so that a silent caller keeps no worker. The system is
-/// asked for bytes only where something has come since a read took all that was there.
+/// a write that takes nothing, and one that has found for 60 seconds that the other side takes nothing. The
+/// system is asked for bytes only where something has come since a read took all that was there.
 #[derive(Drop)]
 pub struct Caller<R: std::rt::Clock + Drop> {
     stream: TcpStream,
     hall: Arc<Hall<R>>,
     place: usize,
-    // A request is being answered.
-    asked: bool,
     read_faults: u64,
     write_faults: u64,
 }
@@ -34,13 +31,11 @@ impl<R: std::rt::Clock + Drop> Caller<R> {
             stream,
             hall,
             place,
-            asked: false,
             read_faults: 0,
             write_faults: 0,
         };
         if let Some(seat) = caller.seat() {
             seat.begin();
-            seat.listen();
         }
         caller
     }
@@ -48,23 +43,6 @@ impl<R: std::rt::Clock + Drop> Caller<R> {
     // What it shares with the hall.
     fn seat(&self) -> Option<&Seat> {
         self.hall.seat(self.place)
-    }
-
-    // The other side did something: its silence counts from now on, while a request isn't answered.
-    fn listen(&self) {
-        if self.asked {
-            return;
-        }
-        if let Some(seat) = self.seat() {
-            seat.listen();
-        }
-    }
-
-    // The other side's silence counts no more.
-    fn rest(&self) {
-        if let Some(seat) = self.seat() {
-            seat.rest();
-        }
     }
 
     // Whether a read may find something.
@@ -78,7 +56,6 @@ impl<R: std::rt::Clock + Drop> Caller<R> {
     // A read took so many bytes. Where there was room for more, nothing is left, unless the other side has
     // ended, which the next read tells.
     fn took(&self, count: usize, room: usize) {
-        self.listen();
         if count > 0 && count < room {
             self.is_read_out(true);
         }
@@ -91,16 +68,25 @@ impl<R: std::rt::Clock + Drop> Caller<R> {
         }
     }
 
-    // Whether this error says that there is nothing yet, and the other side may still be waited for.
-    fn waits(&self, error: &io::Error) -> bool {
-        if error.kind() != ErrorKind::WouldBlock {
-            return false;
-        }
-        match self.seat() {
-            Some(seat) => !seat.is_forsaken(),
-            None => true,
+    // A write took something.
+    fn flows(&self) {
+        if let Some(seat) = self.seat() {
+            seat.flows();
         }
     }
+
+    // A write could take nothing yet. Whether it has waited for too long.
+    fn stalls(&self) -> bool {
+        match self.seat() {
+            Some(seat) => seat.stalls(),
+            None => false,
+        }
+    }
+}
+
+// Whether this error says that there is nothing yet.
+fn waits(error: &io::Error) -> bool {
+    error.kind() == ErrorKind::WouldBlock
 }
 
 impl<R: std::rt::Clock + Drop> Conn for Caller<R> {
@@ -122,7 +108,7 @@ impl<R: std::rt::Clock + Drop> Conn for Caller<R> {
                 self.took(count, room);
                 Ok(Some(count))
             }
-            Err(error) if self.waits(&error) => {
+            Err(error) if waits(&error) => {
                 self.is_read_out(false);
                 Ok(None)
             }
@@ -136,10 +122,10 @@ impl<R: std::rt::Clock + Drop> Conn for Caller<R> {
     fn write(&mut self, bytes: &[u8]) -> Result<Option<usize>, WriteFault> {
         match self.stream.write(bytes) {
             Ok(count) if count > 0 || bytes.is_empty() => {
-                self.listen();
+                self.flows();
                 Ok(Some(count))
             }
-            Err(error) if self.waits(&error) => Ok(None),
+            Err(error) if waits(&error) && !self.stalls() => Ok(None),
             _ => {
                 self.write_faults = self.write_faults.saturating_add(1);
                 Err(WriteFault)
@@ -147,13 +133,7 @@ impl<R: std::rt::Clock + Drop> Conn for Caller<R> {
         }
     }
 
-    fn asked(&mut self, _method: &[u8], _path: &[u8]) {
-        self.asked = true;
-        self.rest();
-    }
+    fn asked(&mut self, _method: &[u8], _path: &[u8]) {}
 
-    fn answered(&mut self, _response: &[u8]) {
-        self.asked = false;
-        self.listen();
-    }
+    fn answered(&mut self, _response: &[u8]) {}
 }

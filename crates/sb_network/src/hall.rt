@@ -30,7 +30,7 @@ pub(crate) const LISTENER: Token = Token(0);
 // The token of the waker, which no seat has.
 const WAKER: Token = Token(usize::MAX);
 
-/// A hall, with a clock of its own for the limits of time.
+/// A hall, with a clock of its own for its looks.
 #[derive(Drop)]
 pub(crate) struct Hall<R: std::rt::Clock + Drop> {
     system: R,

@@ -112,9 +112,6 @@ impl<R: Eprint + std::rt::Clock + Drop> Door for Place<R> {
 
     fn done(&mut self, conn: Caller<R>) {
         drop(conn);
-        if let Some(seat) = self.hall.seat(self.place) {
-            seat.rest();
-        }
         self.out -= 1;
     }
 }

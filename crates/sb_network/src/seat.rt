@@ -2,17 +2,17 @@
 use crate::arrivals::{Kinds, has_all};
 use std::sync::atomic::{AtomicBool, AtomicU64, Ordering};
 
-// A connection whose other side gives nothing, or takes nothing, for so many milliseconds fails.
-const LONGEST_SILENCE_MS: u64 = 60_000;
+// A connection whose other side takes nothing of what is written for so many milliseconds fails.
+const LONGEST_STALL_MS: u64 = 60_000;
 
-// The other side isn't waited for.
-const NOBODY: u64 = u64::MAX;
+// No write waits.
+const FLOWS: u64 = u64::MAX;
 
-// The other side did something since the last look.
-const HEARD: u64 = u64::MAX - 1;
+// A write waits since the last look.
+const WAITS: u64 = u64::MAX - 1;
 
-// The other side has been silent for too long.
-const FORSAKEN: u64 = u64::MAX - 2;
+// A write has waited for too long.
+const STALLED: u64 = u64::MAX - 2;
 
 /// The seat of a worker in a hall.
 #[derive(Drop)]
@@ -30,8 +30,8 @@ pub(crate) struct Seat {
     kind: AtomicU64,
     // Some of them came.
     rung: AtomicBool,
-    // Since which look its connection waits for the other side, or one of the words above.
-    silent_ms: AtomicU64,
+    // Since which look a write of its connection waits, or one of the words above.
+    stalls_ms: AtomicU64,
 }
 
 impl Seat {
@@ -45,7 +45,7 @@ impl Seat {
             mark: AtomicU64::new(0),
             kind: AtomicU64::new(0),
             rung: AtomicBool::new(false),
-            silent_ms: AtomicU64::new(NOBODY),
+            stalls_ms: AtomicU64::new(FLOWS),
         }
     }
 
@@ -97,6 +97,7 @@ impl Seat {
         self.may_read.store(true, Ordering::SeqCst);
         self.has_ended.store(false, Ordering::SeqCst);
         self.is_unsure.store(false, Ordering::SeqCst);
+        self.flows();
     }
 
     /// Something has come for its connection: bytes, its end or its failure, or that it may write.
@@ -117,31 +118,28 @@ impl Seat {
 
     /// Whether a read may find something.
     pub(crate) fn may_read(&self) -> bool {
-        self.may_read.load(Ordering::SeqCst)
-            || self.has_ended.load(Ordering::SeqCst)
-            || self.is_forsaken()
+        self.may_read.load(Ordering::SeqCst) || self.has_ended.load(Ordering::SeqCst)
     }
 
-    /// Its connection waits for the other side from now on.
-    pub(crate) fn listen(&self) {
-        self.silent_ms.store(HEARD, Ordering::SeqCst);
+    /// A write took something.
+    pub(crate) fn flows(&self) {
+        self.stalls_ms.store(FLOWS, Ordering::SeqCst);
     }
 
-    /// Nobody is waited for.
-    pub(crate) fn rest(&self) {
-        self.silent_ms.store(NOBODY, Ordering::SeqCst);
+    /// A write could take nothing yet. Whether it has waited for too long.
+    pub(crate) fn stalls(&self) -> bool {
+        let since = self.stalls_ms.load(Ordering::SeqCst);
+        if since == FLOWS {
+            self.stalls_ms.store(WAITS, Ordering::SeqCst);
+        }
+        since == STALLED
     }
 
-    /// Whether the other side has been silent for too long.
-    pub(crate) fn is_forsaken(&self) -> bool {
-        self.silent_ms.load(Ordering::SeqCst) == FORSAKEN
-    }
-
-    /// Looks at the seat at this reading of the hall: whether its worker is to be called, since the other
-    /// side has been silent for too long, or to make sure that nothing is left to be read.
+    /// Looks at the seat at this reading of the hall: whether its worker is to be called, since a write
+    /// has waited for too long, or to make sure that nothing is left to be read.
     pub(crate) fn look(&self, now_ms: u64) -> bool {
         let doubts = self.doubts();
-        self.is_silent(now_ms) || doubts
+        self.has_stalled(now_ms) || doubts
     }
 
     // Whether a read has to make sure that nothing is left, which is so once behind one that found something.
@@ -154,17 +152,17 @@ impl Seat {
         true
     }
 
-    // Whether the other side has been silent for too long at this reading, which is noted.
-    fn is_silent(&self, now_ms: u64) -> bool {
-        let since = self.silent_ms.load(Ordering::SeqCst);
-        if since == HEARD {
-            self.silent_ms.store(now_ms, Ordering::SeqCst);
+    // Whether a write has waited for too long at this reading, which is noted.
+    fn has_stalled(&self, now_ms: u64) -> bool {
+        let since = self.stalls_ms.load(Ordering::SeqCst);
+        if since == WAITS {
+            self.stalls_ms.store(now_ms, Ordering::SeqCst);
             return false;
         }
-        if since == NOBODY || now_ms < since.saturating_add(LONGEST_SILENCE_MS) {
+        if since == FLOWS || now_ms < since.saturating_add(LONGEST_STALL_MS) {
             return false;
         }
-        self.silent_ms.store(FORSAKEN, Ordering::SeqCst);
+        self.stalls_ms.store(STALLED, Ordering::SeqCst);
         true
     }
 }
