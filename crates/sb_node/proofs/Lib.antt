@@ -10,9 +10,11 @@ pub mod Histories
 pub mod Stepping
 pub mod Whole
 pub mod Numbers
+pub mod Brief
 pub mod Merely
 pub mod Counts
 pub mod Undecided
 pub mod Following
 pub mod Standing
 pub mod Crossing
+pub mod Sparing

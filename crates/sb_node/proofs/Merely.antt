@@ -3,10 +3,12 @@ use Rattle.std.proofs.Common.{◌≡◌, ◌≢◌, ◌≤◌, ◌<◌, ◌^◌,
 use Rattle.std.proofs.Math.Logic.{∥∥₁_elim}
 use Rattle.std.proofs.Props.{props}
 use Rattle.std.specs.List.{flat_map}
+use Rattle.std.specs.Prelude.{◌&&◌, is_none}
 use Rattle.sb_codec.specs.EventBytes.{event_bytes, HasSpelling, IsSpellable}
 use Rattle.sb_codec.specs.Judged.{IsJudged}
 use Rattle.sb_codec.proofs.Accepted.{changing_judged}
 use Rattle.sb_codec.proofs.ActsAsked.{judged_asked}
+use Rattle.sb_codec.proofs.Passed.{both, none_is}
 use Rattle.sb_codec.proofs.Short.{judged_short}
 use Rattle.sb_journal.specs.Text.{max_payload}
 use Rattle.sb_laws.specs.Sweepable.{IsLasting, IsSweepable, IsSweepableCopy, IsSweepableLeaf, IsSweepableEntity}
@@ -15,6 +17,7 @@ use Rattle.sb_machine.specs.Answers.{is_change, max_moment}
 use Rattle.sb_machine.specs.Consistent.{IsConsistent, holder_lock}
 use Rattle.sb_machine.specs.Due.{is_due}
 use Rattle.sb_machine.specs.Each.{Each, Pairs}
+use Rattle.sb_machine.specs.Fields.{bad_field}
 use Rattle.sb_machine.specs.History.{advanced}
 use Rattle.sb_machine.specs.Keyed.{AreRising}
 use Rattle.sb_machine.specs.Namespace.{live, made}
@@ -26,6 +29,8 @@ use Rattle.sb_machine.specs.declared.state.Entity.{Entity}
 use Rattle.sb_machine.specs.declared.state.Leaf.{Leaf}
 use Rattle.sb_machine.specs.declared.state.State.{State}
 use Rattle.sb_machine.specs.declared.state.StoredCopy.{StoredCopy}
+use Rattle.sb_engine.specs.Small.{is_small, takes_no_memory}
+use Rattle.sb_node.proofs.Brief.{brief}
 use Rattle.sb_node.proofs.Machine.{sweepable, nothing_due}
 use Rattle.sb_node.proofs.Numbers.{numbers_fit}
 
@@ -109,3 +114,11 @@ call_written s t call consistent order changing = judged_asked (is_via_in s.spac
 
 pub call_short : (s : State) (t : ℕ) (call : Call) → ∥ IsConsistent s ∥₁ → IsActInOrder call.act → is_change (client_of call) (outcome_of s t call) ≡ true → HasSpelling (Called t call) → length (event_bytes (Called t call)) ≤ max_payload
 call_short s t call consistent order changing spelled = judged_short (is_via_in s.space call.act) t call (judged s t call consistent order changing) spelled
+
+-- that of a call which takes no memory is short, even if a text of it had no spelling
+pub call_brief : (s : State) (t : ℕ) (call : Call) → ∥ IsConsistent s ∥₁ → IsActInOrder call.act → is_change (client_of call) (outcome_of s t call) ≡ true → takes_no_memory s.space call ≡ true → length (event_bytes (Called t call)) ≤ max_payload
+call_brief s t call consistent order changing free =
+    let all = both (is_none call.by && is_none (bad_field (is_via_in s.space call.act) call.act None)) (is_small call.act) free in
+    let none = (both (is_none call.by) (is_none (bad_field (is_via_in s.space call.act) call.act None)) all.0).0 in
+    let tests = judged s t call consistent order changing in
+    brief t call (none_is call.by none) all.1 tests.names tests.id

@@ -13,6 +13,7 @@ use Rattle.sb_machine.specs.declared.reply.Answered.{Answered}
 use Rattle.sb_machine.specs.declared.reply.Refusal.{Refusal}
 use Rattle.sb_machine.specs.declared.reply.Refusal.TheVariants.{DiskFault, OutOfMemory, Exhausted}
 use Rattle.sb_machine.specs.declared.state.State.{State}
+use Rattle.sb_engine.specs.Small.{takes_no_memory}
 
 -- ---- the entries of a step
 
@@ -72,6 +73,10 @@ pub record IsAnswered (t : ℕ) (call : Call) (old : State) (answer : Result Ans
   pub machine : is_fault answer ≡ false → (answer ≡ answer_of old t call) × (new ≡ state_of old t call)
   pub fault : is_fault answer ≡ true → new ≡ old
   pub stops : is_some stopped ≡ stops answer
+
+-- whether nothing is due at a moment, and the call takes no memory: then it isn't refused for want of it
+abbrev pub is_spared : ℕ → Call → State → Bool
+is_spared t call s = not (is_due t s.space) && takes_no_memory s.space call
 
 -- ---- the events of the parts
 

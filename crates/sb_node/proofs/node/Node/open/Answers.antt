@@ -65,6 +65,11 @@ returns-in-Err-clause-any_moment g c honest =
 pub returns-in-Err-reached_by-clause-any_moment : goal.returns-in-Err-reached_by-clause-any_moment
 returns-in-Err-reached_by-clause-any_moment g c honest =
     let was = disks_of g.D.Disk c.args.disk_a c.args.disk_b in
+    subst (λ (d : Disks). KeepFound c.args.salt was d) (sym c.given_up-in-Err-reached_by.ensures.disks) (opening_stays_pair c.args.salt was (unopened_disks c.in-Ok.read.0) (c.in-Ok.ensures.untouched honest))
+
+pub returns-in_default-clause-any_moment : goal.returns-in_default-clause-any_moment
+returns-in_default-clause-any_moment g c honest =
+    let was = disks_of g.D.Disk c.args.disk_a c.args.disk_b in
     subst (λ (d : Disks). KeepFound c.args.salt was d) (sym c.given_up.ensures.disks) (opening_stays_pair c.args.salt was (unopened_disks c.in-Ok.read.0) (c.in-Ok.ensures.untouched honest))
 
 pub returns-in-Err-clause-broken : goal.returns-in-Err-clause-broken
@@ -74,17 +79,18 @@ pub returns-in-Err-reached_by-clause-broken : goal.returns-in-Err-reached_by-cla
 returns-in-Err-reached_by-clause-broken g c honest side place is =
     let was = disks_of g.D.Disk c.args.disk_a c.args.disk_b in
     let found = c.in-Ok.read.1 in
-    let broken = c.in-Err-reached_by.ensures.broken side place (sym c.given_up.ensures.why ∙ is) in
+    let broken = c.in-Err-reached_by.ensures.broken side place (sym c.given_up-in-Err-reached_by.ensures.why ∙ is) in
     damaged_there was c.args.salt side found.disk (found_file found) place (c.in-Ok.ensures.ok honest) broken.0 broken.1
 
 pub returns-in-Err-reached_by-clause-rests : goal.returns-in-Err-reached_by-clause-rests
 returns-in-Err-reached_by-clause-rests g c honest side place is =
     let was = disks_of g.D.Disk c.args.disk_a c.args.disk_b in
-    let broken = c.in-Err-reached_by.ensures.broken side place (sym c.given_up.ensures.why ∙ is) in
-    subst (λ (d : Disks). IsAtRest side was d) (sym c.given_up.ensures.disks) (synced_rests was (unopened_disks c.in-Ok.read.0) side (broken.0 ∙ c.in-Ok.ensures.side) (c.in-Ok.ensures.synced honest))
+    let broken = c.in-Err-reached_by.ensures.broken side place (sym c.given_up-in-Err-reached_by.ensures.why ∙ is) in
+    subst (λ (d : Disks). IsAtRest side was d) (sym c.given_up-in-Err-reached_by.ensures.disks) (synced_rests was (unopened_disks c.in-Ok.read.0) side (broken.0 ∙ c.in-Ok.ensures.side) (c.in-Ok.ensures.synced honest))
 
 pub invariant_of-result : goal.invariant_of-result
 invariant_of-result g c = record {
+  buffer_fits = c.in-Ok-with_capacity.ensures.capacity;
   runs = λ none. c.in-Ok-finish.ensures.running;
   consistent = ∣ c.in-Ok-reached_by.ensures.consistent ∣₁;
 }
