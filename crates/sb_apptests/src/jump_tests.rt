@@ -1,8 +1,8 @@
 // Clocks far ahead of a journal, and lines of a run far ahead of a clock: what is told, what is left on the
 // disks, and who is told of it.
-use crate::tests::SALT;
-use sb_app::{Notice, Watcher, top};
-use sb_outside::{MemConn, MemDisk, MemDoor, MemSink, MemSource, NoLink, PauseLobby, StepClock};
+use crate::calls::{bytes_of, called, connection_of, doors_of, sink_of, source_of};
+use sb_app::{Notice, Watcher};
+use sb_outside::{MemDisk, MemDoor, MemSink, NoLink, StepClock};
 use sb_rest::Access;
 use std::sync::Wait;
 use std::sync::atomic::{AtomicU64, Ordering};
@@ -120,13 +120,11 @@ struct Case<'a> {
     status: u8,
 }
 
-fn door(rt: &HostRuntime) -> Result<MemDoor, Fail> {
+// A door with one connection, which sends.
+fn door(rt: &HostRuntime) -> Result<Vec<MemDoor>, Fail> {
     let alloc = rt.alloc();
-    let source = MemSource::new(SEND.to_vec(alloc)?, 4096, Vec::new(alloc));
-    let sink = MemSink::new(alloc, 4096, Vec::new(alloc))?;
-    let mut connections = Vec::new(alloc);
-    connections.push(MemConn::new(source, sink))?;
-    Ok(MemDoor::new(alloc, connections, Vec::new(alloc))?)
+    let conn = connection_of(alloc, SEND, 4096)?;
+    doors_of(alloc, vec![in alloc; conn]?)
 }
 
 fn is_given(doors: &[MemDoor], response: &[u8]) -> bool {
@@ -139,6 +137,61 @@ fn is_given(doors: &[MemDoor], response: &[u8]) -> bool {
     }
 }
 
+// Makes the call; its status, and disk a as it leaves it.
+fn run_into<T: Threads + Wait + Sync>(
+    rt: &HostRuntime,
+    threads: &T,
+    case: Case<'_>,
+    heard: &Heard,
+    output: &mut MemSink,
+    doors: &mut Vec<MemDoor>,
+) -> Result<(u8, MemDisk), Fail> {
+    let alloc = rt.alloc();
+    let mut input = source_of(alloc, case.script.as_bytes(), 7, &[])?;
+    let clock = StepClock::new(case.reading, 0);
+    let access = Access::unlocked(alloc);
+    let ended = called(
+        threads,
+        alloc,
+        case.words,
+        &access,
+        (case.disk, &[]),
+        &clock,
+        &mut input,
+        output,
+        doors,
+        &mut NoLink::new(),
+        heard,
+    );
+    drop(access);
+    drop(clock);
+    drop(input);
+    ended
+}
+
+// The disk that the call leaves, where it tells and ends with what it must.
+fn ran<T: Threads + Wait + Sync>(
+    rt: &HostRuntime,
+    threads: &T,
+    case: Case<'_>,
+    heard: &Heard,
+    doors: &mut Vec<MemDoor>,
+) -> Result<MemDisk, Fail> {
+    let mut output = sink_of(rt.alloc(), 4096, &[])?;
+    let ended = run_into(rt, threads, case, heard, &mut output, doors);
+    let is_told = output.bytes() == case.told.as_bytes();
+    drop(output);
+    let (status, disk) = ended?;
+    if is_told && status == case.status {
+        return Ok(disk);
+    }
+    drop(disk);
+    if is_told {
+        return Err(Fail::from("another status"));
+    }
+    Err(Fail::from("other lines were written"))
+}
+
 // The bytes that the call leaves on disk a.
 fn leaves<T: Threads + Wait + Sync>(
     rt: &HostRuntime,
@@ -146,44 +199,16 @@ fn leaves<T: Threads + Wait + Sync>(
     case: Case<'_>,
     heard: &Heard,
 ) -> Result<Vec<u8>, Fail> {
-    let alloc = rt.alloc();
-    let disk_a = MemDisk::new(alloc, case.disk.to_vec(alloc)?, Vec::new(alloc))?;
-    let disk_b = MemDisk::new(alloc, Vec::new(alloc), Vec::new(alloc))?;
-    let mut input = MemSource::new(case.script.as_bytes().to_vec(alloc)?, 7, Vec::new(alloc));
-    let mut output = MemSink::new(alloc, 4096, Vec::new(alloc))?;
-    let mut doors = Vec::new(alloc);
-    doors.push(door(rt)?)?;
-    let clock = StepClock::new(case.reading, 0);
-    let (status, disks) = top(
-        threads,
-        alloc,
-        case.words,
-        &Access::unlocked(alloc),
-        disk_a,
-        disk_b,
-        SALT,
-        &clock,
-        &mut input,
-        &mut output,
-        &mut doors,
-        &PauseLobby,
-        &[],
-        &mut NoLink::new(),
-        heard,
-    );
-    if output.bytes() != case.told.as_bytes() {
-        return Err(Fail::from("other lines were written"));
-    }
-    if status != case.status {
-        return Err(Fail::from("another status"));
-    }
-    if !is_given(&doors, case.given) {
+    let mut doors = door(rt)?;
+    let ran = ran(rt, threads, case, heard, &mut doors);
+    let is_so = is_given(&doors, case.given);
+    drop(doors);
+    let disk = ran?;
+    if !is_so {
+        drop(disk);
         return Err(Fail::from("another response"));
     }
-    let Some((disk_a, _disk_b)) = disks else {
-        return Err(Fail::from("the disks come back"));
-    };
-    Ok(disk_a.bytes().to_vec(alloc)?)
+    bytes_of(rt.alloc(), disk)
 }
 
 fn answers<'a>(words: &'a [&'a str], disk: &'a [u8], script: &'a str, told: &'a str) -> Case<'a> {
@@ -210,33 +235,99 @@ fn serves<'a>(words: &'a [&'a str], disk: &'a [u8], reading: u64) -> Case<'a> {
     }
 }
 
+// A server at a clock that is too far ahead leaves the disk, serves nobody, and tells what came of it.
+fn try_held<T: Threads + Wait + Sync>(
+    rt: &HostRuntime,
+    threads: &T,
+    words: &[&str],
+    made: &[u8],
+    heard: &Heard,
+) -> Result<(), Fail> {
+    let held = Case {
+        told: JUMP,
+        given: &[],
+        status: 14,
+        ..serves(words, made, THIRD)
+    };
+    let left = leaves(rt, threads, held, heard)?;
+    let is_so = left.as_slice() == made;
+    drop(left);
+    if !is_so {
+        return Err(Fail::from("the disk was changed"));
+    }
+    if heard.told() != (1, 0, 14) || heard.served() != 0 {
+        return Err(Fail::from("the watcher was told something else"));
+    }
+    Ok(())
+}
+
+fn try_served<T: Threads + Wait + Sync>(
+    rt: &HostRuntime,
+    threads: &T,
+    made: &[u8],
+    heard: &Heard,
+) -> Result<(), Fail> {
+    for words in &[SERVE, SERVE_LESS] {
+        try_held(rt, threads, *words, made, heard)?;
+    }
+    for words in &[SERVE_EVER, SERVE_YEARS] {
+        drop(leaves(rt, threads, serves(*words, made, THIRD), heard)?);
+    }
+    Ok(())
+}
+
+fn try_made<T: Threads + Wait + Sync>(
+    rt: &HostRuntime,
+    threads: &T,
+    heard: &Heard,
+) -> Result<(), Fail> {
+    let made = leaves(rt, threads, answers(RUN, &[], MADE, DONE), heard)?;
+    let tried = try_served(rt, threads, &made, heard);
+    drop(made);
+    tried
+}
+
+fn try_early<T: Threads + Wait + Sync>(
+    rt: &HostRuntime,
+    threads: &T,
+    heard: &Heard,
+) -> Result<(), Fail> {
+    let early = leaves(rt, threads, answers(RUN, &[], MADE_EARLY, DONE), heard)?;
+    let left = leaves(rt, threads, serves(SERVE, &early, THIRD), heard);
+    drop(early);
+    drop(left?);
+    Ok(())
+}
+
 // A clock two years on, 730 days, is too far ahead of a journal of 2026 by default and by 729 days: the disk
 // is left as the opening leaves it, and nobody is served. By 730 days and by 0 it isn't, nor is it of a
 // journal at a moment that a script made up.
 #[test]
 fn a_clock_two_years_on(rt: HostRuntime) -> Result<(), Fail> {
     let heard = Heard::new();
-    let made = leaves(&rt, &rt, answers(RUN, &[], MADE, DONE), &heard)?;
-    let early = leaves(&rt, &rt, answers(RUN, &[], MADE_EARLY, DONE), &heard)?;
+    for script in &[MADE, MADE_EARLY] {
+        let case = answers(RUN, &[], *script, DONE);
+        drop(leaves(&rt, &rt, case, &heard)?);
+    }
     assert_eq!(rt; heard.told(), (u64::MAX, 0, u64::MAX));
-    for words in &[SERVE, SERVE_LESS] {
-        let held = Case {
-            told: JUMP,
-            given: &[],
-            status: 14,
-            ..serves(*words, &made, THIRD)
-        };
-        let left = leaves(&rt, &rt, held, &heard)?;
-        assert_eq!(rt; left.as_slice(), made.as_slice());
-        assert_eq!(rt; heard.told(), (1, 0, 14));
-        assert_eq!(rt; heard.served(), 0);
-    }
-    for words in &[SERVE_EVER, SERVE_YEARS] {
-        leaves(&rt, &rt, serves(*words, &made, THIRD), &heard)?;
-    }
-    leaves(&rt, &rt, serves(SERVE, &early, THIRD), &heard)?;
+    try_made(&rt, &rt, &heard)?;
+    try_early(&rt, &rt, &heard)?;
     assert_eq!(rt; heard.told(), (1, 0, 0));
     assert_eq!(rt; heard.served(), 3);
+    Ok(())
+}
+
+// Serves over what the first lines leave, at this reading.
+fn try_behind<T: Threads + Wait + Sync>(
+    rt: &HostRuntime,
+    threads: &T,
+    reading: u64,
+    heard: &Heard,
+) -> Result<(), Fail> {
+    let made = leaves(rt, threads, answers(RUN, &[], MADE, DONE), heard)?;
+    let left = leaves(rt, threads, serves(SERVE, &made, reading), heard);
+    drop(made);
+    drop(left?);
     Ok(())
 }
 
@@ -244,9 +335,24 @@ fn a_clock_two_years_on(rt: HostRuntime) -> Result<(), Fail> {
 #[test]
 fn a_clock_behind(rt: HostRuntime) -> Result<(), Fail> {
     let heard = Heard::new();
-    let made = leaves(&rt, &rt, answers(RUN, &[], MADE, DONE), &heard)?;
-    leaves(&rt, &rt, serves(SERVE, &made, 1_767_225_599_000), &heard)?;
+    try_behind(&rt, &rt, 1_767_225_599_000, &heard)?;
     assert_eq!(rt; heard.told(), (1, 1000, 0));
+    Ok(())
+}
+
+fn try_ahead<T: Threads + Wait + Sync>(
+    rt: &HostRuntime,
+    threads: &T,
+    heard: &Heard,
+) -> Result<(), Fail> {
+    let held = Case {
+        status: 14,
+        ..answers(RUN_A_DAY, &[], LINES, LINES_TOLD)
+    };
+    let left = leaves(rt, threads, held, heard)?;
+    let checked = leaves(rt, threads, answers(CHECK, &left, "", CHECKED), heard);
+    drop(left);
+    drop(checked?);
     Ok(())
 }
 
@@ -255,12 +361,7 @@ fn a_clock_behind(rt: HostRuntime) -> Result<(), Fail> {
 #[test]
 fn a_line_ahead(rt: HostRuntime) -> Result<(), Fail> {
     let heard = Heard::new();
-    let held = Case {
-        status: 14,
-        ..answers(RUN_A_DAY, &[], LINES, LINES_TOLD)
-    };
-    let left = leaves(&rt, &rt, held, &heard)?;
-    leaves(&rt, &rt, answers(CHECK, &left, "", CHECKED), &heard)?;
-    leaves(&rt, &rt, answers(RUN, &[], LINES, ALL_TOLD), &heard)?;
+    try_ahead(&rt, &rt, &heard)?;
+    drop(leaves(&rt, &rt, answers(RUN, &[], LINES, ALL_TOLD), &heard)?);
     Ok(())
 }

@@ -1,7 +1,8 @@
 // Bodies of several script lines through a server in memory: the responses to the byte, and which calls were made.
+use crate::calls::{connection_of, doors_of, sink_of};
 use crate::server_tests::{SERVE, served};
 use crate::tests::ONE_EVENT;
-use sb_outside::{MemConn, MemDoor, MemSink, MemSource};
+use sb_outside::{MemDoor, MemSink};
 use sb_rest::Access;
 use std::alloc::{AllocError, Global};
 use std::sync::Wait;
@@ -122,49 +123,135 @@ fn response(alloc: Global, fields: &str, last: &str, lines: &str) -> Result<Stri
     )
 }
 
-// Serves a request over a disk that fails at this call, if any: the status, what its connection is given,
-// and the report.
+// The status of a server, what the first connection that came back was given, and the report.
+#[derive(Drop)]
+struct Outcome {
+    status: u8,
+    given: Vec<u8>,
+    told: Vec<u8>,
+}
+
+impl Outcome {
+    fn answers(&self, status: u8, given: &str) -> bool {
+        self.status == status && self.given.as_slice() == given.as_bytes()
+    }
+}
+
+// A door whose connection makes a request.
+fn door(alloc: Global, request: &str) -> Result<Vec<MemDoor>, Fail> {
+    let conn = connection_of(alloc, request.as_bytes(), 4096)?;
+    doors_of(alloc, vec![in alloc; conn]?)
+}
+
+// Serves these doors over a disk that fails at these calls, and gives the status.
+fn serves_doors<T: Threads + Wait + Sync>(
+    rt: &HostRuntime,
+    threads: &T,
+    failing: &[u64],
+    output: &mut MemSink,
+    doors: &mut Vec<MemDoor>,
+) -> Result<u8, Fail> {
+    let access = Access::unlocked(rt.alloc());
+    let disk = (ONE_EVENT.as_slice(), failing);
+    let status = served(rt, threads, &SERVE, &access, disk, output, doors);
+    drop(access);
+    status
+}
+
+// What the first connection that came back was given.
+fn given_by(alloc: Global, doors: &[MemDoor]) -> Result<Vec<u8>, AllocError> {
+    let Some(door) = doors.first() else {
+        return Ok(Vec::new(alloc));
+    };
+    match door.taken().first() {
+        Some(conn) => conn.bytes().to_vec(alloc),
+        None => Ok(Vec::new(alloc)),
+    }
+}
+
+// Serves these doors; the status, and the report.
+fn told_by<T: Threads + Wait + Sync>(
+    rt: &HostRuntime,
+    threads: &T,
+    failing: &[u64],
+    doors: &mut Vec<MemDoor>,
+) -> Result<(u8, Vec<u8>), Fail> {
+    let mut output = sink_of(rt.alloc(), 256, &[])?;
+    let status = serves_doors(rt, threads, failing, &mut output, doors);
+    let told = output.bytes().to_vec(rt.alloc());
+    drop(output);
+    Ok((status?, told?))
+}
+
+// Serves a request over a disk that fails at this call, if any.
 fn serves<T: Threads + Wait + Sync>(
     rt: &HostRuntime,
     threads: &T,
     request: &str,
     failing: &[u64],
-) -> Result<(u8, Vec<u8>, Vec<u8>), Fail> {
+) -> Result<Outcome, Fail> {
     let alloc = rt.alloc();
-    let bytes = request.as_bytes().to_vec(alloc)?;
-    let source = MemSource::new(bytes, 4096, Vec::new(alloc));
-    let sink = MemSink::new(alloc, 4096, Vec::new(alloc))?;
-    let connections = vec![in alloc; MemConn::new(source, sink)]?;
-    let doors = vec![in alloc; MemDoor::new(alloc, connections, Vec::new(alloc))?]?;
-    serves_doors(rt, threads, failing, doors)
+    let mut doors = door(alloc, request)?;
+    let ended = told_by(rt, threads, failing, &mut doors);
+    let given = given_by(alloc, &doors);
+    drop(doors);
+    let (status, told) = ended?;
+    Ok(Outcome {
+        status,
+        given: given?,
+        told,
+    })
 }
 
-fn serves_doors<T: Threads + Wait + Sync>(
+// The request of a body of these lines, each so many times.
+fn asked(alloc: Global, fields: &str, body: &[&str], times: usize) -> Result<String, AllocError> {
+    let body = joined(alloc, body, times)?;
+    let request = request(alloc, fields, body.as_str());
+    drop(body);
+    request
+}
+
+// The response of these lines.
+fn answered(alloc: Global, fields: &str, last: &str, lines: &[&str]) -> Result<String, AllocError> {
+    let lines = joined(alloc, lines, 1)?;
+    let response = response(alloc, fields, last, lines.as_str());
+    drop(lines);
+    response
+}
+
+// Serves a request, which has to be answered by a response and told of by a report.
+fn tries_request<T: Threads + Wait + Sync>(
     rt: &HostRuntime,
     threads: &T,
-    failing: &[u64],
-    doors: Vec<MemDoor>,
-) -> Result<(u8, Vec<u8>, Vec<u8>), Fail> {
-    let alloc = rt.alloc();
-    let mut doors = doors;
-    let mut output = MemSink::new(alloc, 256, Vec::new(alloc))?;
-    let disk = (ONE_EVENT.as_slice(), failing);
-    let access = Access::unlocked(alloc);
-    let status = served(rt, threads, &SERVE, &access, disk, &mut output, &mut doors)?;
-    let told = output.bytes().to_vec(alloc)?;
-    let given = match doors.first() {
-        Some(door) => given_by(alloc, door)?,
-        None => Vec::new(alloc),
-    };
-    Ok((status, given, told))
+    request: &str,
+    response: &str,
+    report: &str,
+) -> Result<(), Fail> {
+    let outcome = serves(rt, threads, request, &[])?;
+    let is_answered = outcome.answers(0, response);
+    let is_told = outcome.told.as_slice() == report.as_bytes();
+    drop(outcome);
+    if !is_answered {
+        return Err(Fail::from("another status or response"));
+    }
+    if !is_told {
+        return Err(Fail::from("another report"));
+    }
+    Ok(())
 }
 
-// What the first connection that came back was given.
-fn given_by(alloc: Global, door: &MemDoor) -> Result<Vec<u8>, AllocError> {
-    match door.taken().first() {
-        Some(conn) => conn.bytes().to_vec(alloc),
-        None => Ok(Vec::new(alloc)),
-    }
+// The same of a row, each line of whose body stands there so many times.
+fn tries_body<T: Threads + Wait + Sync>(
+    rt: &HostRuntime,
+    threads: &T,
+    row: Row<'_>,
+    times: usize,
+    response: &str,
+) -> Result<(), Fail> {
+    let request = asked(rt.alloc(), row.fields, row.body, times)?;
+    let tried = tries_request(rt, threads, request.as_str(), response, row.told);
+    drop(request);
+    tried
 }
 
 fn tries<T: Threads + Wait + Sync>(
@@ -172,22 +259,10 @@ fn tries<T: Threads + Wait + Sync>(
     threads: &T,
     row: Row<'_>,
 ) -> Result<(), Fail> {
-    let alloc = rt.alloc();
-    let body = joined(alloc, row.body, 1)?;
-    let lines = joined(alloc, row.lines, 1)?;
-    let asked = request(alloc, row.fields, body.as_str())?;
-    let wanted = response(alloc, row.answered, "", lines.as_str())?;
-    let (status, given, told) = serves(rt, threads, asked.as_str(), &[])?;
-    if status != 0 {
-        return Err(Fail::from("another status"));
-    }
-    if given.as_slice() != wanted.as_bytes() {
-        return Err(Fail::from("another response"));
-    }
-    if told.as_slice() != row.told.as_bytes() {
-        return Err(Fail::from("another report"));
-    }
-    Ok(())
+    let response = answered(rt.alloc(), row.answered, "", row.lines)?;
+    let tried = tries_body(rt, threads, row, 1, response.as_str());
+    drop(response);
+    tried
 }
 
 #[test]
@@ -198,37 +273,69 @@ fn each_line_is_called(rt: HostRuntime) -> Result<(), Fail> {
     Ok(())
 }
 
+// The response to a hundred lines that make one queue.
+fn made_once(alloc: Global) -> Result<String, AllocError> {
+    let mut lines = [EXISTS; 100];
+    lines[0] = DONE;
+    answered(alloc, ONE.answered, "", &lines)
+}
+
+fn tries_a_hundred<T: Threads + Wait + Sync>(rt: &HostRuntime, threads: &T) -> Result<(), Fail> {
+    let row = Row {
+        told: "{\"changing\":1,\"entries\":100,\"ok\":\"report\",\"refused\":99}\n",
+        ..ONE
+    };
+    let response = made_once(rt.alloc())?;
+    let tried = tries_body(rt, threads, row, 100, response.as_str());
+    drop(response);
+    tried
+}
+
+fn tries_one_more<T: Threads + Wait + Sync>(rt: &HostRuntime, threads: &T) -> Result<(), Fail> {
+    let row = Row {
+        lines: &[NO_LINE],
+        told: "{\"changing\":0,\"entries\":0,\"ok\":\"report\",\"refused\":0}\n",
+        ..ONE
+    };
+    let response = answered(rt.alloc(), row.answered, "", row.lines)?;
+    let tried = tries_body(rt, threads, row, 101, response.as_str());
+    drop(response);
+    tried
+}
+
 // A hundred lines are called, and of a hundred and one none.
 #[test]
 fn a_hundred_lines_at_most(rt: HostRuntime) -> Result<(), Fail> {
-    let alloc = rt.alloc();
-    let body = joined(alloc, &[CREATE_A], 100)?;
-    let asked = request(alloc, LINES, body.as_str())?;
-    let mut lines = joined(alloc, &[DONE], 1)?;
-    lines.push_str(joined(alloc, &[EXISTS], 99)?.as_str())?;
-    let wanted = response(alloc, ONE.answered, "", lines.as_str())?;
-    let (status, given, told) = serves(&rt, &rt, asked.as_str(), &[])?;
-    assert_eq!(rt; status, 0);
-    assert_eq!(rt; given.as_slice(), wanted.as_bytes());
-    assert_eq!(rt;
-        told.as_slice(),
-        b"{\"changing\":1,\"entries\":100,\"ok\":\"report\",\"refused\":99}\n".as_slice()
-    );
-    let body = joined(alloc, &[CREATE_A], 101)?;
-    let asked = request(alloc, LINES, body.as_str())?;
-    let wanted = response(alloc, ONE.answered, "", NO_LINE)?;
-    let (status, given, told) = serves(&rt, &rt, asked.as_str(), &[])?;
-    assert_eq!(rt; status, 0);
-    assert_eq!(rt; given.as_slice(), wanted.as_bytes());
-    assert_eq!(rt;
-        told.as_slice(),
-        b"{\"changing\":0,\"entries\":0,\"ok\":\"report\",\"refused\":0}\n".as_slice()
-    );
-    Ok(())
+    tries_a_hundred(&rt, &rt)?;
+    tries_one_more(&rt, &rt)
 }
 
 // The replies to two lines where the disk fails at a call of the first one's append or of the second's.
 const STOPS: [&[&str]; 2] = [&[FAILED, STOPPED], &[DONE, FAILED]];
+
+// Which of these stops it is, or none.
+fn stop_of(alloc: Global, outcome: &Outcome) -> Result<Option<usize>, AllocError> {
+    for (place, lines) in STOPS.iter().enumerate() {
+        let wanted = answered(alloc, ONE.answered, "Connection: close\r\n", lines)?;
+        let is_so = outcome.answers(5, wanted.as_str());
+        drop(wanted);
+        if is_so {
+            return Ok(Some(place));
+        }
+    }
+    Ok(None)
+}
+
+fn stopped<T: Threads + Wait + Sync>(
+    rt: &HostRuntime,
+    threads: &T,
+    call: u64,
+) -> Result<Outcome, Fail> {
+    let request = asked(rt.alloc(), LINES, &[CREATE_A, CREATE_B], 1)?;
+    let outcome = serves(rt, threads, request.as_str(), &[call]);
+    drop(request);
+    outcome
+}
 
 // Which of these stops it is, where the disk failed at this call, or none where no call was that.
 fn stop_at<T: Threads + Wait + Sync>(
@@ -236,18 +343,10 @@ fn stop_at<T: Threads + Wait + Sync>(
     threads: &T,
     call: u64,
 ) -> Result<Option<usize>, Fail> {
-    let alloc = rt.alloc();
-    let body = joined(alloc, &[CREATE_A, CREATE_B], 1)?;
-    let asked = request(alloc, LINES, body.as_str())?;
-    let (status, given, _) = serves(rt, threads, asked.as_str(), &[call])?;
-    for (place, lines) in STOPS.iter().enumerate() {
-        let lines = joined(alloc, lines, 1)?;
-        let wanted = response(alloc, ONE.answered, "Connection: close\r\n", lines.as_str())?;
-        if status == 5 && given.as_slice() == wanted.as_bytes() {
-            return Ok(Some(place));
-        }
-    }
-    Ok(None)
+    let outcome = stopped(rt, threads, call)?;
+    let stop = stop_of(rt.alloc(), &outcome);
+    drop(outcome);
+    Ok(stop?)
 }
 
 // Where the disk fails, the lines behind are answered as a namespace that has stopped answers them, and the

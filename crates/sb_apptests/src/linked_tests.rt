@@ -1,23 +1,22 @@
 // A client whose requests are served, each as a connection of its own, and two passes of one desk over a
 // node.
-ghost use Rattle.std.specs.Prelude.{◌≡◌, ◌++◌, ℕ, List, Option, length, IfOk};
+ghost use Rattle.std.specs.Prelude.{◌≡◌, ◌++◌, [], ℕ, List, Option, length, IfOk};
 ghost use Rattle.sb_machine.specs.Ordered.{IsActInOrder};
 ghost use Rattle.sb_machine.specs.declared.history.Entry.{Entry};
 ghost use Rattle.sb_desk.specs.Desks.{IsOf, IsNew};
 ghost use Rattle.sb_desk.specs.Entries.{made_by};
 ghost use Rattle.sb_desk.specs.Lists.{Each, IsEnd};
 
-use crate::server_tests::SERVE;
+use crate::calls::{connection_of, disks_of, doors_of, ran_over, sink_of};
+use crate::server_tests::{SERVE, served};
 use crate::tests::{ONE_EVENT, SALT};
-use sb_app::{NoWatcher, top, top_alone};
-use sb_desk::{Desk, NewFault, Pass, Served};
+use sb_desk::{Desk, NewFault, Pass, Report, Served};
 use sb_lines::{Form, read_line, reply_line};
 use sb_machine::{Answer, TimedCall};
 use sb_node::Node;
-use sb_outside::{
-    Bytes, MemConn, MemDisk, MemDoor, MemLink, MemSink, MemSource, NoLink, PauseLobby, StepClock,
-};
+use sb_outside::{Bytes, MemConn, MemDisk, MemDoor, MemLink, MemSink};
 use sb_rest::Access;
+use std::alloc::{AllocError, Global};
 use std::sync::Wait;
 use std::test::Fail;
 use std::thread::Threads;
@@ -35,45 +34,84 @@ const CREATE: &str =
 const COUNT: &str =
     "POST /$script HTTP/1.1\r\nHost: localhost\r\nContent-Length: 28\r\nConnection: close\r\n\r\n{\"do\":\"counts\",\"entity\":\"q\"}";
 
-// The responses of a server to two requests, each on a connection of its own.
-fn served<T: Threads + Wait + Sync>(rt: &HostRuntime, threads: &T) -> Result<Vec<Bytes>, Fail> {
-    let alloc = rt.alloc();
-    let disk_a = MemDisk::new(alloc, Vec::new(alloc), Vec::new(alloc))?;
-    let disk_b = MemDisk::new(alloc, Vec::new(alloc), Vec::new(alloc))?;
-    let mut conns = Vec::new(alloc);
+fn put_connections(alloc: Global, connections: &mut Vec<MemConn>) -> Result<(), Fail> {
     for request in [CREATE, COUNT] {
-        let source = MemSource::new(request.as_bytes().to_vec(alloc)?, 7, Vec::new(alloc));
-        let sink = MemSink::new(alloc, 4096, Vec::new(alloc))?;
-        conns.push(MemConn::new(source, sink))?;
+        let conn = connection_of(alloc, request.as_bytes(), 7)?;
+        connections.push(conn)?;
     }
-    let mut doors = Vec::new(alloc);
-    doors.push(MemDoor::new(alloc, conns, Vec::new(alloc))?)?;
-    let mut input = MemSource::new(Vec::new(alloc), 1, Vec::new(alloc));
-    let mut output = MemSink::new(alloc, 256, Vec::new(alloc))?;
-    let (_, _disks) = top(
-        threads,
-        alloc,
-        &SERVE,
-        &Access::unlocked(alloc),
-        disk_a,
-        disk_b,
-        SALT,
-        &StepClock::new(1000, 0),
-        &mut input,
-        &mut output,
-        &mut doors,
-        &PauseLobby,
-        &[],
-        &mut NoLink::new(),
-        &NoWatcher,
-    );
-    let mut replies = Vec::new(alloc);
-    if let Some(door) = doors.first() {
-        for conn in door.taken() {
-            replies.push(Bytes::of(alloc, conn.bytes())?)?;
+    Ok(())
+}
+
+// A door with the two requests, each on a connection of its own.
+fn door(alloc: Global) -> Result<Vec<MemDoor>, Fail> {
+    let mut connections = Vec::new(alloc);
+    match put_connections(alloc, &mut connections) {
+        Ok(()) => doors_of(alloc, connections),
+        Err(fail) => {
+            drop(connections);
+            Err(fail)
         }
     }
-    Ok(replies)
+}
+
+// Serves these doors over empty disks, whatever is told.
+fn serves<T: Threads + Wait + Sync>(
+    rt: &HostRuntime,
+    threads: &T,
+    doors: &mut Vec<MemDoor>,
+) -> Result<(), Fail> {
+    let access = Access::unlocked(rt.alloc());
+    let tried = match sink_of(rt.alloc(), 256, &[]) {
+        Ok(mut output) => {
+            let status = served(rt, threads, &SERVE, &access, (&[], &[]), &mut output, doors);
+            drop(output);
+            status
+        }
+        Err(fail) => Err(fail),
+    };
+    drop(access);
+    let _status = tried?;
+    Ok(())
+}
+
+fn put_replies(
+    alloc: Global,
+    replies: &mut Vec<Bytes>,
+    connections: &[MemConn],
+) -> Result<(), Fail> {
+    for conn in connections {
+        let reply = Bytes::of(alloc, conn.bytes())?;
+        replies.push(reply)?;
+    }
+    Ok(())
+}
+
+// What the connections that a door took back were given.
+fn replies_of(alloc: Global, doors: &[MemDoor]) -> Result<Vec<Bytes>, Fail> {
+    let mut replies = Vec::new(alloc);
+    let put = match doors.first() {
+        Some(door) => put_replies(alloc, &mut replies, door.taken()),
+        None => Ok(()),
+    };
+    match put {
+        Ok(()) => Ok(replies),
+        Err(fail) => {
+            drop(replies);
+            Err(fail)
+        }
+    }
+}
+
+// A link that gives the responses of a server to two requests, each on a connection of its own.
+fn link_of<T: Threads + Wait + Sync>(rt: &HostRuntime, threads: &T) -> Result<MemLink, Fail> {
+    let alloc = rt.alloc();
+    let mut doors = door(alloc)?;
+    let replies = match serves(rt, threads, &mut doors) {
+        Ok(()) => replies_of(alloc, &doors),
+        Err(fail) => Err(fail),
+    };
+    drop(doors);
+    Ok(MemLink::new(alloc, replies?, Vec::new(alloc)))
 }
 
 // Whether this is what the link was asked there.
@@ -84,32 +122,32 @@ fn is_asked(link: &MemLink, place: usize, request: &str) -> bool {
     }
 }
 
+// Makes the run of a client over this link, and gives its status.
+fn client(alloc: Global, output: &mut MemSink, link: &mut MemLink) -> Result<u8, Fail> {
+    let words = ["client", "--port", "8080"];
+    let (status, disk) = ran_over(alloc, &words, (&[], &[]), CREATE_AND_COUNT, output, link)?;
+    drop(disk);
+    Ok(status)
+}
+
+// The status, and whether the lines were answered.
+fn client_told(alloc: Global, link: &mut MemLink) -> Result<(u8, bool), Fail> {
+    let mut output = sink_of(alloc, 256, &[])?;
+    let status = client(alloc, &mut output, link);
+    let is_told = output.bytes() == MADE_AND_COUNTED.as_bytes();
+    drop(output);
+    Ok((status?, is_told))
+}
+
 // A client over a link that gives these responses sends just the requests that were served.
 #[test]
 fn a_client_is_served(rt: HostRuntime) -> Result<(), Fail> {
-    let alloc = rt.alloc();
-    let replies = served(&rt, &rt)?;
-    let mut link = MemLink::new(alloc, replies, Vec::new(alloc));
-    let disk_a = MemDisk::new(alloc, Vec::new(alloc), Vec::new(alloc))?;
-    let disk_b = MemDisk::new(alloc, Vec::new(alloc), Vec::new(alloc))?;
-    let lines = CREATE_AND_COUNT.as_bytes().to_vec(alloc)?;
-    let mut input = MemSource::new(lines, 7, Vec::new(alloc));
-    let mut output = MemSink::new(alloc, 256, Vec::new(alloc))?;
-    let (status, _, _) = top_alone(
-        alloc,
-        &["client", "--port", "8080"],
-        disk_a,
-        disk_b,
-        0,
-        &StepClock::new(0, 1),
-        &mut input,
-        &mut output,
-        &mut link,
-    );
-    assert_eq!(rt; status, 0);
-    assert_eq!(rt; output.bytes(), MADE_AND_COUNTED.as_bytes());
-    assert!(rt; is_asked(&link, 0, CREATE));
-    assert!(rt; is_asked(&link, 1, COUNT));
+    let mut link = link_of(&rt, &rt)?;
+    let told = client_told(rt.alloc(), &mut link);
+    let asked = (is_asked(&link, 0, CREATE), is_asked(&link, 1, COUNT));
+    drop(link);
+    assert_eq!(rt; told?, (0, true));
+    assert_eq!(rt; asked, (true, true));
     Ok(())
 }
 
@@ -132,9 +170,11 @@ fn line_of(rt: &HostRuntime, line: &str) -> Result<TimedCall, Fail>
 }
 
 // Whether this is the reply line of an answer.
-fn is_told(rt: &HostRuntime, answer: &Answer, told: &str) -> Result<bool, Fail> {
-    let line = reply_line(rt.alloc(), Form::Plain, answer)?;
-    Ok(line.as_str().trim_end() == told)
+fn is_told(alloc: Global, answer: &Answer, told: &str) -> Result<bool, AllocError> {
+    let line = reply_line(alloc, Form::Plain, answer)?;
+    let is_told = line.as_str().trim_end() == told;
+    drop(line);
+    Ok(is_told)
 }
 
 // The first calls, the two tell each other, and then the other calls: it has seen both calls.
@@ -178,31 +218,96 @@ fn two_call<V: Served, R: Wait>(
     (sent, received)
 }
 
-#[test]
-fn a_pass_tells_another(rt: HostRuntime) -> Result<(), Fail> {
-    let alloc = rt.alloc();
-    let disk_a = MemDisk::new(alloc, ONE_EVENT.to_vec(alloc)?, Vec::new(alloc))?;
-    let disk_b = MemDisk::new(alloc, Vec::new(alloc), Vec::new(alloc))?;
-    let send = line_of(&rt, SEND)?;
-    let receive = line_of(&rt, RECEIVE)?;
-    let Ok(node) = Node::open(alloc, disk_a, disk_b, SALT) else {
-        return Err(Fail::from("the node opens"));
-    };
-    let (desk, mut passes) = match Desk::new(alloc, node, 2) {
+// The value that a desk gave back, what the two passes were answered, and the numbers of its history; the
+// value alone where there is no memory for a desk.
+fn desk_told<V: Served, R: Wait>(
+    rt: &R,
+    alloc: Global,
+    value: V,
+    first: &TimedCall,
+    second: &TimedCall,
+) -> Result<(V, Answer, Answer, Report), V>
+    requires stands { V.stands value (V.state value) [] }
+    requires order { IsActInOrder first.now.call.act × IsActInOrder second.now.call.act }
+{
+    let (desk, mut passes) = match Desk::new(alloc, value, 2) {
         Ok(opened) => opened,
-        Err(NewFault::OutOfMemory { value }) => {
-            let _ = value.close();
-            return Err(Fail::from("there is a desk"));
+        Err(NewFault::OutOfMemory { value }) => return Err(value),
+    };
+    let (sent, received) = two_call(rt, &desk, &mut passes, first, second);
+    match desk.close(passes) {
+        Ok((value, report)) => Ok((value, sent, received, report)),
+        Err(_fault) => unreachable!(),
+    }
+}
+
+fn let_go(node: Node<MemDisk>) {
+    let (disk_a, disk_b) = node.close();
+    drop(disk_a);
+    drop(disk_b);
+}
+
+// So it is over a node with the queue of the one event.
+fn node_told<R: Wait>(
+    rt: &R,
+    alloc: Global,
+    first: &TimedCall,
+    second: &TimedCall,
+) -> Result<(Answer, Answer, Report), Fail>
+    requires { IsActInOrder first.now.call.act × IsActInOrder second.now.call.act }
+{
+    let (disk_a, disk_b) = disks_of(alloc, (&ONE_EVENT, &[]))?;
+    let node = match Node::open(alloc, disk_a, disk_b, SALT) {
+        Ok(node) => node,
+        Err(fault) => {
+            drop(fault);
+            return Err(Fail::from("the node opens"));
         }
     };
-    let (sent, received) = two_call(&rt, &desk, &mut passes, &send, &receive);
-    let (node, report) = match desk.close(passes) {
-        Ok(closed) => closed,
-        Err(_fault) => unreachable!(),
+    match desk_told(rt, alloc, node, first, second) {
+        Ok((node, sent, received, report)) => {
+            let_go(node);
+            Ok((sent, received, report))
+        }
+        Err(node) => {
+            let_go(node);
+            Err(Fail::from("there is a desk"))
+        }
+    }
+}
+
+// Whether the two calls are answered as they have to be, and the numbers.
+fn try_two<R: Wait>(
+    rt: &R,
+    alloc: Global,
+    first: &TimedCall,
+    second: &TimedCall,
+) -> Result<(bool, bool, Report), Fail>
+    requires { IsActInOrder first.now.call.act × IsActInOrder second.now.call.act }
+{
+    let (sent, received, report) = node_told(rt, alloc, first, second)?;
+    let is_sent = is_told(alloc, &sent, SENT);
+    drop(sent);
+    let is_received = is_told(alloc, &received, RECEIVED);
+    drop(received);
+    Ok((is_sent?, is_received?, report))
+}
+
+#[test]
+fn a_pass_tells_another(rt: HostRuntime) -> Result<(), Fail> {
+    let send = line_of(&rt, SEND)?;
+    let tried = match line_of(&rt, RECEIVE) {
+        Ok(receive) => {
+            let tried = try_two(&rt, rt.alloc(), &send, &receive);
+            drop(receive);
+            tried
+        }
+        Err(fail) => Err(fail),
     };
-    let _ = node.close();
-    assert!(rt; is_told(&rt, &sent, SENT)?);
-    assert!(rt; is_told(&rt, &received, RECEIVED)?);
+    drop(send);
+    let (is_sent, is_received, report) = tried?;
+    assert!(rt; is_sent);
+    assert!(rt; is_received);
     assert_eq!(rt;
         (report.entries, report.changing, report.refused),
         (2, 2, 0)

@@ -1,8 +1,7 @@
 // Looks at the disks of a table of images: each tells what a check of such disks tells, and leaves them
 // byte for byte. The lines were worked out by hand.
-use crate::tests::{ONE_EVENT, SALT};
-use sb_app::top_alone;
-use sb_outside::{MemDisk, MemSink, MemSource, NoLink, StepClock};
+use crate::calls::{bytes_of, ran, sink_of};
+use crate::tests::ONE_EVENT;
 use std::alloc::Global;
 use std::test::Fail;
 
@@ -90,31 +89,19 @@ fn outcome_of(
     alloc: Global,
     words: &[&str],
     image: &[u8],
-    failing: Vec<u64>,
-    failing_output: Vec<u64>,
+    failing: &[u64],
+    failing_output: &[u64],
 ) -> Result<Outcome, Fail> {
-    let disk_a = MemDisk::new(alloc, image.to_vec(alloc)?, failing)?;
-    let disk_b = MemDisk::new(alloc, Vec::new(alloc), Vec::new(alloc))?;
-    let mut input = MemSource::new(b"[\n".to_vec(alloc)?, 7, Vec::new(alloc));
-    let mut output = MemSink::new(alloc, 4096, failing_output)?;
-    let (status, disk_a, disk_b) = top_alone(
-        alloc,
-        words,
-        disk_a,
-        disk_b,
-        SALT,
-        &StepClock::new(0, 1),
-        &mut input,
-        &mut output,
-        &mut NoLink::new(),
-    );
-    if !disk_b.bytes().is_empty() {
-        return Err(Fail::from("disk b was written"));
-    }
+    let mut output = sink_of(alloc, 4096, failing_output)?;
+    let ended = ran(alloc, words, (image, failing), "[\n", &mut output);
+    let told = output.bytes().to_vec(alloc);
+    drop(output);
+    let (status, disk) = ended?;
+    let left = bytes_of(alloc, disk)?;
     Ok(Outcome {
         status,
-        told: output.bytes().to_vec(alloc)?,
-        left: disk_a.bytes().to_vec(alloc)?,
+        told: told?,
+        left,
     })
 }
 
@@ -125,26 +112,34 @@ fn is_told(told: &[u8], line: &str) -> bool {
         && told.len() == line.len().saturating_add(1)
 }
 
-// Tries a look, and a check of the same bytes.
-fn try_row(alloc: Global, row: Row) -> Result<(), Fail> {
-    let image = image_of(alloc, row)?;
-    let looked = outcome_of(alloc, &LOOK, &image, Vec::new(alloc), Vec::new(alloc))?;
-    if looked.status != row.status || !is_told(&looked.told, row.told) {
-        return Err(Fail::from("a look told something else"));
+// Makes a call over these bytes, which has to end and tell as the row has it: whether it changed them.
+fn changes(alloc: Global, words: &[&str], image: &[u8], row: Row) -> Result<bool, Fail> {
+    let outcome = outcome_of(alloc, words, image, &[], &[])?;
+    let is_so = outcome.status == row.status && is_told(&outcome.told, row.told);
+    let changes = outcome.left.as_slice() != image;
+    drop(outcome);
+    if is_so {
+        return Ok(changes);
     }
-    if looked.left.as_slice() != image.as_slice() {
+    Err(Fail::from("a call told something else"))
+}
+
+fn try_image(alloc: Global, image: &[u8], row: Row) -> Result<(), Fail> {
+    if changes(alloc, &LOOK, image, row)? {
         return Err(Fail::from("a look changed the disk"));
     }
-    drop(looked);
-    let checked = outcome_of(alloc, &CHECK, &image, Vec::new(alloc), Vec::new(alloc))?;
-    if checked.status != row.status || !is_told(&checked.told, row.told) {
-        return Err(Fail::from("a check told something else"));
-    }
-    let changes = checked.left.as_slice() != image.as_slice();
-    if changes != row.changes {
+    if changes(alloc, &CHECK, image, row)? != row.changes {
         return Err(Fail::from("a check left something else"));
     }
     Ok(())
+}
+
+// Tries a look, and a check of the same bytes.
+fn try_row(alloc: Global, row: Row) -> Result<(), Fail> {
+    let image = image_of(alloc, row)?;
+    let tried = try_image(alloc, &image, row);
+    drop(image);
+    tried
 }
 
 #[test]
@@ -187,38 +182,34 @@ fn a_look_tells_what_a_check_does(rt: HostRuntime) -> Result<(), Fail> {
 // The same of a disk that has one event, where these calls of the disk and of the output fail.
 fn try_failing(
     alloc: Global,
-    failing: Vec<u64>,
-    failing_output: Vec<u64>,
+    failing: &[u64],
+    failing_output: &[u64],
     status: u8,
 ) -> Result<(), Fail> {
     let looked = outcome_of(alloc, &LOOK, &ONE_EVENT, failing, failing_output)?;
-    if looked.status != status || looked.left.as_slice() != ONE_EVENT.as_slice() {
-        return Err(Fail::from("another status, or other bytes"));
-    }
+    let is_left = looked.status == status && looked.left.as_slice() == ONE_EVENT.as_slice();
     let is_good = if status == 0 {
         is_told(&looked.told, ONE)
     } else {
         looked.told.is_empty()
     };
+    drop(looked);
+    if !is_left {
+        return Err(Fail::from("another status, or other bytes"));
+    }
     if !is_good {
         return Err(Fail::from("a look told something else"));
     }
     Ok(())
 }
 
-fn one(alloc: Global, call: u64) -> Result<Vec<u64>, Fail> {
-    let mut calls = Vec::new(alloc);
-    calls.push(call)?;
-    Ok(calls)
-}
-
 // A look asks the disk for its length and reads it, and no more: it doesn't even sync.
 #[test]
 fn a_look_reads_alone(rt: HostRuntime) -> Result<(), Fail> {
     let alloc = rt.alloc();
-    try_failing(alloc, one(alloc, 0)?, Vec::new(alloc), 5)?;
-    try_failing(alloc, one(alloc, 1)?, Vec::new(alloc), 5)?;
-    try_failing(alloc, one(alloc, 2)?, Vec::new(alloc), 0)?;
-    try_failing(alloc, Vec::new(alloc), one(alloc, 0)?, 4)?;
+    try_failing(alloc, &[0], &[], 5)?;
+    try_failing(alloc, &[1], &[], 5)?;
+    try_failing(alloc, &[2], &[], 0)?;
+    try_failing(alloc, &[], &[0], 4)?;
     Ok(())
 }

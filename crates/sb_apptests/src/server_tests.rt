@@ -1,11 +1,13 @@
 // Servers over doors in memory: what their connections are given, and how a call ends.
 ghost use Rattle.std.specs.Prelude.{◌≤◌};
 
-use crate::tests::{ONE_EVENT, SALT};
-use sb_app::{NoWatcher, top};
+use crate::calls::{called, sink_of};
+use crate::tests::ONE_EVENT;
+use sb_app::NoWatcher;
 use sb_model::{Rows, Text};
-use sb_outside::{MemConn, MemDisk, MemDoor, MemSink, MemSource, NoLink, PauseLobby, StepClock};
+use sb_outside::{MemConn, MemDoor, MemSink, MemSource, NoLink, StepClock};
 use sb_rest::Access;
+use std::alloc::{AllocError, Global};
 use std::sync::Wait;
 use std::test::Fail;
 use std::thread::Threads;
@@ -187,6 +189,22 @@ enum Pace {
     Hesitant,
 }
 
+// These texts, one behind the other.
+fn joined(alloc: Global, texts: &[&str]) -> Result<Vec<u8>, AllocError> {
+    let mut bytes = Vec::new(alloc);
+    for text in texts {
+        bytes.extend_from_slice(text.as_bytes())?;
+    }
+    Ok(bytes)
+}
+
+fn paced(source: MemSource, sink: MemSink, pace: Pace) -> MemConn {
+    match pace {
+        Pace::Even => MemConn::new(source, sink),
+        Pace::Hesitant => MemConn::hesitant(source, sink),
+    }
+}
+
 fn connection(
     rt: &HostRuntime,
     requests: &[&str],
@@ -196,15 +214,48 @@ fn connection(
     requires { 1 ≤ piece }
 {
     let alloc = rt.alloc();
-    let mut bytes = Vec::new(alloc);
-    for request in requests {
-        bytes.extend_from_slice(request.as_bytes())?;
-    }
+    let bytes = joined(alloc, requests)?;
     let source = MemSource::new(bytes, piece, Vec::new(alloc));
-    let sink = MemSink::new(alloc, 4096, Vec::new(alloc))?;
-    match pace {
-        Pace::Even => Ok(MemConn::new(source, sink)),
-        Pace::Hesitant => Ok(MemConn::hesitant(source, sink)),
+    match sink_of(alloc, 4096, &[]) {
+        Ok(sink) => Ok(paced(source, sink, pace)),
+        Err(fail) => {
+            drop(source);
+            Err(fail)
+        }
+    }
+}
+
+fn put_connections(
+    rt: &HostRuntime,
+    connections: &mut Vec<MemConn>,
+    case: Case<'_>,
+    piece: usize,
+    pace: Pace,
+) -> Result<(), Fail>
+    requires { 1 ≤ piece }
+{
+    for (requests, _) in case.connections {
+        let conn = connection(rt, requests, piece, pace)?;
+        connections.push(conn)?;
+    }
+    Ok(())
+}
+
+fn connections_of(
+    rt: &HostRuntime,
+    case: Case<'_>,
+    piece: usize,
+    pace: Pace,
+) -> Result<Vec<MemConn>, Fail>
+    requires { 1 ≤ piece }
+{
+    let mut connections = Vec::new(rt.alloc());
+    match put_connections(rt, &mut connections, case, piece, pace) {
+        Ok(()) => Ok(connections),
+        Err(fail) => {
+            drop(connections);
+            Err(fail)
+        }
     }
 }
 
@@ -212,28 +263,57 @@ fn door_of(rt: &HostRuntime, case: Case<'_>, piece: usize, pace: Pace) -> Result
     requires { 1 ≤ piece }
 {
     let alloc = rt.alloc();
-    let mut connections = Vec::new(alloc);
-    for (requests, _) in case.connections {
-        connections.push(connection(rt, requests, piece, pace)?)?;
-    }
     let failing = case.door.to_vec(alloc)?;
-    match pace {
-        Pace::Even => Ok(MemDoor::new(alloc, connections, failing)?),
-        Pace::Hesitant => Ok(MemDoor::hesitant(alloc, connections, failing)?),
+    let connections = connections_of(rt, case, piece, pace)?;
+    let door = match pace {
+        Pace::Even => MemDoor::new(alloc, connections, failing),
+        Pace::Hesitant => MemDoor::hesitant(alloc, connections, failing),
+    };
+    Ok(door?)
+}
+
+// The door alone.
+fn doors_of(
+    rt: &HostRuntime,
+    case: Case<'_>,
+    piece: usize,
+    pace: Pace,
+) -> Result<Vec<MemDoor>, Fail>
+    requires { 1 ≤ piece }
+{
+    let door = door_of(rt, case, piece, pace)?;
+    Ok(vec![in rt.alloc(); door]?)
+}
+
+fn put_hosts(alloc: Global, hosts: &mut Rows<Text>, names: &[&str]) -> Result<(), AllocError> {
+    for name in names {
+        let name = Text::of(alloc, name)?;
+        hosts.push(name)?;
+    }
+    Ok(())
+}
+
+fn key_of(alloc: Global, key: Option<&str>) -> Result<Option<Text>, AllocError> {
+    match key {
+        Some(key) => Ok(Some(Text::of(alloc, key)?)),
+        None => Ok(None),
     }
 }
 
 fn access_of(rt: &HostRuntime, case: Case<'_>) -> Result<Access, Fail> {
     let alloc = rt.alloc();
-    let mut hosts = Rows::new(alloc);
-    for host in case.hosts {
-        hosts.push(Text::of(alloc, host)?)?;
-    }
-    let key = match case.key {
-        Some(key) => Some(Text::of(alloc, key)?),
-        None => None,
+    let key = key_of(alloc, case.key)?;
+    let mut access = Access {
+        hosts: Rows::new(alloc),
+        key,
     };
-    Ok(Access { hosts, key })
+    match put_hosts(alloc, &mut access.hosts, case.hosts) {
+        Ok(()) => Ok(access),
+        Err(error) => {
+            drop(access);
+            Err(Fail::from(error))
+        }
+    }
 }
 
 // Serves over a disk with these bytes that fails at these calls, and gives the status.
@@ -247,29 +327,25 @@ pub(crate) fn served<T: Threads + Wait + Sync>(
     doors: &mut Vec<MemDoor>,
 ) -> Result<u8, Fail> {
     let alloc = rt.alloc();
-    let disk_a = MemDisk::new(alloc, disk.0.to_vec(alloc)?, disk.1.to_vec(alloc)?)?;
-    let disk_b = MemDisk::new(alloc, Vec::new(alloc), Vec::new(alloc))?;
+    let clock = StepClock::new(1000, 0);
     let mut input = MemSource::new(Vec::new(alloc), 1, Vec::new(alloc));
-    let (status, disks) = top(
+    let ended = called(
         threads,
         alloc,
         words,
         access,
-        disk_a,
-        disk_b,
-        SALT,
-        &StepClock::new(1000, 0),
+        disk,
+        &clock,
         &mut input,
         output,
         doors,
-        &PauseLobby,
-        &[],
         &mut NoLink::new(),
         &NoWatcher,
     );
-    if disks.is_none() {
-        return Err(Fail::from("the disks come back"));
-    }
+    drop(input);
+    drop(clock);
+    let (status, disk) = ended?;
+    drop(disk);
     Ok(status)
 }
 
@@ -285,37 +361,8 @@ fn is_given(conn: &MemConn, responses: &[&str]) -> bool {
     left.is_empty()
 }
 
-fn tries<T: Threads + Wait + Sync>(
-    rt: &HostRuntime,
-    threads: &T,
-    case: Case<'_>,
-    piece: usize,
-    pace: Pace,
-) -> Result<(), Fail>
-    requires { 1 ≤ piece }
-{
-    let alloc = rt.alloc();
-    let mut output = MemSink::new(alloc, 256, case.output.to_vec(alloc)?)?;
-    let mut doors = Vec::new(alloc);
-    doors.push(door_of(rt, case, piece, pace)?)?;
-    let status = served(
-        rt,
-        threads,
-        case.words,
-        &access_of(rt, case)?,
-        (&ONE_EVENT, &[]),
-        &mut output,
-        &mut doors,
-    )?;
-    if status != case.status {
-        return Err(Fail::from("another status"));
-    }
-    if output.bytes() != case.told.as_bytes() {
-        return Err(Fail::from("another report"));
-    }
-    let Some(door) = doors.first() else {
-        return Err(Fail::from("the door comes back"));
-    };
+// That each connection was given its responses, and that one that wasn't served has none.
+fn are_given(door: &MemDoor, case: Case<'_>) -> Result<(), Fail> {
     let taken = door.taken();
     for (place, (_, responses)) in case.connections.iter().enumerate() {
         if place < taken.len() {
@@ -327,6 +374,71 @@ fn tries<T: Threads + Wait + Sync>(
         }
     }
     Ok(())
+}
+
+// Serves these doors, and looks at the status and the report.
+fn tries_doors<T: Threads + Wait + Sync>(
+    rt: &HostRuntime,
+    threads: &T,
+    case: Case<'_>,
+    access: &Access,
+    doors: &mut Vec<MemDoor>,
+) -> Result<(), Fail> {
+    let mut output = sink_of(rt.alloc(), 256, case.output)?;
+    let status = served(
+        rt,
+        threads,
+        case.words,
+        access,
+        (&ONE_EVENT, &[]),
+        &mut output,
+        doors,
+    );
+    let is_told = output.bytes() == case.told.as_bytes();
+    drop(output);
+    if status? != case.status {
+        return Err(Fail::from("another status"));
+    }
+    if !is_told {
+        return Err(Fail::from("another report"));
+    }
+    Ok(())
+}
+
+fn tries_with<T: Threads + Wait + Sync>(
+    rt: &HostRuntime,
+    threads: &T,
+    case: Case<'_>,
+    access: &Access,
+    doors: &mut Vec<MemDoor>,
+) -> Result<(), Fail> {
+    tries_doors(rt, threads, case, access, doors)?;
+    match doors.first() {
+        Some(door) => are_given(door, case),
+        None => Err(Fail::from("the door comes back")),
+    }
+}
+
+fn tries<T: Threads + Wait + Sync>(
+    rt: &HostRuntime,
+    threads: &T,
+    case: Case<'_>,
+    piece: usize,
+    pace: Pace,
+) -> Result<(), Fail>
+    requires { 1 ≤ piece }
+{
+    let mut doors = doors_of(rt, case, piece, pace)?;
+    let tried = match access_of(rt, case) {
+        Ok(access) => {
+            let tried = tries_with(rt, threads, case, &access, &mut doors);
+            drop(access);
+            tried
+        }
+        Err(fail) => Err(fail),
+    };
+    drop(doors);
+    tried
 }
 
 #[test]
@@ -352,25 +464,29 @@ fn hesitant_connections_are_served(rt: HostRuntime) -> Result<(), Fail> {
     Ok(())
 }
 
+// Serves no doors over an empty disk.
+fn serves_nobody<T: Threads + Wait + Sync>(
+    rt: &HostRuntime,
+    threads: &T,
+    output: &mut MemSink,
+) -> Result<u8, Fail> {
+    let access = Access::unlocked(rt.alloc());
+    let mut doors = Vec::new(rt.alloc());
+    let status = served(rt, threads, &SERVE, &access, (&[], &[]), output, &mut doors);
+    drop(doors);
+    drop(access);
+    status
+}
+
 // A server without doors has nobody to serve.
 #[test]
 fn no_doors(rt: HostRuntime) -> Result<(), Fail> {
-    let mut output = MemSink::new(rt.alloc(), 256, Vec::new(rt.alloc()))?;
-    let mut doors = Vec::new(rt.alloc());
-    let status = served(
-        &rt,
-        &rt,
-        &SERVE,
-        &Access::unlocked(rt.alloc()),
-        (&[], &[]),
-        &mut output,
-        &mut doors,
-    )?;
-    assert_eq!(rt; status, 0);
-    assert_eq!(rt;
-        output.bytes(),
-        b"{\"changing\":0,\"entries\":0,\"ok\":\"report\",\"refused\":0}\n".as_slice()
-    );
+    let mut output = sink_of(rt.alloc(), 256, &[])?;
+    let status = serves_nobody(&rt, &rt, &mut output);
+    let is_told = output.bytes()
+        == b"{\"changing\":0,\"entries\":0,\"ok\":\"report\",\"refused\":0}\n".as_slice();
+    drop(output);
+    assert_eq!(rt; (status?, is_told), (0, true));
     Ok(())
 }
 
@@ -387,43 +503,76 @@ const STOPS: [(&[&str], &str); 3] = [
     ),
 ];
 
+// Serves over a disk that fails at this call, and gives the status.
+fn served_failing<T: Threads + Wait + Sync>(
+    rt: &HostRuntime,
+    threads: &T,
+    call: u64,
+    output: &mut MemSink,
+    doors: &mut Vec<MemDoor>,
+) -> Result<u8, Fail> {
+    let access = Access::unlocked(rt.alloc());
+    let failing = [call];
+    let disk = (ONE_EVENT.as_slice(), failing.as_slice());
+    let status = served(rt, threads, &SERVE, &access, disk, output, doors);
+    drop(access);
+    status
+}
+
+// Which of these stops it is by what was told and what the first connection that came back was given.
+fn stop_of(told: &[u8], taken: &[MemConn]) -> Option<usize> {
+    for (place, (responses, report)) in STOPS.iter().enumerate() {
+        let is_so = if taken.is_empty() {
+            responses.is_empty()
+        } else {
+            is_given(&taken[0], responses)
+        };
+        if is_so && told == report.as_bytes() {
+            return Some(place);
+        }
+    }
+    None
+}
+
+// The same, or none where no call failed.
+fn stop_in<T: Threads + Wait + Sync>(
+    rt: &HostRuntime,
+    threads: &T,
+    call: u64,
+    output: &mut MemSink,
+    doors: &mut Vec<MemDoor>,
+) -> Result<Option<usize>, Fail> {
+    let status = served_failing(rt, threads, call, output, doors)?;
+    let told = output.bytes();
+    if status == 0 && told == SEND_AND_RECEIVE.told.as_bytes() {
+        return Ok(None);
+    }
+    let Some(door) = doors.first() else {
+        return Err(Fail::from("the door comes back"));
+    };
+    match stop_of(told, door.taken()) {
+        Some(place) if status == 5 => Ok(Some(place)),
+        _ => Err(Fail::from("another end")),
+    }
+}
+
 // Which of these stops it is, where the disk failed at this call, or none where no call was that.
 fn stop_at<T: Threads + Wait + Sync>(
     rt: &HostRuntime,
     threads: &T,
     call: u64,
 ) -> Result<Option<usize>, Fail> {
-    let alloc = rt.alloc();
-    let mut output = MemSink::new(alloc, 256, Vec::new(alloc))?;
-    let mut doors = Vec::new(alloc);
-    doors.push(door_of(rt, SEND_AND_RECEIVE, 4096, Pace::Even)?)?;
-    let status = served(
-        rt,
-        threads,
-        &SERVE,
-        &Access::unlocked(alloc),
-        (&ONE_EVENT, &[call]),
-        &mut output,
-        &mut doors,
-    )?;
-    if status == 0 && output.bytes() == SEND_AND_RECEIVE.told.as_bytes() {
-        return Ok(None);
-    }
-    let Some(door) = doors.first() else {
-        return Err(Fail::from("the door comes back"));
-    };
-    let taken = door.taken();
-    for (place, (responses, told)) in STOPS.iter().enumerate() {
-        let is_so = if taken.is_empty() {
-            responses.is_empty()
-        } else {
-            is_given(&taken[0], responses)
-        };
-        if is_so && status == 5 && output.bytes() == told.as_bytes() {
-            return Ok(Some(place));
+    let mut doors = doors_of(rt, SEND_AND_RECEIVE, 4096, Pace::Even)?;
+    let stop = match sink_of(rt.alloc(), 256, &[]) {
+        Ok(mut output) => {
+            let stop = stop_in(rt, threads, call, &mut output, &mut doors);
+            drop(output);
+            stop
         }
-    }
-    Err(Fail::from("another end"))
+        Err(fail) => Err(fail),
+    };
+    drop(doors);
+    stop
 }
 
 // More than the calls of the disk in one run.

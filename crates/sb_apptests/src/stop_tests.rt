@@ -1,7 +1,6 @@
 // Scripts over a disk that fails, or stops with the machine, at each of its calls: what the next run finds.
-use crate::tests::SALT;
-use sb_app::top_alone;
-use sb_outside::{MemDisk, MemSink, MemSource, NoLink, StepClock};
+use crate::calls::ran;
+use sb_outside::MemSink;
 use std::alloc::Global;
 use std::test::Fail;
 
@@ -31,60 +30,6 @@ const CHECKS: [&str; 4] = [
     "{\"copies\":1,\"entities\":1,\"events\":2,\"made\":1,\"now\":0,\"ok\":\"check\"}\n",
     "{\"copies\":1,\"entities\":1,\"events\":3,\"made\":1,\"now\":0,\"ok\":\"check\"}\n",
 ];
-
-fn disk_of(alloc: Global, bytes: &[u8], failing: &[u64]) -> Result<MemDisk, Fail> {
-    let bytes = bytes.to_vec(alloc)?;
-    let failing = failing.to_vec(alloc)?;
-    Ok(MemDisk::new(alloc, bytes, failing)?)
-}
-
-// Makes a run; its status, and disk a as it leaves it.
-fn called(
-    alloc: Global,
-    words: &[&str],
-    disk_a: MemDisk,
-    input: &mut MemSource,
-    output: &mut MemSink,
-) -> Result<(u8, MemDisk), Fail> {
-    let disk_b = match disk_of(alloc, &[], &[]) {
-        Ok(disk_b) => disk_b,
-        Err(fail) => {
-            drop(disk_a);
-            return Err(fail);
-        }
-    };
-    let (status, disk_a, disk_b) = top_alone(
-        alloc,
-        words,
-        disk_a,
-        disk_b,
-        SALT,
-        &StepClock::new(0, 1),
-        input,
-        output,
-        &mut NoLink::new(),
-    );
-    drop(disk_b);
-    Ok((status, disk_a))
-}
-
-// A run over this script and a disk with these bytes that fails at these calls.
-fn ran(
-    alloc: Global,
-    words: &[&str],
-    disk: (&[u8], &[u64]),
-    script: &str,
-    output: &mut MemSink,
-) -> Result<(u8, MemDisk), Fail> {
-    let script = script.as_bytes().to_vec(alloc)?;
-    let mut input = MemSource::new(script, 7, Vec::new(alloc));
-    let ended = match disk_of(alloc, disk.0, disk.1) {
-        Ok(disk) => called(alloc, words, disk, &mut input, output),
-        Err(fail) => Err(fail),
-    };
-    drop(input);
-    ended
-}
 
 // What a crash behind it leaves, with this byte where it may leave any; its status and its output go into these.
 fn image_behind(

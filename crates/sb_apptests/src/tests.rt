@@ -1,8 +1,8 @@
 // Runs over memory whose disk, input or output fails. What is read and what answers it are rows of two
 // lines.
-use sb_app::{NoWatcher, top};
-use sb_outside::{MemDisk, MemSink, MemSource, NoDoor, NoLink, PauseLobby, StepClock};
-use sb_rest::Access;
+use crate::calls::{bytes_of, called_alone, sink_of, source_of};
+use sb_outside::{MemDisk, MemSink, NoLink};
+use std::alloc::Global;
 use std::sync::Wait;
 use std::test::Fail;
 use std::thread::Threads;
@@ -66,6 +66,12 @@ const NOTHING: Failing = Failing {
     output: None,
 };
 
+const NO_OUTPUT: Failing = Failing {
+    disk: None,
+    input: None,
+    output: Some(0),
+};
+
 // A run, and what it must write and end with.
 #[derive(Clone, Copy)]
 struct Case<'a> {
@@ -84,36 +90,75 @@ struct Rows {
     told: Vec<u8>,
 }
 
-fn with_line(mut lines: Vec<u8>, line: &str) -> Result<Vec<u8>, Fail> {
+fn put_line(lines: &mut Vec<u8>, line: &str) -> Result<(), Fail> {
     lines.extend_from_slice(line.as_bytes())?;
     lines.push(b'\n')?;
-    Ok(lines)
+    Ok(())
+}
+
+impl Rows {
+    fn new(alloc: Global) -> Self {
+        Rows {
+            script: Vec::new(alloc),
+            told: Vec::new(alloc),
+        }
+    }
+
+    // Takes rows of two lines.
+    fn put(&mut self, parts: &[&str]) -> Result<(), Fail> {
+        for part in parts {
+            let mut is_answer = false;
+            for line in part.trim_start().lines() {
+                if is_answer {
+                    put_line(&mut self.told, line)?;
+                } else {
+                    put_line(&mut self.script, line)?;
+                }
+                is_answer = !is_answer;
+            }
+        }
+        Ok(())
+    }
 }
 
 // Those of rows of two lines.
 fn rows_of(rt: &HostRuntime, parts: &[&str]) -> Result<Rows, Fail> {
-    let mut script = Vec::new(rt.alloc());
-    let mut told = Vec::new(rt.alloc());
-    for part in parts {
-        let mut is_answer = false;
-        for line in part.trim_start().lines() {
-            if is_answer {
-                told = with_line(told, line)?;
-            } else {
-                script = with_line(script, line)?;
-            }
-            is_answer = !is_answer;
+    let mut rows = Rows::new(rt.alloc());
+    match rows.put(parts) {
+        Ok(()) => Ok(rows),
+        Err(fail) => {
+            drop(rows);
+            Err(fail)
         }
     }
-    Ok(Rows { script, told })
 }
 
-fn listed(rt: &HostRuntime, call: Option<u64>) -> Result<Vec<u64>, Fail> {
-    let mut calls = Vec::new(rt.alloc());
-    if let Some(call) = call {
-        calls.push(call)?;
-    }
-    Ok(calls)
+// The calls that fail; where none does, a number that no call has.
+fn listed(call: Option<u64>) -> [u64; 1] {
+    [call.unwrap_or(u64::MAX)]
+}
+
+// Makes the run; its status, and disk a as it leaves it.
+fn run_into<T: Threads + Wait + Sync>(
+    rt: &HostRuntime,
+    threads: &T,
+    case: Case<'_>,
+    output: &mut MemSink,
+) -> Result<(u8, MemDisk), Fail> {
+    let alloc = rt.alloc();
+    let failing = listed(case.failing.disk);
+    let mut input = source_of(alloc, case.script, 7, &listed(case.failing.input))?;
+    let ended = called_alone(
+        threads,
+        alloc,
+        case.words,
+        (case.disk, &failing),
+        &mut input,
+        output,
+        &mut NoLink::new(),
+    );
+    drop(input);
+    ended
 }
 
 // Makes the run, and gives disk a as it leaves it.
@@ -122,51 +167,19 @@ fn ran<T: Threads + Wait + Sync>(
     threads: &T,
     case: Case<'_>,
 ) -> Result<MemDisk, Fail> {
-    let alloc = rt.alloc();
-    let disk_a = MemDisk::new(
-        alloc,
-        case.disk.to_vec(alloc)?,
-        listed(rt, case.failing.disk)?,
-    )?;
-    let disk_b = MemDisk::new(alloc, Vec::new(alloc), Vec::new(alloc))?;
-    let mut input = MemSource::new(
-        case.script.to_vec(alloc)?,
-        7,
-        listed(rt, case.failing.input)?,
-    );
-    let mut output = MemSink::new(alloc, 4096, listed(rt, case.failing.output)?)?;
-    let mut doors: Vec<NoDoor> = Vec::new(alloc);
-    let clock = StepClock::new(0, 1);
-    let (status, disks) = top(
-        threads,
-        alloc,
-        case.words,
-        &Access::unlocked(alloc),
-        disk_a,
-        disk_b,
-        SALT,
-        &clock,
-        &mut input,
-        &mut output,
-        &mut doors,
-        &PauseLobby,
-        &[],
-        &mut NoLink::new(),
-        &NoWatcher,
-    );
-    if output.bytes() != case.told {
-        return Err(Fail::from("other lines were written"));
+    let mut output = sink_of(rt.alloc(), 4096, &listed(case.failing.output))?;
+    let ended = run_into(rt, threads, case, &mut output);
+    let is_told = output.bytes() == case.told;
+    drop(output);
+    let (status, disk) = ended?;
+    if is_told && status == case.status {
+        return Ok(disk);
     }
-    if status != case.status {
+    drop(disk);
+    if is_told {
         return Err(Fail::from("another status"));
     }
-    let Some((disk_a, disk_b)) = disks else {
-        return Err(Fail::from("the disks come back"));
-    };
-    if !disk_b.bytes().is_empty() {
-        return Err(Fail::from("disk b was written"));
-    }
-    Ok(disk_a)
+    Err(Fail::from("other lines were written"))
 }
 
 // The bytes that it leaves there.
@@ -176,7 +189,7 @@ fn leaves<T: Threads + Wait + Sync>(
     case: Case<'_>,
 ) -> Result<Vec<u8>, Fail> {
     let disk = ran(rt, threads, case)?;
-    Ok(disk.bytes().to_vec(rt.alloc())?)
+    bytes_of(rt.alloc(), disk)
 }
 
 // The disk that a run over one row leaves whose disk fails at a call.
@@ -200,7 +213,9 @@ fn ran_failing<T: Threads + Wait + Sync>(
         told: &rows.told,
         status,
     };
-    ran(rt, threads, case)
+    let disk = ran(rt, threads, case);
+    drop(rows);
+    disk
 }
 
 // The bytes that a run over these rows leaves, each line of which is answered.
@@ -220,7 +235,9 @@ fn left_by<T: Threads + Wait + Sync>(
         told: &rows.told,
         status,
     };
-    leaves(rt, threads, case)
+    let left = leaves(rt, threads, case);
+    drop(rows);
+    left
 }
 
 // The bytes that a run over one row leaves whose disk fails at a call.
@@ -247,7 +264,23 @@ fn left_by_failing<T: Threads + Wait + Sync>(
         told: &rows.told,
         status,
     };
-    leaves(rt, threads, case)
+    let left = leaves(rt, threads, case);
+    drop(rows);
+    left
+}
+
+// A run whose disk fails at a call, and the next one over what it leaves.
+fn try_call<T: Threads + Wait + Sync>(
+    rt: &HostRuntime,
+    threads: &T,
+    row: (u64, &str, u8, &str),
+) -> Result<(), Fail> {
+    let (call, first, status, next) = row;
+    let left = left_by_failing(rt, threads, &ONE_EVENT, call, first, status)?;
+    let found = left_by(rt, threads, &left, &[next], 0);
+    drop(left);
+    drop(found?);
+    Ok(())
 }
 
 // Each call of the disk fails in turn, over a journal that has an event: opening reads in three calls
@@ -266,9 +299,7 @@ fn each_disk_call_fails(rt: HostRuntime) -> Result<(), Fail> {
         (7, SEND, 0, SEND_AGAIN),
     ];
     for row in &rows {
-        let (call, first, status, next) = *row;
-        let left = left_by_failing(&rt, &rt, &ONE_EVENT, call, first, status)?;
-        left_by(&rt, &rt, &left, &[next], 0)?;
+        try_call(&rt, &rt, *row)?;
     }
     Ok(())
 }
@@ -318,12 +349,53 @@ fn after(call: Option<u64>, fill: u8) -> Stop<'static> {
     }
 }
 
+// What a crash may leave behind an append that stops so.
+fn image_of<T: Threads + Wait + Sync>(
+    rt: &HostRuntime,
+    threads: &T,
+    made: &[u8],
+    call: Option<u64>,
+    fill: u8,
+) -> Result<Vec<u8>, Fail> {
+    let disk = match call {
+        Some(_) => ran_failing(rt, threads, made, call, SETUP_FAILS, 5)?,
+        None => ran_failing(rt, threads, made, None, SETUP, 0)?,
+    };
+    let image = disk.image(rt.alloc(), fill);
+    drop(disk);
+    Ok(image?)
+}
+
+fn try_stop<T: Threads + Wait + Sync>(
+    rt: &HostRuntime,
+    threads: &T,
+    made: &[u8],
+    stop: Stop<'_>,
+) -> Result<(), Fail> {
+    let image = image_of(rt, threads, made, stop.call, stop.fill)?;
+    let found = left_by(rt, threads, &image, &[stop.next], stop.status);
+    drop(image);
+    drop(found?);
+    Ok(())
+}
+
+fn try_stops<T: Threads + Wait + Sync>(
+    rt: &HostRuntime,
+    threads: &T,
+    made: &[u8],
+    stops: &[Stop<'_>],
+) -> Result<(), Fail> {
+    for stop in stops {
+        try_stop(rt, threads, made, *stop)?;
+    }
+    Ok(())
+}
+
 // The device calls of the append of one event come behind the three of the opening: a write behind
 // the gate, a sync, the gate's write, a sync. Where one fails the machine stops, and what was written
 // since the last sync holds the fill: also what the failed call was to write.
 #[test]
 fn an_append_stops(rt: HostRuntime) -> Result<(), Fail> {
-    let made = left_by(&rt, &rt, &[], &[], 0)?;
     let stops = [
         // Within the first call, and after it.
         before(3, 0xff),
@@ -340,37 +412,25 @@ fn an_append_stops(rt: HostRuntime) -> Result<(), Fail> {
         after(None, 0xff),
         after(None, 0x01),
     ];
-    for stop in &stops {
-        let Stop {
-            call,
-            fill,
-            next,
-            status,
-        } = *stop;
-        let disk = match call {
-            Some(_) => ran_failing(&rt, &rt, &made, call, SETUP_FAILS, 5)?,
-            None => ran_failing(&rt, &rt, &made, None, SETUP, 0)?,
-        };
-        let image = disk.image(rt.alloc(), fill)?;
-        left_by(&rt, &rt, &image, &[next], status)?;
-    }
-    Ok(())
+    let made = left_by(&rt, &rt, &[], &[], 0)?;
+    let tried = try_stops(&rt, &rt, &made, &stops);
+    drop(made);
+    tried
 }
 
-#[test]
-fn each_status_has_its_cause(rt: HostRuntime) -> Result<(), Fail> {
-    let one = rows_of(&rt, &[CREATE])?;
-    let two = rows_of(&rt, &[CREATE, PEEK])?;
+// Runs over the lines of two rows that write what the first of them is answered, or nothing.
+fn try_causes<T: Threads + Wait + Sync>(
+    rt: &HostRuntime,
+    threads: &T,
+    one: &Rows,
+    two: &Rows,
+) -> Result<(), Fail> {
     let no_disk = Failing {
         disk: Some(0),
         ..NOTHING
     };
     let no_input = Failing {
         input: Some(0),
-        ..NOTHING
-    };
-    let no_output = Failing {
-        output: Some(0),
         ..NOTHING
     };
     // The first line is 40 bytes, in six reads of 7 bytes at most.
@@ -386,7 +446,7 @@ fn each_status_has_its_cause(rt: HostRuntime) -> Result<(), Fail> {
         (late_input, &one.told, 3),
         (late_output, &one.told, 4),
         (no_input, &[], 3),
-        (no_output, &[], 4),
+        (NO_OUTPUT, &[], 4),
         (no_disk, &[], 5),
     ];
     for row in &rows {
@@ -399,16 +459,36 @@ fn each_status_has_its_cause(rt: HostRuntime) -> Result<(), Fail> {
             told,
             status,
         };
-        leaves(&rt, &rt, case)?;
+        drop(leaves(rt, threads, case)?);
     }
+    Ok(())
+}
+
+fn try_runs<T: Threads + Wait + Sync>(rt: &HostRuntime, threads: &T) -> Result<(), Fail> {
+    let one = rows_of(rt, &[CREATE])?;
+    let tried = match rows_of(rt, &[CREATE, PEEK]) {
+        Ok(two) => {
+            let tried = try_causes(rt, threads, &one, &two);
+            drop(two);
+            tried
+        }
+        Err(fail) => Err(fail),
+    };
+    drop(one);
+    tried
+}
+
+#[test]
+fn each_status_has_its_cause(rt: HostRuntime) -> Result<(), Fail> {
+    try_runs(&rt, &rt)?;
     let checked = Case {
         words: &CHECK,
         disk: &ONE_EVENT,
-        failing: no_output,
+        failing: NO_OUTPUT,
         script: b"[",
         told: &[],
         status: 4,
     };
-    leaves(&rt, &rt, checked)?;
+    drop(leaves(&rt, &rt, checked)?);
     Ok(())
 }

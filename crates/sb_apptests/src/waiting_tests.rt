@@ -2,33 +2,32 @@
 // caller has gone the message stays.
 ghost use Rattle.std.specs.Prelude.{◌≡◌, ◌≤◌, None};
 
+use crate::calls::{called_in, sink_of, source_of};
 use crate::server_tests::SERVE;
 use crate::sharing_tests::Shares;
-use crate::tests::{ONE_EVENT, SALT};
-use sb_app::{NoWatcher, top};
-use sb_outside::{
-    Clock, Conn, Door, DoorFault, Given, MemDisk, MemSink, MemSource, NoLink, ReadFault, WriteFault,
-};
+use crate::tests::ONE_EVENT;
+use sb_app::NoWatcher;
+use sb_outside::{Clock, Conn, Door, DoorFault, Given, MemSink, NoLink, ReadFault, WriteFault};
 use sb_rest::Access;
+use std::mem;
 use std::sync::Wait;
 use std::sync::atomic::{AtomicU64, Ordering};
 use std::test::Fail;
 use std::thread::Threads;
 
-pub(crate) const RECEIVE: &[u8] = b"POST /q/messages/head HTTP/1.1\r\nHost: h\r\n\r\n";
+const RECEIVE: &[u8] = b"POST /q/messages/head HTTP/1.1\r\nHost: h\r\n\r\n";
 
 const TAKE: &[u8] = b"DELETE /q/messages/head HTTP/1.1\r\nHost: h\r\n\r\n";
 
-pub(crate) const SEND: &[u8] =
-    b"POST /q/messages HTTP/1.1\r\nHost: h\r\nContent-Length: 2\r\n\r\nhi";
+const SEND: &[u8] = b"POST /q/messages HTTP/1.1\r\nHost: h\r\nContent-Length: 2\r\n\r\nhi";
 
 // How often the clock pauses before the receive's time has passed.
 const MOST_PAUSES: u64 = 1_000_000;
 
 /// A clock that stands still, and jumps past the receive's time after a million pauses.
 #[derive(Drop)]
-pub(crate) struct Still {
-    pub(crate) pauses: AtomicU64,
+struct Still {
+    pauses: AtomicU64,
 }
 
 impl Clock for Still {
@@ -50,7 +49,7 @@ impl Clock for Still {
 /// A connection that gives its request once the clock was paused so often, ends behind its response, or
 /// before it once the clock was paused so often, and keeps what it is given.
 #[derive(Drop)]
-pub(crate) struct Late<'a> {
+struct Late<'a> {
     clock: &'a Still,
     pauses: u64,
     leaves: u64,
@@ -98,7 +97,7 @@ impl Conn for Late<'_> {
 
 /// A door with one connection.
 #[derive(Drop)]
-pub(crate) struct Single<'a> {
+struct Single<'a> {
     next: Option<Late<'a>>,
     taken: Option<Late<'a>>,
     out: u64,
@@ -131,12 +130,12 @@ impl<'a> Door for Single<'a> {
 
     fn done(&mut self, conn: Late<'a>) {
         self.out -= 1;
-        self.taken = Some(conn);
+        drop(mem::replace(&mut self.taken, Some(conn)));
     }
 }
 
 // A door whose connection gives this request once the clock was paused so often.
-pub(crate) fn door<'a>(
+fn door<'a>(
     rt: &HostRuntime,
     clock: &'a Still,
     pauses: u64,
@@ -159,7 +158,7 @@ pub(crate) fn door<'a>(
 }
 
 // Whether what the door's connection was given begins and ends so.
-pub(crate) fn is_given(door: &Single<'_>, begins: &[u8], ends: &[u8]) -> bool {
+fn is_given(door: &Single<'_>, begins: &[u8], ends: &[u8]) -> bool {
     match &door.taken {
         Some(conn) => conn.given.starts_with(begins) && conn.given.ends_with(ends),
         None => false,
@@ -167,6 +166,39 @@ pub(crate) fn is_given(door: &Single<'_>, begins: &[u8], ends: &[u8]) -> bool {
 }
 
 // Serves these doors over a queue without a message, so many a thread, and gives the status.
+fn serve_into<T: Threads + Wait + Sync>(
+    rt: &HostRuntime,
+    threads: &T,
+    clock: &Still,
+    output: &mut MemSink,
+    doors: &mut Vec<Single<'_>>,
+    share: usize,
+) -> Result<u8, Fail> {
+    let alloc = rt.alloc();
+    let mut input = source_of(alloc, &[], 1, &[])?;
+    let access = Access::unlocked(alloc);
+    let ended = called_in(
+        threads,
+        alloc,
+        &SERVE,
+        &access,
+        (&ONE_EVENT, &[]),
+        clock,
+        &mut input,
+        output,
+        doors,
+        &Shares { workers: share },
+        &mut NoLink::new(),
+        &NoWatcher,
+    );
+    drop(access);
+    drop(input);
+    let (status, disk) = ended?;
+    drop(disk);
+    Ok(status)
+}
+
+// The same, whatever is told.
 fn serve_doors<T: Threads + Wait + Sync>(
     rt: &HostRuntime,
     threads: &T,
@@ -174,43 +206,32 @@ fn serve_doors<T: Threads + Wait + Sync>(
     doors: &mut Vec<Single<'_>>,
     share: usize,
 ) -> Result<u8, Fail> {
-    let alloc = rt.alloc();
-    let disk_a = MemDisk::new(alloc, ONE_EVENT.to_vec(alloc)?, Vec::new(alloc))?;
-    let disk_b = MemDisk::new(alloc, Vec::new(alloc), Vec::new(alloc))?;
-    let mut input = MemSource::new(Vec::new(alloc), 1, Vec::new(alloc));
-    let mut output = MemSink::new(alloc, 256, Vec::new(alloc))?;
-    let (status, _disks) = top(
-        threads,
-        alloc,
-        &SERVE,
-        &Access::unlocked(alloc),
-        disk_a,
-        disk_b,
-        SALT,
-        clock,
-        &mut input,
-        &mut output,
-        doors,
-        &Shares { workers: share },
-        &[],
-        &mut NoLink::new(),
-        &NoWatcher,
-    );
-    Ok(status)
+    let mut output = sink_of(rt.alloc(), 256, &[])?;
+    let status = serve_into(rt, threads, clock, &mut output, doors, share);
+    drop(output);
+    status
 }
 
-fn tries_two<T: Threads + Wait + Sync>(
+// A receive that waits, and a send.
+fn put_two<'a>(
+    rt: &HostRuntime,
+    clock: &'a Still,
+    doors: &mut Vec<Single<'a>>,
+) -> Result<(), Fail> {
+    doors.push(door(rt, clock, 0, u64::MAX, RECEIVE))?;
+    doors.push(door(rt, clock, 1, u64::MAX, SEND))?;
+    Ok(())
+}
+
+fn serves_two<'a, T: Threads + Wait + Sync>(
     rt: &HostRuntime,
     threads: &T,
+    clock: &'a Still,
+    doors: &mut Vec<Single<'a>>,
     share: usize,
 ) -> Result<(), Fail> {
-    let clock = Still {
-        pauses: AtomicU64::new(0),
-    };
-    let mut doors = Vec::new(rt.alloc());
-    doors.push(door(rt, &clock, 0, u64::MAX, RECEIVE))?;
-    doors.push(door(rt, &clock, 1, u64::MAX, SEND))?;
-    if serve_doors(rt, threads, &clock, &mut doors, share)? != 0 {
+    put_two(rt, clock, doors)?;
+    if serve_doors(rt, threads, clock, doors, share)? != 0 {
         return Err(Fail::from("another status"));
     }
     let (Some(receiving), Some(sending)) = (doors.first(), doors.get(1)) else {
@@ -225,6 +246,20 @@ fn tries_two<T: Threads + Wait + Sync>(
     Ok(())
 }
 
+fn tries_two<T: Threads + Wait + Sync>(
+    rt: &HostRuntime,
+    threads: &T,
+    share: usize,
+) -> Result<(), Fail> {
+    let clock = Still {
+        pauses: AtomicU64::new(0),
+    };
+    let mut doors = Vec::new(rt.alloc());
+    let tried = serves_two(rt, threads, &clock, &mut doors, share);
+    drop(doors);
+    tried
+}
+
 #[test]
 fn two_connections_at_once(rt: HostRuntime) -> Result<(), Fail> {
     tries_two(&rt, &rt, 2)
@@ -236,29 +271,61 @@ fn two_connections_in_two_threads(rt: HostRuntime) -> Result<(), Fail> {
     tries_two(&rt, &rt, 1)
 }
 
-// A caller ends in the midst of its wait, then a message is sent: it stands in the queue.
-#[test]
-fn who_has_gone_takes_nothing(rt: HostRuntime) -> Result<(), Fail> {
-    let clock = Still {
-        pauses: AtomicU64::new(0),
-    };
-    let mut doors = Vec::new(rt.alloc());
-    doors.push(door(&rt, &clock, 0, 20, TAKE))?;
-    doors.push(door(&rt, &clock, 40, u64::MAX, SEND))?;
-    doors.push(door(&rt, &clock, 60, u64::MAX, TAKE))?;
-    assert_eq!(rt; serve_doors(&rt, &rt, &clock, &mut doors, 3)?, 0);
+// A receive whose caller goes, a send behind it, and another receive.
+fn put_three<'a>(
+    rt: &HostRuntime,
+    clock: &'a Still,
+    doors: &mut Vec<Single<'a>>,
+) -> Result<(), Fail> {
+    doors.push(door(rt, clock, 0, 20, TAKE))?;
+    doors.push(door(rt, clock, 40, u64::MAX, SEND))?;
+    doors.push(door(rt, clock, 60, u64::MAX, TAKE))?;
+    Ok(())
+}
+
+// The status, and whether each of the three was given what it is to be given.
+fn serves_three<'a, T: Threads + Wait + Sync>(
+    rt: &HostRuntime,
+    threads: &T,
+    clock: &'a Still,
+    doors: &mut Vec<Single<'a>>,
+) -> Result<(u8, [bool; 3]), Fail> {
+    put_three(rt, clock, doors)?;
+    let status = serve_doors(rt, threads, clock, doors, 3)?;
     let (Some(gone), Some(sending), Some(taking)) = (doors.first(), doors.get(1), doors.get(2))
     else {
         return Err(Fail::from("the doors come back"));
     };
-    assert!(rt;
+    let given = [
         is_given(
             gone,
             b"HTTP/1.1 204 No Content\r\n",
-            b"Connection: close\r\n\r\n"
-        )
-    );
-    assert!(rt; is_given(sending, b"HTTP/1.1 201 Created\r\n", b"\r\n\r\n"));
-    assert!(rt; is_given(taking, b"HTTP/1.1 200 OK\r\n", b"\r\n\r\nhi"));
+            b"Connection: close\r\n\r\n",
+        ),
+        is_given(sending, b"HTTP/1.1 201 Created\r\n", b"\r\n\r\n"),
+        is_given(taking, b"HTTP/1.1 200 OK\r\n", b"\r\n\r\nhi"),
+    ];
+    Ok((status, given))
+}
+
+fn tries_three<T: Threads + Wait + Sync>(
+    rt: &HostRuntime,
+    threads: &T,
+) -> Result<(u8, [bool; 3]), Fail> {
+    let clock = Still {
+        pauses: AtomicU64::new(0),
+    };
+    let mut doors = Vec::new(rt.alloc());
+    let tried = serves_three(rt, threads, &clock, &mut doors);
+    drop(doors);
+    tried
+}
+
+// A caller ends in the midst of its wait, then a message is sent: it stands in the queue.
+#[test]
+fn who_has_gone_takes_nothing(rt: HostRuntime) -> Result<(), Fail> {
+    let (status, given) = tries_three(&rt, &rt)?;
+    assert_eq!(rt; status, 0);
+    assert_eq!(rt; given, [true, true, true]);
     Ok(())
 }
