@@ -1,3 +1,4 @@
+pub mod Alike
 pub mod Order
 pub mod Machine
 pub mod Taking
