@@ -69,6 +69,7 @@ impl Arrivals {
 
 /// The kinds of workers that were called for some arrivals, as far as there is room for them; 0 stands for
 /// none.
+#[derive(Drop)]
 pub(crate) struct Kinds {
     kinds: [u64; KINDS],
 }
