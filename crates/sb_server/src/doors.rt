@@ -112,7 +112,7 @@ where
         &|first: usize, share: &mut [Job<D, D::Conn>]|
             requires { All (λ j. IsAtWork D.out desk.now j) share.now }
             ensures { (most i : ℕ) (d : Job D D.Conn) → i < length share.entry.now → HasPass desk.entry.now most (slice_index_or share.entry.now i d)
-                → Did (Working (ServesBy (C.reads clock.entry.now) access.entry.now limits.entry D.Conn.left D.Conn.given D.Conn.reads D.Conn.writes) D.left D.taken D.ended D.count D.out desk.entry.now most) (slice_index_or share.entry.now i d) (slice_index_or share.exit.now i d) }
+                → Did (Working (ServesBy (C.reads clock.entry.now) access.entry.now limits D.Conn.left D.Conn.given D.Conn.reads D.Conn.writes) D.left D.taken D.ended D.count D.out desk.entry.now most) (slice_index_or share.entry.now i d) (slice_index_or share.exit.now i d) }
         {
             serve_share(
                 rt, alloc, routes, access, limits, desk, clock, lobby, first, share,
