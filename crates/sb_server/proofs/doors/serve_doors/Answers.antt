@@ -29,7 +29,7 @@ for_each_chunk_mut-requires-sync-F g c κs within =
               (
                 (λ q. tt, access_sync.shared x.3.now x.3.ref_ptr.0 x.3.ref_ptr.1 _),
                 (
-                  (λ q. tt, limits_sync.shared x.4.now x.4.ref_ptr.0 x.4.ref_ptr.1 _),
+                  (λ q. tt, limits_sync.shared x.4.now x.4.ref_ptr.0 x.4.ref_ptr.1 ν),
                   (
                     (λ q. tt, d.shared x.5.now x.5.ref_ptr.0 x.5.ref_ptr.1 _),
                     ((λ q. tt, k.shared x.6.now x.6.ref_ptr.0 x.6.ref_ptr.1 _), ((λ q. tt, l.shared x.7.now x.7.ref_ptr.0 x.7.ref_ptr.1 _), tt)),
