@@ -1,5 +1,5 @@
 -- The lines of a body.
-use Rattle.std.proofs.Common.{◌≡◌, ◌≢◌, ◌⊎◌, inl, inr, ℕ, suc, ◌<◌, ◌≤◌, ◌+◌, List, [], ◌∷◌, ◌++◌, length, map, take, drop, Bool, true, false, not, nat_le, ◌&&◌, ◌||◌, ◌==◌, Option, Some, None, Err, position, append_assoc, append-nil, sym, refl, ap, ◌∙◌, subst, arith}
+use Rattle.std.proofs.Common.{◌≡◌, ◌≢◌, ◌⊎◌, inl, inr, ℕ, suc, ◌<◌, ◌≤◌, ◌+◌, List, [], ◌∷◌, ◌++◌, length, map, take, drop, Bool, true, false, not, nat_le, ◌&&◌, ◌||◌, ◌==◌, Some, None, Err, position, append_assoc, append-nil, sym, refl, ap, ◌∙◌, subst, arith}
 use Rattle.std.specs.Prelude.{if◌then◌else◌}
 use Rattle.std.specs.List.{list_any}
 use Rattle.std.proofs.lemmas.Bool.{eqb-true}
@@ -8,7 +8,7 @@ use Rattle.sb_desk.specs.Lists.{Each}
 use Rattle.sb_input.specs.Lines.{onto_first, lines_of, is_blank, NoFeed}
 use Rattle.sb_input.proofs.Splits.{lines_of-feed, lines_of-last, position-split, position-none}
 use Rattle.sb_server.specs.declared.body.LineAsk.{LineAsk}
-use Rattle.sb_server.specs.Bodies.{with_feeds, IsNextLine, are_lines, asked_by, line_in, lines_in, asked_by_each}
+use Rattle.sb_server.specs.Bodies.{with_feeds, IsNextLine, are_lines, asked_by, line_in, lines_in}
 
 -- up to the first line feed
 pub next_is : (text : List ℕ) (at : ℕ) → position (λ b. b == 10) text ≡ Some at → IsNextLine text (take at text) (drop (suc at) text)

@@ -1,6 +1,6 @@
 -- Several lines, called one after another.
-use Rattle.std.proofs.Common.{◌≡◌, ℕ, ◌≤◌, List, [], ◌∷◌, ◌++◌, length, drop, map, sym, refl, ap, ◌∙◌, subst, arith, append_assoc, append-nil, Bool, true, false, ◌||◌, Result}
-use Rattle.std.specs.List.{flat_map, list_any}
+use Rattle.std.proofs.Common.{◌≡◌, ℕ, List, [], ◌∷◌, ◌++◌, length, drop, map, sym, refl, ap, ◌∙◌, subst, arith, append_assoc, append-nil, Bool, true, false, ◌||◌, Result}
+use Rattle.std.specs.List.{flat_map}
 use Rattle.std.proofs.lemmas.Grind.{flat_map-append}
 use Rattle.std.proofs.lemmas.List.{map-append}
 use Rattle.std.proofs.lemmas.List.Folds.{list_any-append}
@@ -9,7 +9,6 @@ use Rattle.sb_machine.specs.declared.history.Entry.{Entry}
 use Rattle.sb_machine.specs.declared.reply.Answered.{Answered}
 use Rattle.sb_machine.specs.declared.reply.Refusal.{Refusal}
 use Rattle.sb_desk.specs.Desks.{Sitting}
-use Rattle.sb_desk.specs.Lists.{Each}
 use Rattle.sb_lines.specs.Replies.{answer_line}
 use Rattle.sb_lines.specs.declared.form.Form.{Form}
 use Rattle.sb_server.specs.declared.ask.Ask.TheVariants.{Lines}
@@ -17,9 +16,8 @@ use Rattle.sb_server.specs.declared.body.LineAsk.{LineAsk}
 use Rattle.sb_server.specs.declared.script.Script.{Script}
 use Rattle.sb_server.specs.declared.telling.Said.TheVariants.{Lines as OfLines}
 use Rattle.sb_server.specs.declared.telling.Telling.{Telling}
-use Rattle.sb_server.specs.declared.telling.Turn.TheVariants.{Goes}
-use Rattle.sb_server.specs.Doings.{Answers, HasCalled, IsCalling, IsCallingOn, IsSaying, IsDue, Says, telling_of}
-use Rattle.sb_server.specs.Responds.{LineCalled, IsLineCalled, AreCalled, RespondsTo, form_of, replies_to, any_stops, lines_bytes, turn_of}
+use Rattle.sb_server.specs.Doings.{Answers, HasCalled, IsCallingOn, IsSaying, IsDue, telling_of}
+use Rattle.sb_server.specs.Responds.{LineCalled, IsLineCalled, AreCalled, form_of, replies_to, any_stops, lines_bytes, turn_of}
 use Rattle.sb_server.specs.Talks.{Start, Here, ending_of}
 use Rattle.sb_server.specs.Waiting.{GoesBy}
 use Rattle.sb_server.proofs.Bodies.{each_snoc}

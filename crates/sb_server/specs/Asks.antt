@@ -1,5 +1,5 @@
 -- What a request asks for, and whether its connection ends with the response.
-use Rattle.std.specs.Prelude.{◌≡◌, ℕ, ◌*◌, ◌-◌, ◌^◌, min, List, [], length, take, drop, codes, Bool, true, false, not, ◌&&◌, ◌||◌, ◌==◌, is_none, Result, Ok, Err}
+use Rattle.std.specs.Prelude.{◌≡◌, ℕ, ◌*◌, ◌-◌, ◌^◌, min, List, length, take, drop, codes, Bool, true, false, not, ◌&&◌, ◌||◌, ◌==◌, is_none, Result, Ok, Err}
 use Rattle.std.specs.List.{list_all, list_any, position_or_len}
 use Rattle.form_urlencoded.specs.Form.{split}
 use Rattle.sb_machine.specs.Ordered.{IsActInOrder}
