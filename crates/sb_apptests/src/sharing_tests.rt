@@ -1,11 +1,10 @@
 // Eight doors whose workers are shared among one, two, four and eight threads: each connection is given its
 // responses, and all sends stand in one history.
+use crate::calls::{called_in, connection_of, sink_of, source_of};
 use crate::server_tests::{SEND, SENT, SERVE};
-use crate::tests::{ONE_EVENT, SALT};
-use sb_app::{NoWatcher, top};
-use sb_outside::{
-    Clock, Lobby, MemConn, MemDisk, MemDoor, MemSink, MemSource, NoLink, PauseLobby, StepClock,
-};
+use crate::tests::ONE_EVENT;
+use sb_app::NoWatcher;
+use sb_outside::{Clock, Lobby, MemDoor, MemSink, NoLink, PauseLobby, StepClock};
 use sb_rest::Access;
 use std::sync::Wait;
 use std::test::Fail;
@@ -47,16 +46,24 @@ const DOORS: usize = 8;
 
 const SENDS: usize = 4;
 
-// A door with one connection that sends its messages.
-fn sending_door(rt: &HostRuntime) -> Result<MemDoor, Fail> {
-    let alloc = rt.alloc();
-    let mut bytes = Vec::new(alloc);
+const REPORT: &[u8] = b"{\"changing\":32,\"entries\":32,\"ok\":\"report\",\"refused\":0}\n";
+
+// The requests of one connection.
+fn requests(rt: &HostRuntime) -> Result<Vec<u8>, Fail> {
+    let mut bytes = Vec::new(rt.alloc());
     for _ in 0..SENDS {
         bytes.extend_from_slice(SEND.as_bytes())?;
     }
-    let source = MemSource::new(bytes, 4096, Vec::new(alloc));
-    let sink = MemSink::new(alloc, 4096, Vec::new(alloc))?;
-    let conns = vec![in alloc; MemConn::new(source, sink)]?;
+    Ok(bytes)
+}
+
+// A door with one connection that sends its messages.
+fn sending_door(rt: &HostRuntime) -> Result<MemDoor, Fail> {
+    let alloc = rt.alloc();
+    let bytes = requests(rt)?;
+    let made = connection_of(alloc, bytes.as_slice(), 4096);
+    drop(bytes);
+    let conns = vec![in alloc; made?]?;
     Ok(MemDoor::new(alloc, conns, Vec::new(alloc))?)
 }
 
@@ -75,47 +82,75 @@ fn is_answered(door: &MemDoor) -> bool {
     left.is_empty()
 }
 
-// Serves the doors, so many workers a thread.
+fn sending_doors(rt: &HostRuntime) -> Result<Vec<MemDoor>, Fail> {
+    let mut doors = Vec::new(rt.alloc());
+    for _ in 0..DOORS {
+        doors.push(sending_door(rt)?)?;
+    }
+    Ok(doors)
+}
+
+// Serves the doors, so many workers a thread, and gives the status.
+fn serve_into<T: Threads + Wait + Sync>(
+    rt: &HostRuntime,
+    threads: &T,
+    output: &mut MemSink,
+    doors: &mut Vec<MemDoor>,
+    workers: usize,
+) -> Result<u8, Fail> {
+    let alloc = rt.alloc();
+    let mut input = source_of(alloc, &[], 1, &[])?;
+    let access = Access::unlocked(alloc);
+    let clock = StepClock::new(1000, 0);
+    let ended = called_in(
+        threads,
+        alloc,
+        &SERVE,
+        &access,
+        (&ONE_EVENT, &[]),
+        &clock,
+        &mut input,
+        output,
+        doors,
+        &Shares { workers },
+        &mut NoLink::new(),
+        &NoWatcher,
+    );
+    drop(clock);
+    drop(access);
+    drop(input);
+    let (status, disk) = ended?;
+    drop(disk);
+    Ok(status)
+}
+
+// The status, and whether these are the numbers told.
+fn status_of<T: Threads + Wait + Sync>(
+    rt: &HostRuntime,
+    threads: &T,
+    doors: &mut Vec<MemDoor>,
+    workers: usize,
+) -> Result<(u8, bool), Fail> {
+    let mut output = sink_of(rt.alloc(), 256, &[])?;
+    let status = serve_into(rt, threads, &mut output, doors, workers);
+    let is_told = output.bytes() == REPORT;
+    drop(output);
+    Ok((status?, is_told))
+}
+
 fn serves<T: Threads + Wait + Sync>(
     rt: &HostRuntime,
     threads: &T,
     workers: usize,
 ) -> Result<(), Fail> {
-    let alloc = rt.alloc();
-    let mut doors = Vec::new(alloc);
-    for _ in 0..DOORS {
-        doors.push(sending_door(rt)?)?;
-    }
-    let disk_a = MemDisk::new(alloc, ONE_EVENT.to_vec(alloc)?, Vec::new(alloc))?;
-    let disk_b = MemDisk::new(alloc, Vec::new(alloc), Vec::new(alloc))?;
-    let mut input = MemSource::new(Vec::new(alloc), 1, Vec::new(alloc));
-    let mut output = MemSink::new(alloc, 256, Vec::new(alloc))?;
-    let (status, _disks) = top(
-        threads,
-        alloc,
-        &SERVE,
-        &Access::unlocked(alloc),
-        disk_a,
-        disk_b,
-        SALT,
-        &StepClock::new(1000, 0),
-        &mut input,
-        &mut output,
-        &mut doors,
-        &Shares { workers },
-        &[],
-        &mut NoLink::new(),
-        &NoWatcher,
-    );
-    if status != 0 {
-        return Err(Fail::from("another status"));
-    }
-    if output.bytes() != b"{\"changing\":32,\"entries\":32,\"ok\":\"report\",\"refused\":0}\n" {
-        return Err(Fail::from("another report"));
-    }
-    if !doors.iter().all(is_answered) {
-        return Err(Fail::from("a connection wasn't answered"));
-    }
+    let mut doors = sending_doors(rt)?;
+    let served = status_of(rt, threads, &mut doors, workers);
+    let are_answered = doors.iter().all(is_answered);
+    drop(doors);
+    let (status, is_told) = served?;
+    assert_eq!(rt; status, 0);
+    assert!(rt; is_told);
+    assert!(rt; are_answered);
     Ok(())
 }
 

@@ -15,19 +15,20 @@ use std::sync::atomic::{AtomicU64, Ordering};
 use std::test::Fail;
 use std::thread::Threads;
 
-const RECEIVE: &[u8] = b"POST /q/messages/head HTTP/1.1\r\nHost: h\r\n\r\n";
+pub(crate) const RECEIVE: &[u8] = b"POST /q/messages/head HTTP/1.1\r\nHost: h\r\n\r\n";
 
 const TAKE: &[u8] = b"DELETE /q/messages/head HTTP/1.1\r\nHost: h\r\n\r\n";
 
-const SEND: &[u8] = b"POST /q/messages HTTP/1.1\r\nHost: h\r\nContent-Length: 2\r\n\r\nhi";
+pub(crate) const SEND: &[u8] =
+    b"POST /q/messages HTTP/1.1\r\nHost: h\r\nContent-Length: 2\r\n\r\nhi";
 
 // How often the clock pauses before the receive's time has passed.
 const MOST_PAUSES: u64 = 1_000_000;
 
 /// A clock that stands still, and jumps past the receive's time after a million pauses.
 #[derive(Drop)]
-struct Still {
-    pauses: AtomicU64,
+pub(crate) struct Still {
+    pub(crate) pauses: AtomicU64,
 }
 
 impl Clock for Still {
@@ -97,7 +98,7 @@ impl Conn for Late<'_> {
 
 /// A door with one connection.
 #[derive(Drop)]
-struct Single<'a> {
+pub(crate) struct Single<'a> {
     next: Option<Late<'a>>,
     taken: Option<Late<'a>>,
     out: u64,
@@ -135,7 +136,7 @@ impl<'a> Door for Single<'a> {
 }
 
 // A door whose connection gives this request once the clock was paused so often.
-fn door<'a>(
+pub(crate) fn door<'a>(
     rt: &HostRuntime,
     clock: &'a Still,
     pauses: u64,
@@ -158,7 +159,7 @@ fn door<'a>(
 }
 
 // Whether what the door's connection was given begins and ends so.
-fn is_given(door: &Single<'_>, begins: &[u8], ends: &[u8]) -> bool {
+pub(crate) fn is_given(door: &Single<'_>, begins: &[u8], ends: &[u8]) -> bool {
     match &door.taken {
         Some(conn) => conn.given.starts_with(begins) && conn.given.ends_with(ends),
         None => false,

@@ -1,12 +1,15 @@
 // A receive that waits is asked again when a message comes for its entity, and by no other message.
+use crate::calls::{called_in, sink_of, source_of};
 use crate::server_tests::SERVE;
-use crate::tests::{ONE_EVENT, SALT};
+use crate::tests::ONE_EVENT;
 use crate::waiting_tests::{RECEIVE, SEND, Single, Still, door, is_given};
-use sb_app::{NoWatcher, top};
-use sb_outside::{Clock, Lobby, MemDisk, MemSink, MemSource, NoLink};
+use sb_app::NoWatcher;
+use sb_outside::{Clock, Lobby, MemSink, NoLink};
 use sb_rest::Access;
+use std::sync::Wait;
 use std::sync::atomic::{AtomicBool, AtomicU64, Ordering};
 use std::test::Fail;
+use std::thread::Threads;
 
 const CREATE: &[u8] =
     b"POST /$script HTTP/1.1\r\nHost: h\r\nContent-Length: 32\r\n\r\n{\"do\":\"create-queue\",\"name\":\"r\"}";
@@ -99,57 +102,118 @@ impl Lobby for Hearing {
     }
 }
 
-// Serves these doors over a queue without a message: the status, and whether these are the numbers told.
-fn is_told(
-    rt: &HostRuntime,
-    clock: &Still,
-    doors: &mut Vec<Single<'_>>,
-    told: &[u8],
-) -> Result<bool, Fail> {
-    let alloc = rt.alloc();
-    let disk_a = MemDisk::new(alloc, ONE_EVENT.to_vec(alloc)?, Vec::new(alloc))?;
-    let disk_b = MemDisk::new(alloc, Vec::new(alloc), Vec::new(alloc))?;
-    let mut input = MemSource::new(Vec::new(alloc), 1, Vec::new(alloc));
-    let mut output = MemSink::new(alloc, 256, Vec::new(alloc))?;
-    let mut workers = Vec::new(alloc);
-    for _ in 0..doors.len() {
+// A lobby for so many workers.
+fn hearing(rt: &HostRuntime, count: usize) -> Result<Hearing, Fail> {
+    let mut workers = Vec::new(rt.alloc());
+    for _ in 0..count {
         workers.push(Worker::new())?;
     }
-    let (status, _disks) = top(
-        rt,
+    Ok(Hearing { workers })
+}
+
+// Serves these doors over a queue without a message, and gives the status.
+fn serve_into<T: Threads + Wait + Sync>(
+    rt: &HostRuntime,
+    threads: &T,
+    clock: &Still,
+    lobby: &Hearing,
+    output: &mut MemSink,
+    doors: &mut Vec<Single<'_>>,
+) -> Result<u8, Fail> {
+    let alloc = rt.alloc();
+    let mut input = source_of(alloc, &[], 1, &[])?;
+    let access = Access::unlocked(alloc);
+    let ended = called_in(
+        threads,
         alloc,
         &SERVE,
-        &Access::unlocked(alloc),
-        disk_a,
-        disk_b,
-        SALT,
+        &access,
+        (&ONE_EVENT, &[]),
         clock,
         &mut input,
-        &mut output,
+        output,
         doors,
-        &Hearing { workers },
-        &[],
+        lobby,
         &mut NoLink::new(),
         &NoWatcher,
     );
-    Ok(status == 0 && output.bytes() == told)
+    drop(access);
+    drop(input);
+    let (status, disk) = ended?;
+    drop(disk);
+    Ok(status)
 }
 
-#[test]
-fn a_receive_is_woken_by_its_own_message(rt: HostRuntime) -> Result<(), Fail> {
+// The status, and whether the numbers are told.
+fn status_of<T: Threads + Wait + Sync>(
+    rt: &HostRuntime,
+    threads: &T,
+    clock: &Still,
+    doors: &mut Vec<Single<'_>>,
+) -> Result<(u8, bool), Fail> {
+    let lobby = hearing(rt, doors.len())?;
+    let mut output = sink_of(rt.alloc(), 256, &[])?;
+    let status = serve_into(rt, threads, clock, &lobby, &mut output, doors);
+    let is_told = output.bytes() == TOLD;
+    drop(output);
+    drop(lobby);
+    Ok((status?, is_told))
+}
+
+fn put_four<'a>(
+    rt: &HostRuntime,
+    clock: &'a Still,
+    doors: &mut Vec<Single<'a>>,
+) -> Result<(), Fail> {
+    doors.push(door(rt, clock, 0, u64::MAX, RECEIVE))?;
+    doors.push(door(rt, clock, 20, u64::MAX, CREATE))?;
+    doors.push(door(rt, clock, 40, u64::MAX, SEND_BESIDE))?;
+    doors.push(door(rt, clock, 60, u64::MAX, SEND))?;
+    Ok(())
+}
+
+// The status, whether the numbers are told, and whether the receive has its message.
+fn serves_four<'a, T: Threads + Wait + Sync>(
+    rt: &HostRuntime,
+    threads: &T,
+    clock: &'a Still,
+    doors: &mut Vec<Single<'a>>,
+) -> Result<(u8, bool, bool), Fail> {
+    put_four(rt, clock, doors)?;
+    let (status, is_told) = status_of(rt, threads, clock, doors)?;
+    let Some(receiving) = doors.first() else {
+        return Err(Fail::from("the doors come back"));
+    };
+    let is_received = is_given(receiving, b"HTTP/1.1 201 Created\r\n", b"\r\n\r\nhi");
+    Ok((status, is_told, is_received))
+}
+
+// The same, and after how many pauses.
+fn tries_four<T: Threads + Wait + Sync>(
+    rt: &HostRuntime,
+    threads: &T,
+) -> Result<(u8, bool, bool, u64), Fail> {
     let clock = Still {
         pauses: AtomicU64::new(0),
     };
     let mut doors = Vec::new(rt.alloc());
-    doors.push(door(&rt, &clock, 0, u64::MAX, RECEIVE))?;
-    doors.push(door(&rt, &clock, 20, u64::MAX, CREATE))?;
-    doors.push(door(&rt, &clock, 40, u64::MAX, SEND_BESIDE))?;
-    doors.push(door(&rt, &clock, 60, u64::MAX, SEND))?;
-    assert!(rt; is_told(&rt, &clock, &mut doors, TOLD)?);
-    assert!(rt; clock.pauses.load(Ordering::SeqCst) < 1000);
-    let Some(receiving) = doors.first() else {
-        return Err(Fail::from("the doors come back"));
-    };
-    assert!(rt; is_given(receiving, b"HTTP/1.1 201 Created\r\n", b"\r\n\r\nhi"));
+    let tried = serves_four(rt, threads, &clock, &mut doors);
+    drop(doors);
+    let (status, is_told, is_received) = tried?;
+    Ok((
+        status,
+        is_told,
+        is_received,
+        clock.pauses.load(Ordering::SeqCst),
+    ))
+}
+
+#[test]
+fn a_receive_is_woken_by_its_own_message(rt: HostRuntime) -> Result<(), Fail> {
+    let (status, is_told, is_received, pauses) = tries_four(&rt, &rt)?;
+    assert_eq!(rt; status, 0);
+    assert!(rt; is_told);
+    assert!(rt; is_received);
+    assert!(rt; pauses < 1000);
     Ok(())
 }
