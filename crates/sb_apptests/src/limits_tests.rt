@@ -1,12 +1,10 @@
 // Callers that are slower than the limits of time, and some that are just fast enough.
 ghost use Rattle.std.specs.Prelude.{None};
 
-use crate::tests::{ONE_EVENT, SALT};
-use sb_app::{NoWatcher, top};
-use sb_outside::{
-    Clock, Conn, Door, DoorFault, Given, MemDisk, MemSink, MemSource, NoLink, PauseLobby,
-    ReadFault, WriteFault,
-};
+use crate::calls::{called, sink_of, source_of};
+use crate::tests::ONE_EVENT;
+use sb_app::NoWatcher;
+use sb_outside::{Clock, Conn, Door, DoorFault, Given, MemSink, NoLink, ReadFault, WriteFault};
 use sb_rest::Access;
 use std::sync::Wait;
 use std::sync::atomic::{AtomicU64, Ordering};
@@ -233,11 +231,13 @@ fn door<'a>(rt: &HostRuntime, clock: &'a Seconds, case: Case<'a>) -> Single<'a> 
     }
 }
 
-fn serve_one<T: Threads + Wait + Sync>(
+// Serves these doors over a queue without a message, and gives the status.
+fn serve_into<T: Threads + Wait + Sync>(
     rt: &HostRuntime,
     threads: &T,
     clock: &Seconds,
     case: Case<'_>,
+    output: &mut MemSink,
     doors: &mut Vec<Single<'_>>,
 ) -> Result<u8, Fail> {
     let alloc = rt.alloc();
@@ -248,28 +248,67 @@ fn serve_one<T: Threads + Wait + Sync>(
         case.request_time,
         case.idle_time,
     ];
-    let disk_a = MemDisk::new(alloc, ONE_EVENT.to_vec(alloc)?, Vec::new(alloc))?;
-    let disk_b = MemDisk::new(alloc, Vec::new(alloc), Vec::new(alloc))?;
-    let mut input = MemSource::new(Vec::new(alloc), 1, Vec::new(alloc));
-    let mut output = MemSink::new(alloc, 256, Vec::new(alloc))?;
-    let (status, _disks) = top(
+    let mut input = source_of(alloc, &[], 1, &[])?;
+    let access = Access::unlocked(alloc);
+    let ended = called(
         threads,
         alloc,
         &words,
-        &Access::unlocked(alloc),
-        disk_a,
-        disk_b,
-        SALT,
+        &access,
+        (&ONE_EVENT, &[]),
         clock,
         &mut input,
-        &mut output,
+        output,
         doors,
-        &PauseLobby,
-        &[],
         &mut NoLink::new(),
         &NoWatcher,
     );
+    drop(access);
+    drop(input);
+    let (status, disk) = ended?;
+    drop(disk);
     Ok(status)
+}
+
+// The same, whatever is told.
+fn serve_one<T: Threads + Wait + Sync>(
+    rt: &HostRuntime,
+    threads: &T,
+    clock: &Seconds,
+    case: Case<'_>,
+    doors: &mut Vec<Single<'_>>,
+) -> Result<u8, Fail> {
+    let mut output = sink_of(rt.alloc(), 256, &[])?;
+    let status = serve_into(rt, threads, clock, case, &mut output, doors);
+    drop(output);
+    status
+}
+
+// Whether the door's connection was given what it should be, and in which second it was over.
+fn outcome_of(door: &Single<'_>, case: Case<'_>) -> Result<(bool, u64), Fail> {
+    let Some(conn) = &door.taken else {
+        return Err(Fail::from("the connection comes back"));
+    };
+    let is_given = conn.given.starts_with(case.given)
+        && conn.given.is_empty() == case.given.is_empty();
+    Ok((is_given, door.taken_ms.saturating_sub(1000) / 1000))
+}
+
+fn serves_case<'a, T: Threads + Wait + Sync>(
+    rt: &HostRuntime,
+    threads: &T,
+    clock: &'a Seconds,
+    case: Case<'a>,
+    doors: &mut Vec<Single<'a>>,
+) -> Result<(bool, u64), Fail> {
+    doors.push(door(rt, clock, case))?;
+    if serve_one(rt, threads, clock, case, doors)? != 0 {
+        return Err(Fail::from("another status"));
+    }
+    match doors.first() {
+        Some(door) => outcome_of(door, case),
+        None => Err(Fail::from("the door comes back")),
+    }
 }
 
 // Whether it was given what it should be, and in which second it was over.
@@ -282,19 +321,9 @@ fn tries<T: Threads + Wait + Sync>(
         now: AtomicU64::new(1000),
     };
     let mut doors = Vec::new(rt.alloc());
-    doors.push(door(rt, &clock, case))?;
-    if serve_one(rt, threads, &clock, case, &mut doors)? != 0 {
-        return Err(Fail::from("another status"));
-    }
-    let Some(door) = doors.first() else {
-        return Err(Fail::from("the door comes back"));
-    };
-    let Some(conn) = &door.taken else {
-        return Err(Fail::from("the connection comes back"));
-    };
-    let is_given = conn.given.starts_with(case.given)
-        && conn.given.is_empty() == case.given.is_empty();
-    Ok((is_given, door.taken_ms.saturating_sub(1000) / 1000))
+    let tried = serves_case(rt, threads, &clock, case, &mut doors);
+    drop(doors);
+    tried
 }
 
 #[test]

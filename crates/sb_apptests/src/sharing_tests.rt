@@ -138,26 +138,27 @@ fn status_of<T: Threads + Wait + Sync>(
     Ok((status?, is_told))
 }
 
+// The status, whether the numbers are told, and whether each connection is answered.
 fn serves<T: Threads + Wait + Sync>(
     rt: &HostRuntime,
     threads: &T,
     workers: usize,
-) -> Result<(), Fail> {
+) -> Result<(u8, bool, bool), Fail> {
     let mut doors = sending_doors(rt)?;
     let served = status_of(rt, threads, &mut doors, workers);
     let are_answered = doors.iter().all(is_answered);
     drop(doors);
     let (status, is_told) = served?;
-    assert_eq!(rt; status, 0);
-    assert!(rt; is_told);
-    assert!(rt; are_answered);
-    Ok(())
+    Ok((status, is_told, are_answered))
 }
 
 #[test]
 fn doors_are_shared_among_threads(rt: HostRuntime) -> Result<(), Fail> {
     for workers in [8, 4, 2, 1, 3, 0] {
-        serves(&rt, &rt, workers)?;
+        let (status, is_told, are_answered) = serves(&rt, &rt, workers)?;
+        assert_eq!(rt; status, 0);
+        assert!(rt; is_told);
+        assert!(rt; are_answered);
     }
     Ok(())
 }

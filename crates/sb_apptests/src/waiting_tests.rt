@@ -50,7 +50,7 @@ impl Clock for Still {
 /// A connection that gives its request once the clock was paused so often, ends behind its response, or
 /// before it once the clock was paused so often, and keeps what it is given.
 #[derive(Drop)]
-struct Late<'a> {
+pub(crate) struct Late<'a> {
     clock: &'a Still,
     pauses: u64,
     leaves: u64,
