@@ -103,7 +103,7 @@ impl Lobby for Hearing {
 }
 
 // A lobby for so many workers.
-fn hearing(rt: &HostRuntime, count: usize) -> Result<Hearing, Fail> {
+fn lobby_for(rt: &HostRuntime, count: usize) -> Result<Hearing, Fail> {
     let mut workers = Vec::new(rt.alloc());
     for _ in 0..count {
         workers.push(Worker::new())?;
@@ -151,7 +151,7 @@ fn status_of<T: Threads + Wait + Sync>(
     clock: &Still,
     doors: &mut Vec<Single<'_>>,
 ) -> Result<(u8, bool), Fail> {
-    let lobby = hearing(rt, doors.len())?;
+    let lobby = lobby_for(rt, doors.len())?;
     let mut output = sink_of(rt.alloc(), 256, &[])?;
     let status = serve_into(rt, threads, clock, &lobby, &mut output, doors);
     let is_told = output.bytes() == TOLD;
