@@ -9,6 +9,7 @@ the case that it goes on over. Tokens stand there under one salt, which is put i
 own. The exit status is 1 where a line is answered otherwise.
 """
 import os
+import re
 import subprocess
 import sys
 import tempfile
@@ -20,6 +21,12 @@ SALT = "a1b2c3d4-e5f6-0718"
 ROWS = os.path.join(lib.TOP, "crates", "sb_rows", "data", "scripts", "acts.rows")
 
 
+def plain(text):
+    """A line as it is sent: `<<COUNT*HEX>>` stands for so many times the bytes with these digits, `<<HEX>>` for one."""
+    bytes_of = lambda found: int(found[1] or 1) * bytes.fromhex(found[2]).decode()
+    return re.sub(r"<<(?:(\d+)\*)?([0-9a-f]+)>>", bytes_of, text)
+
+
 class Case:
     """A script: its name, the case that it goes on over, its lines with their answers, and its status."""
 
@@ -28,14 +35,14 @@ class Case:
 
     def take(self, key, value):
         if key == ">":
-            self.asked.append(value)
+            self.asked.append(plain(value))
         elif key == "<":
             self.told.append(value)
         elif key == "over":
             self.over = value
         elif key == "status":
             self.status = int(value)
-        else:
+        elif key != "pieces":  # how a run over memory reads its input
             sys.exit(f"{self.name}: no key {key} here")
 
 

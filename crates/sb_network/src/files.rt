@@ -16,7 +16,7 @@ const OPEN_FILES: &str = "Max open files";
 const BESIDE: u64 = 24;
 
 // A thread's wait has so many files.
-const A_THREAD: u64 = 2;
+const A_THREAD: u64 = 3;
 
 /// How many files the process may have open, where the system says it and has such a limit.
 pub fn files_allowed<R: Files + Alloc>(rt: &R) -> Option<u64> {

@@ -24,8 +24,8 @@ fn files_are_counted(rt: HostRuntime) -> Result<(), Fail> {
         None
     );
     assert_eq!(rt; limit_in("Max processes             7 "), None);
-    assert_eq!(rt; places_within(1024, 1024, 4), 992);
-    assert_eq!(rt; places_within(1056, 1024, 4), 1024);
+    assert_eq!(rt; places_within(1024, 1024, 4), 988);
+    assert_eq!(rt; places_within(1060, 1024, 4), 1024);
     assert_eq!(rt; places_within(3, 1024, 4), 1);
     Ok(())
 }
