@@ -11,12 +11,15 @@ use std::sync::Arc;
 
 /// A connection of a place. It tells no content. Each error of the system is a counted fault, and so is
 /// a write that takes nothing, and one that has found for 60 seconds that the other side takes nothing. The
-/// system is asked for bytes only where something has come since a read took all that was there.
+/// system is asked for bytes only where something has come since a read took all that was there, but each
+/// time while a request is being answered: such a read tells whether the caller of a receive has gone.
 #[derive(Drop)]
 pub struct Caller<R: std::rt::Clock + Drop> {
     stream: TcpStream,
     hall: Arc<Hall<R>>,
     place: usize,
+    // A request is being answered.
+    asked: bool,
     read_faults: u64,
     write_faults: u64,
 }
@@ -31,6 +34,7 @@ impl<R: std::rt::Clock + Drop> Caller<R> {
             stream,
             hall,
             place,
+            asked: false,
             read_faults: 0,
             write_faults: 0,
         };
@@ -45,8 +49,11 @@ impl<R: std::rt::Clock + Drop> Caller<R> {
         self.hall.seat(self.place)
     }
 
-    // Whether a read may find something.
+    // Whether a read may find something, or is made anyway.
     fn may_read(&self) -> bool {
+        if self.asked {
+            return true;
+        }
         match self.seat() {
             Some(seat) => seat.may_read(),
             None => true,
@@ -133,7 +140,11 @@ impl<R: std::rt::Clock + Drop> Conn for Caller<R> {
         }
     }
 
-    fn asked(&mut self, _method: &[u8], _path: &[u8]) {}
+    fn asked(&mut self, _method: &[u8], _path: &[u8]) {
+        self.asked = true;
+    }
 
-    fn answered(&mut self, _response: &[u8]) {}
+    fn answered(&mut self, _response: &[u8]) {
+        self.asked = false;
+    }
 }
