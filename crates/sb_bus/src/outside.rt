@@ -15,7 +15,7 @@ use sb_words::{Command, Form, WordsFault, asked_text, fault_text, read_form};
 use std::alloc::{AllocError, Global};
 use std::io::Eprint;
 use std::sync::Wait;
-use std::thread::{Threads, available_parallelism};
+use std::thread::Threads;
 use std::time::Duration;
 use std::{env, io};
 
@@ -27,9 +27,6 @@ const OUTPUT_FAILED: u8 = 4;
 
 // The status for want of memory.
 const NO_MEMORY: u8 = 7;
-
-// In how many threads a server serves at most where words name no number.
-const USUAL_THREADS: usize = 4;
 
 const NANOS_A_SECOND: u64 = 1_000_000_000;
 
@@ -154,7 +151,7 @@ fn access_of(rt: &HostRuntime, form: &Form, key: &[u8]) -> io::Result<Access> {
 // A server over the files of a folder, with a door for each worker over one listener.
 fn over_listener<T: Threads + Wait + Sync>(call: &Call<T>, form: &Form) -> u8 {
     let (rt, port) = (call.rt, form.port);
-    let threads = threads_for(call.threads, form);
+    let threads = threads_for(form);
     let places = usize::from(places_for(rt, form.workers, threads));
     let bound = open_halls(rt, rt.alloc(), port, places, usize::from(threads));
     if let Err(error) = &bound {
@@ -198,18 +195,10 @@ fn logging<S: Eprint + std::rt::Clock + Copy + Drop>(
     Ok(doors)
 }
 
-// In how many threads a server serves: as many as the words name, else as many as there are processors, up
-// to 4; and no more than there are workers.
-fn threads_for<T: Threads>(threads: &T, form: &Form) -> u16 {
-    if form.threads > 0 {
-        return form.threads.min(form.workers);
-    }
-    let processors = match available_parallelism(threads) {
-        Ok(count) => count.get(),
-        Err(_) => 1,
-    };
-    let usual = processors.min(USUAL_THREADS) as u16;
-    usual.min(form.workers)
+// In how many threads a server serves: as many as the words name, else in one; and no more than there are
+// workers.
+fn threads_for(form: &Form) -> u16 {
+    form.threads.max(1).min(form.workers)
 }
 
 // How many of so many workers have files for their connections, in so many threads. Where these are fewer, a

@@ -202,7 +202,7 @@ fn plain_server<'a>(alloc: Global) -> Result<clap::Command<'a>, AllocError>
         alloc,
         "threads",
         "M",
-        "In how many threads, each with its share of them: 1 to 64 [default: as many as there are processors, up to 4]",
+        "In how many threads, each with its share of them: 1 to 64 [default: 1]",
     );
     let about = "Answer the requests of connections";
     let example = "Example: bus serve --data data --port 8080";
