@@ -29,7 +29,7 @@ struct Worker {
 impl Worker {
     fn new() -> Worker {
         Worker {
-            called: AtomicBool::new(true),
+            called: AtomicBool::new(false),
             mark: AtomicU64::new(0),
         }
     }
