@@ -276,7 +276,7 @@ def caller_who_takes_nothing(program):
 
 def out_of_files(program):
     """Three workers and files for two connections: the third is told once, and taken when one of them has ended."""
-    words, most = ["--workers", "3", "--threads", "1"], 29  # what three workers may come to
+    words, most = ["--workers", "3", "--threads", "1"], 30  # what three workers may come to
     with tempfile.TemporaryDirectory() as folder:
         said = os.path.join(folder, "said")
         with open(said, "wb") as stderr:
