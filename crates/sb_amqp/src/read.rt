@@ -16,14 +16,14 @@ use crate::taken::section_at;
 use crate::texts::plain_text;
 use crate::unread::Unread;
 use crate::values::{Kind, content_of, extent_at, is_list, is_map, item_bytes, kind_of};
-use sb_model::{Message, Rows};
+use sb_model::{Body, Message, Rows};
 use std::alloc::{AllocError, Global};
 
 fn no_message(alloc: Global) -> Message
     ensures { result ≡ meaning.no_message }
 {
     Message {
-        body: Rows::new(alloc),
+        body: Body::new(),
         sys: Rows::new(alloc),
         props: Rows::new(alloc),
         ttl: None,
@@ -31,15 +31,7 @@ fn no_message(alloc: Global) -> Message
     }
 }
 
-fn with_bytes(body: Rows<u8>, more: &[u8]) -> Result<Rows<u8>, AllocError>
-    ensures { IfOk result (λ r. r ≡ body ++ more.now) }
-{
-    let mut bytes = body.into_vec();
-    bytes.extend_from_slice(more)?;
-    Ok(Rows::from_vec(bytes))
-}
-
-fn with_body(more: &[u8], message: Message) -> Result<Message, AllocError>
+fn with_body(alloc: Global, more: &[u8], message: Message) -> Result<Message, AllocError>
     ensures { IfOk result (λ m. m ≡ meaning.with_body more.now message) }
 {
     let Message {
@@ -49,9 +41,8 @@ fn with_body(more: &[u8], message: Message) -> Result<Message, AllocError>
         ttl,
         schedule,
     } = message;
-    let body = with_bytes(body, more)?;
     Ok(Message {
-        body,
+        body: body.with(alloc, more)?,
         sys,
         props,
         ttl,
@@ -83,14 +74,20 @@ fn body_from(code: u8, kind: Kind, content: &[u8]) -> Option<&[u8]>
     }
 }
 
-fn say_body(code: u8, value: &[u8], message: Message, left: usize) -> Result<Message, Unread>
+fn say_body(
+    alloc: Global,
+    code: u8,
+    value: &[u8],
+    message: Message,
+    left: usize,
+) -> Result<Message, Unread>
     ensures { Says result (meaning.body_says code value.now message left) }
 {
     let Some(bytes) = body_from(code, kind_of(value), content_of(value)) else {
         drop(message);
         return Err(Unread::At(left));
     };
-    Ok(with_body(bytes, message)?)
+    Ok(with_body(alloc, bytes, message)?)
 }
 
 /// What the items of a list or a map add, where the value is one.
@@ -127,7 +124,7 @@ fn say_section(
     } else if code == ANNOTATIONS || code == APPLICATION {
         say_items_if(alloc, is_map(kind_of(value)), code, value, message, rest)
     } else if code == DATA || code == VALUE {
-        say_body(code, value, message, value.len() + rest.len())
+        say_body(alloc, code, value, message, value.len() + rest.len())
     } else if code == SEQUENCE {
         drop(message);
         Err(Unread::At(value.len() + rest.len()))

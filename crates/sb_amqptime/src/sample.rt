@@ -1,5 +1,5 @@
 // A message with all kinds of fields.
-use sb_model::{Message, Property, PropertyValue, Rows, SystemName, SystemText, Text};
+use sb_model::{Body, Message, Property, PropertyValue, Rows, SystemName, SystemText, Text};
 use std::alloc::{AllocError, Global};
 
 const TEXTS: [(SystemName, &str); 5] = [
@@ -24,7 +24,7 @@ const PROPERTIES: [(&str, &str); 8] = [
 /// A message with a body of so many bytes, ten user properties, five system texts and a time to live.
 pub fn sample(alloc: Global, size: u32) -> Result<Message, AllocError> {
     Ok(Message {
-        body: Rows::from_vec(vec![in alloc; 0x78; size as usize]?),
+        body: Body::from_vec(vec![in alloc; 0x78; size as usize]?)?,
         sys: texts(alloc)?,
         props: properties(alloc)?,
         ttl: Some(3600),

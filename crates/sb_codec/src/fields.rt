@@ -7,7 +7,7 @@ ghost use Rattle.sb_codec.specs.Forms.{Form, Puts};
 
 use crate::piece::Piece;
 use crate::unread::Unread;
-use sb_model::{Rows, Text};
+use sb_model::{Body, Rows, Text};
 use std::alloc::{AllocError, Global};
 use std::marker::PhantomData;
 
@@ -93,6 +93,24 @@ impl Piece for Blob {
     fn take(alloc: Global, bytes: &[u8]) -> Result<(Rows<u8>, &[u8]), Unread> {
         let (content, rest) = sized_of(alloc, bytes)?;
         Ok((Rows::of(alloc, content)?, rest))
+    }
+}
+
+/// The same bytes, as those of a message.
+pub(crate) struct Shared;
+
+impl Piece for Shared {
+    type Value = Body;
+
+    ghost form = { forms.blob };
+
+    fn put(value: &Body, out: &mut Vec<u8>) -> Result<(), AllocError> {
+        put_sized(value.as_slice(), out)
+    }
+
+    fn take(alloc: Global, bytes: &[u8]) -> Result<(Body, &[u8]), Unread> {
+        let (content, rest) = sized_of(alloc, bytes)?;
+        Ok((Body::of(alloc, content)?, rest))
     }
 }
 

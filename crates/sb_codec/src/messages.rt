@@ -6,7 +6,7 @@ ghost use Rattle.sb_codec.specs.Readers.{Gives};
 ghost use Rattle.sb_codec.specs.Forms.{Form, Puts};
 ghost use Rattle.sb_codec.specs.Messages as messages;
 
-use crate::fields::{Blob, Number64, Opt, Truth, Words};
+use crate::fields::{Number64, Opt, Shared, Truth, Words};
 use crate::lists::{Item, Listed};
 use crate::piece::{Piece, put_fields, take_fields};
 use crate::unread::Unread;
@@ -226,7 +226,7 @@ impl Piece for MessagePiece {
     #[tactic(auto, unfolding(crate::specs::Messages::message))]
     fn put(value: &Message, out: &mut Vec<u8>) -> Result<(), AllocError> {
         put_fields!(out,
-            &value.body => Blob,
+            &value.body => Shared,
             &value.sys => Listed<SystemPiece>,
             &value.props => Listed<PropertyPiece>,
             &value.ttl => Opt<Number64>,
@@ -236,7 +236,7 @@ impl Piece for MessagePiece {
     #[tactic(auto, unfolding(crate::specs::Messages::message))]
     fn take(alloc: Global, bytes: &[u8]) -> Result<(Message, &[u8]), Unread> {
         take_fields!(alloc, bytes, Message {
-            body: Blob,
+            body: Shared,
             sys: Listed<SystemPiece>,
             props: Listed<PropertyPiece>,
             ttl: Opt<Number64>,

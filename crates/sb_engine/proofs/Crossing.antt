@@ -4,6 +4,7 @@ use denote.Struct.Declared.{shape}
 use Rattle.std.proofs.Crossing.{crosses}
 use Rattle.std.proofs.alloc.Global.TheSendSync as global
 use Rattle.std.proofs.vec.Vec.TheSendSync as vec
+use Rattle.sb_model.proofs.body.Body.TheSendSync as body
 use Rattle.sb_model.proofs.expression.Expression.TheLaws.TheKnot as knot
 use Rattle.sb_machine.specs.contracts.rule.Rule as rule
 use Rattle.sb_repeats.proofs.clients.Clients.TheSendSync as clients
@@ -24,7 +25,7 @@ listing_send : IsSend listing.the_row
 listing_send = search (crosses, sendable, global.the_field_send, vec.the_send, rule_send) depth 60 fits 20000
 
 entity_send : IsSend entity.the_row
-entity_send = search (crosses, sendable, listing_send, window.the_send) depth 60 fits 20000
+entity_send = search (crosses, sendable, body.the_send, listing_send, window.the_send) depth 60 fits 20000
 
 entities_send : IsSend entities.the_row
 entities_send = search (crosses, sendable, vec.the_send, entity_send) depth 60 fits 20000

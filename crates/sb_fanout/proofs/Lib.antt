@@ -6,3 +6,4 @@ pub mod Within
 pub mod There
 pub mod Counting
 pub mod Keeping
+pub mod Reasoned

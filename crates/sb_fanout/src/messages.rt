@@ -43,6 +43,18 @@ fn marked(alloc: Global, name: &str, text: &str, message: Message) -> Result<Mes
     with_property(alloc, name, PropertyValue::Text(text), message)
 }
 
+fn with_words(
+    alloc: Global,
+    reason: &str,
+    description: &str,
+    message: Message,
+) -> Result<Message, AllocError>
+    ensures { IfOk result (λ m. m ≡ reasons.with_reason (Some reason.now) (Some description.now) message) }
+{
+    let message = marked(alloc, "deadletterreason", reason, message)?;
+    marked(alloc, "deadlettererrordescription", description, message)
+}
+
 /// The message with the reason and its description as user properties.
 pub fn for_reason(
     alloc: Global,
@@ -51,10 +63,9 @@ pub fn for_reason(
 ) -> Result<Message, AllocError>
     ensures { IfOk result (λ m. m ≡ reasons.for_reason reason message) }
 {
-    let message = marked(alloc, "deadletterreason", reason_text(reason), message)?;
-    marked(
+    with_words(
         alloc,
-        "deadlettererrordescription",
+        reason_text(reason),
         description_text(reason),
         message,
     )

@@ -1,5 +1,5 @@
 // Messages, and what a correlation filter asks for.
-ghost use Rattle.std.specs.Prelude.{◌≡◌};
+ghost use Rattle.std.specs.Prelude.{◌≡◌, IfOk};
 ghost use Rattle.serde_json.specs.View.{view, items_view};
 ghost use Rattle.std.specs.Result.{result_ok};
 ghost use Rattle.sb_amqp.specs.Found.{message_in};
@@ -15,9 +15,9 @@ use crate::table::{AtMostOne, Both, Either, Field, Optional, object_of};
 use crate::texts::{Lifetime, SystemTexts};
 use sb_amqp::{AmqpFault, read_message};
 use sb_machine::Conditions;
-use sb_model::{Message, Rows};
+use sb_model::{Body, Message, Rows};
 use serde_json::Value;
-use std::alloc::Global;
+use std::alloc::{AllocError, Global};
 
 fn bytes_or_none(said: Option<Either<Rows<u8>, Rows<u8>>>) -> Option<Rows<u8>>
     ensures { result ≡ messages.bytes_or_none said }
@@ -51,12 +51,12 @@ impl Field for Bytes {
     }
 }
 
-fn or_empty(alloc: Global, bytes: Option<Rows<u8>>) -> Rows<u8>
-    ensures { result ≡ messages.or_empty bytes }
+fn body_or_empty(bytes: Option<Rows<u8>>) -> Result<Body, AllocError>
+    ensures { IfOk result (λ b. b ≡ messages.or_empty bytes) }
 {
     match bytes {
-        Some(bytes) => bytes,
-        None => Rows::new(alloc),
+        Some(bytes) => Body::from_vec(bytes.into_vec()),
+        None => Ok(Body::new()),
     }
 }
 
@@ -85,7 +85,7 @@ impl Field for MessageFields {
         let ttl = Lifetime("ttl").read(alloc, value)?;
         let schedule = Optional("schedule", Whole("schedule")).read(alloc, value)?;
         Ok(Message {
-            body: or_empty(alloc, body),
+            body: body_or_empty(body)?,
             sys,
             props,
             ttl,

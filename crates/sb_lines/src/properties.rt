@@ -10,7 +10,7 @@ ghost use Rattle.sb_lines.specs.Messages as messages;
 use crate::fault::{LineFault, bad};
 use crate::gathered::Gathered;
 use crate::table::Field;
-use sb_model::{Message, Property, PropertyValue, Rows, Text};
+use sb_model::{Body, Message, Property, PropertyValue, Rows, Text};
 use sb_sqleval::with_property;
 use serde_json::{Map, Value};
 use std::alloc::{AllocError, Global};
@@ -45,7 +45,7 @@ pub fn put_property(
 {
     let folded = name.to_ascii_lowercase(alloc)?;
     let message = Message {
-        body: Rows::new(alloc),
+        body: Body::new(),
         sys: Rows::new(alloc),
         props,
         ttl: None,

@@ -6,6 +6,7 @@
 //! functions with an empty body: each carries a statement over all filters, actions and messages.
 #![tactic(auto)]
 
+mod body;
 mod effects;
 mod evaluation;
 mod expression;
@@ -18,6 +19,7 @@ mod token;
 mod truth;
 mod worked;
 
+pub use body::Body;
 pub use effects::effect_rows;
 pub use evaluation::EvalFault;
 pub use expression::{

@@ -3,7 +3,7 @@ ghost use Rattle.std.specs.Prelude.{◌≡◌};
 ghost use Rattle.std.specs.Str.{str_eq_ignore_ascii_case};
 ghost use Rattle.sb_model.specs.SystemNames.{system_name, system_code, system_named};
 
-use crate::{Rows, Text};
+use crate::{Body, Rows, Text};
 
 /// A name of an entity, a subscription, a rule or a property. It is folded to ASCII lower case
 /// when a call is made from text; any text may stand here, and the machine refuses a bad one.
@@ -115,7 +115,7 @@ pub struct Property {
 #[derive(Clone, Drop)]
 pub struct Message {
     /// At most 262,144 bytes where a send is accepted.
-    pub body: Rows<u8>,
+    pub body: Body,
     /// By code of the name, none twice.
     pub sys: Rows<SystemText>,
     /// By name in byte order, none twice.

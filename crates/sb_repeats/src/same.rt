@@ -17,10 +17,10 @@ pub fn is_same_text(a: &Text, b: &Text) -> bool
     a.as_bytes() == b.as_bytes()
 }
 
-fn is_same_bytes(a: &Rows<u8>, b: &Rows<u8>) -> bool
+fn is_same_bytes(a: &[u8], b: &[u8]) -> bool
     ensures { result ≡ bytes_eq a.now b.now }
 {
-    a.as_slice() == b.as_slice()
+    a == b
 }
 
 fn is_same_bool(a: bool, b: bool) -> bool
@@ -46,7 +46,7 @@ pub fn is_same_bytes_option(a: &Option<Rows<u8>>, b: &Option<Rows<u8>>) -> bool
 {
     match (a, b) {
         (None, None) => true,
-        (Some(a), Some(b)) => is_same_bytes(a, b),
+        (Some(a), Some(b)) => is_same_bytes(a.as_slice(), b.as_slice()),
         _ => false,
     }
 }
@@ -199,7 +199,7 @@ fn are_same_properties(a: &[Property], b: &[Property]) -> bool
 fn is_same_message(a: &Message, b: &Message) -> bool
     ensures { result ≡ spec.same_message a.now b.now }
 {
-    is_same_bytes(&a.body, &b.body)
+    is_same_bytes(a.body.as_slice(), b.body.as_slice())
         && are_same_texts(a.sys.as_slice(), b.sys.as_slice())
         && are_same_properties(a.props.as_slice(), b.props.as_slice())
         && is_same_number_option(a.ttl, b.ttl)

@@ -14,7 +14,7 @@ use crate::media::has_media_type_in;
 use crate::value::json_text;
 use httparse::spans::HeaderSpan;
 use sb_lines::{Gathered, LineFault, bad, property_value};
-use sb_model::{Message, Rows, Text};
+use sb_model::{Body, Message, Rows, Text};
 use sb_routes::text_of;
 use serde_json::{Map, Value};
 use std::alloc::Global;
@@ -32,16 +32,16 @@ pub(crate) fn is_batch(text: &[u8], lines: &[HeaderSpan]) -> bool
 
 // ---- one message
 
-fn body_from(alloc: Global, given: Option<&Value>) -> Result<Rows<u8>, LineFault>
+fn body_from(alloc: Global, given: Option<&Value>) -> Result<Body, LineFault>
     ensures { Answers result (batches.body_from (option_map (λ v. view v.now) given.entry)) }
 {
     let Some(member) = given else {
-        return Ok(Rows::new(alloc));
+        return Ok(Body::new());
     };
     let Some(text) = member.as_str() else {
         return bad(alloc, "Body");
     };
-    Ok(Rows::of(alloc, text.as_bytes())?)
+    Ok(Body::of(alloc, text.as_bytes())?)
 }
 
 fn broker_from(alloc: Global, given: Option<&Value>) -> Result<Broker, LineFault>

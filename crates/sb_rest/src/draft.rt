@@ -6,7 +6,7 @@ ghost use Rattle.sb_rest.specs.Brokers.{no_broker};
 ghost use Rattle.sb_rest.specs.Headers.{no_draft, message_from};
 
 use sb_lines::Gathered;
-use sb_model::{Message, Rows, SystemName, SystemText, Text};
+use sb_model::{Body, Message, Rows, SystemName, SystemText, Text};
 use std::alloc::{AllocError, Global};
 
 /// What BrokerProperties say.
@@ -67,11 +67,7 @@ fn with_type(text: Text, texts: Rows<SystemText>) -> Result<Rows<SystemText>, Al
 }
 
 /// The message with this body of which this is said.
-pub(crate) fn message_from(
-    alloc: Global,
-    body: Rows<u8>,
-    draft: Draft,
-) -> Result<Message, AllocError>
+pub(crate) fn message_from(alloc: Global, body: Body, draft: Draft) -> Result<Message, AllocError>
     ensures { IfOk result (λ m. m ≡ message_from body draft) }
 {
     let Draft {

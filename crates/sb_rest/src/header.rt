@@ -14,7 +14,7 @@ use crate::value::header_value;
 use httparse::spans::HeaderSpan;
 use sb_http::is_word;
 use sb_lines::{LineFault, bad};
-use sb_model::{Message, Rows, Text};
+use sb_model::{Body, Message, Rows, Text};
 use sb_routes::text_of;
 use std::alloc::Global;
 
@@ -173,7 +173,7 @@ pub(crate) fn message_in(
     ensures { Answers result (headers.message_in (map (header_bytes text.now) lines.now) body.now) }
 {
     let draft = hear_all(alloc, text, lines, no_draft(alloc))?;
-    let body = Rows::of(alloc, body)?;
+    let body = Body::of(alloc, body)?;
     let message = message_from(alloc, body, draft)?;
     let mut messages = Rows::new(alloc);
     messages.push(message)?;

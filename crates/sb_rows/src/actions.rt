@@ -1,7 +1,7 @@
 // What an action makes of a message.
 use crate::outcome::Rows;
 use anyhow::{Result, bail};
-use sb_model::{EvalFault, Message, Property, PropertyValue, Rows as List, Text};
+use sb_model::{Body, EvalFault, Message, Property, PropertyValue, Rows as List, Text};
 use sb_sqleval::run_action;
 use sb_sqltext::parse_action;
 use std::alloc::{AllocError, Global};
@@ -25,7 +25,7 @@ impl Actions {
 
 fn empty_message(alloc: Global) -> Message {
     Message {
-        body: List::new(alloc),
+        body: Body::new(),
         sys: List::new(alloc),
         props: List::new(alloc),
         ttl: None,
@@ -100,7 +100,7 @@ fn many(alloc: Global, count: u64) -> Result<List<Property>, AllocError> {
 fn message_of_many(alloc: Global, count: &str) -> Result<Message> {
     let props = many(alloc, count.parse::<u64>()?)?;
     Ok(Message {
-        body: List::new(alloc),
+        body: Body::new(),
         sys: List::new(alloc),
         props,
         ttl: None,
