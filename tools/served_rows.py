@@ -10,9 +10,10 @@ byte. A message of 100,000 user properties is refused within 20 seconds, in a ba
 between two readings of the clock here. Two connections are open at once where a receive waits for a send. What a
 server tells on standard error, with a log of its calls, is read. A server that has no file left for a connection says
 so once, and takes it as soon as there is one. A hundred callers of a byte a second are let go once the time of a
-request has passed. The one worker of a server is free again once its caller has said nothing for 60 seconds, or has
-taken nothing of its response for some minutes; --short leaves these two out. The exit status is 1 where something is
-answered otherwise.
+request has passed. A caller who says nothing is let go after the idle time; where all places are taken and another
+waits for one, after 5 seconds, but a receive that waits keeps its place. The one worker of a server is free again once
+its caller has taken nothing of its response for some minutes. --short leaves these three out. The exit status is 1 where
+something is answered otherwise.
 """
 import contextlib
 import os
@@ -196,7 +197,7 @@ def all_rows(program, is_short):
     out_of_files(program)
     slow_callers(program)
     if not is_short:
-        each_at_once(lambda: silent_caller(program), lambda: caller_who_takes_nothing(program))
+        each_at_once(lambda: silent_caller(program), lambda: caller_who_takes_nothing(program), lambda: wanted_places(program))
 
 
 def each_at_once(*rows):
@@ -245,14 +246,33 @@ def seconds_kept(port):
 
 
 def silent_caller(program):
-    """One worker, whose caller says nothing: another is served once its idle time has passed."""
+    """A caller who says nothing is kept for the idle time, where a place is free."""
     port = free_port()
-    with tempfile.TemporaryDirectory() as folder, serving(program, folder, port, "--workers", "1", "--idle-time", "60"):
-        with socket.create_connection(("127.0.0.1", port)):
+    with tempfile.TemporaryDirectory() as folder, serving(program, folder, port, "--workers", "2", "--idle-time", "60"):
+        with socket.create_connection(("127.0.0.1", port), 90) as conn:
+            begun = time.monotonic()
+            wants(conn.recv(1) == b"", "a silent caller was told something")
+            waited = time.monotonic() - begun
+        wants(55 < waited < 75, f"a silent caller was kept for {waited:.1f} seconds")
+
+
+def wanted_places(program):
+    """Two places, both taken by connections that rest: they are kept, until a third caller waits for one. A receive that
+    waits keeps its place."""
+    port = free_port()
+    with tempfile.TemporaryDirectory() as folder, serving(program, folder, port, "--workers", "2"):
+        with Caller(port) as resting, Caller(port) as waiting:
+            resting.line({"do": "create-queue", "name": "q"})
+            waiting.line({"do": "counts", "entity": "q"})
+            time.sleep(8)
+            resting.line({"do": "counts", "entity": "q"})
+            waiting.socket.sendall(b"DELETE /q/messages/head?timeout=60 HTTP/1.1\r\nHost: h\r\n\r\n")
             begun = time.monotonic()
             code, _ = curl(port, "-X", "POST", "--data-binary", "hi", "/q/messages")
             waited = time.monotonic() - begun
-        wants(code == 410 and 55 < waited < 75, f"{code} after {waited:.1f} seconds beside a silent caller")
+            got = waiting.socket.recv(4096)
+    wants(code == 201 and 4 < waited < 9, f"{code} after {waited:.1f} seconds, where all places were taken")
+    wants(got.startswith(b"HTTP/1.1 200"), f"a receive that waits was answered {got[:40]}")
 
 
 def caller_who_takes_nothing(program):

@@ -1,5 +1,5 @@
 // A connection that never waits.
-ghost use Rattle.std.specs.Prelude.{◌≡◌, None};
+ghost use Rattle.std.specs.Prelude.{◌≡◌, None, IfSome};
 
 use crate::hall::Hall;
 use crate::seat::Seat;
@@ -12,7 +12,9 @@ use std::sync::Arc;
 /// A connection of a place. It tells no content. Each error of the system is a counted fault, and so is
 /// a write that takes nothing, and one that has found for 60 seconds that the other side takes nothing. The
 /// system is asked for bytes only where something has come since a read took all that was there, but each
-/// time while a request is being answered: such a read tells whether the caller of a receive has gone.
+/// time while a request is being answered: such a read tells whether the caller of a receive has gone. Where it
+/// rests between two requests for five seconds, all places are taken, and somebody waits for one, its end is told
+/// as though its caller had ended it.
 #[derive(Drop)]
 pub struct Caller<R: std::rt::Clock + Drop> {
     stream: TcpStream,
@@ -20,6 +22,8 @@ pub struct Caller<R: std::rt::Clock + Drop> {
     place: usize,
     // A request is being answered.
     asked: bool,
+    // Its end was told, as its place is wanted.
+    ended: bool,
     read_faults: u64,
     write_faults: u64,
 }
@@ -35,6 +39,7 @@ impl<R: std::rt::Clock + Drop> Caller<R> {
             hall,
             place,
             asked: false,
+            ended: false,
             read_faults: 0,
             write_faults: 0,
         };
@@ -63,6 +68,9 @@ impl<R: std::rt::Clock + Drop> Caller<R> {
     // A read took so many bytes. Where there was room for more, nothing is left, unless the other side has
     // ended, which the next read tells.
     fn took(&self, count: usize, room: usize) {
+        if let Some(seat) = self.seat() {
+            seat.works();
+        }
         if count > 0 && count < room {
             self.is_read_out(true);
         }
@@ -75,10 +83,33 @@ impl<R: std::rt::Clock + Drop> Caller<R> {
         }
     }
 
-    // A write took something.
+    // There was nothing to be read: its end is told from now on, where its place is wanted. How many bytes
+    // the read took, if any.
+    fn nothing_read(&mut self) -> Option<usize>
+        ensures reads { self.new.read_faults ≡ self.old.read_faults }
+        ensures writes { self.new.write_faults ≡ self.old.write_faults }
+        ensures none { IfSome result (λ n. n ≡ 0) }
+    {
+        self.is_read_out(false);
+        let wanted = match self.seat() {
+            Some(seat) => seat.is_wanted(),
+            None => false,
+        };
+        if wanted {
+            self.ended = true;
+            return Some(0);
+        }
+        None
+    }
+
+    // A write took something. A response was written as far as it goes: it rests, unless a request is being
+    // answered.
     fn flows(&self) {
         if let Some(seat) = self.seat() {
             seat.flows();
+            if !self.asked {
+                seat.rests();
+            }
         }
     }
 
@@ -106,6 +137,9 @@ impl<R: std::rt::Clock + Drop> Conn for Caller<R> {
     ghost writes = { λ c. c.write_faults };
 
     fn read(&mut self, into: &mut [u8]) -> Result<Option<usize>, ReadFault> {
+        if self.ended {
+            return Ok(Some(0));
+        }
         if !self.may_read() {
             return Ok(None);
         }
@@ -115,10 +149,7 @@ impl<R: std::rt::Clock + Drop> Conn for Caller<R> {
                 self.took(count, room);
                 Ok(Some(count))
             }
-            Err(error) if waits(&error) => {
-                self.is_read_out(false);
-                Ok(None)
-            }
+            Err(error) if waits(&error) => Ok(self.nothing_read()),
             Err(_) => {
                 self.read_faults = self.read_faults.saturating_add(1);
                 Err(ReadFault)
@@ -142,6 +173,9 @@ impl<R: std::rt::Clock + Drop> Conn for Caller<R> {
 
     fn asked(&mut self, _method: &[u8], _path: &[u8]) {
         self.asked = true;
+        if let Some(seat) = self.seat() {
+            seat.works();
+        }
     }
 
     fn answered(&mut self, _response: &[u8]) {

@@ -3,7 +3,8 @@ use mio::net::{TcpListener, TcpStream};
 use sb_outside::made;
 use std::io;
 use std::io::{Eprint, ErrorKind};
-use std::sync::atomic::{AtomicBool, Ordering};
+use std::sync::Mutex;
+use std::sync::atomic::{AtomicBool, AtomicUsize, Ordering};
 
 // What is told where a connection can't be had for now.
 const LATER: &str = "a connection can't be taken yet";
@@ -20,27 +21,81 @@ const AFTER_NONE: &str = "look at the limits of the process and start again";
 // Linux's numbers of ENOMEM, ENFILE, EMFILE, ENOSPC and ENOBUFS: the system has no room for now.
 const NO_ROOM: [i32; 5] = [12, 23, 24, 28, 105];
 
-/// A listener, and whether it was told that the system has no room.
+/// A listener for so many places, and whether it was told that the system has no room.
 #[derive(Drop)]
 pub(crate) struct Entrance<E: Eprint + Drop> {
     listener: TcpListener,
     stderr: E,
     told: AtomicBool,
+    // How many places have no connection.
+    free: AtomicUsize,
+    // A caller for whom there was no place yet.
+    waiting: Mutex<Option<TcpStream>>,
 }
 
 impl<E: Eprint + Drop> Entrance<E> {
-    /// An entrance over this listener.
-    pub(crate) fn new(listener: TcpListener, stderr: E) -> Self {
+    /// An entrance over this listener, to so many places.
+    pub(crate) fn new(listener: TcpListener, stderr: E, places: usize) -> Self {
         Entrance {
             listener,
             stderr,
             told: AtomicBool::new(false),
+            free: AtomicUsize::new(places),
+            waiting: Mutex::new(None),
         }
     }
 
-    /// The next connection; a call whose caller has gone meanwhile, and one that a signal interrupted, is
-    /// made again.
+    /// A place has a connection from now on.
+    pub(crate) fn takes_place(&self) {
+        self.free.fetch_sub(1, Ordering::SeqCst);
+    }
+
+    /// A place has none any more.
+    pub(crate) fn leaves_place(&self) {
+        self.free.fetch_add(1, Ordering::SeqCst);
+    }
+
+    /// Whether all places are taken and somebody waits for one: that caller has the next place.
+    pub(crate) fn is_crowded(&self) -> bool {
+        if self.free.load(Ordering::SeqCst) > 0 {
+            return false;
+        }
+        let Some(mut waiting) = self.waiting.try_lock() else {
+            return false;
+        };
+        if waiting.is_none() {
+            *waiting = self.come().ok();
+        }
+        waiting.is_some()
+    }
+
+    /// Whether a caller waits for whom there was no place.
+    pub(crate) fn has_waiting(&self) -> bool {
+        match self.waiting.try_lock() {
+            Some(waiting) => waiting.is_some(),
+            None => true,
+        }
+    }
+
+    // The caller for whom there was no place yet.
+    fn waited(&self) -> Option<TcpStream> {
+        let Some(mut waiting) = self.waiting.try_lock() else {
+            return None;
+        };
+        waiting.take()
+    }
+
+    /// The next connection.
     pub(crate) fn next(&self) -> io::Result<TcpStream> {
+        match self.waited() {
+            Some(stream) => Ok(stream),
+            None => self.come(),
+        }
+    }
+
+    // The next who calls; a call whose caller has gone meanwhile, and one that a signal interrupted, is made
+    // again.
+    fn come(&self) -> io::Result<TcpStream> {
         for _ in 0..u64::MAX {
             match self.listener.accept() {
                 Ok((stream, _)) => return Ok(stream),

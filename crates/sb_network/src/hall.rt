@@ -60,6 +60,10 @@ pub(crate) struct Hall<R: std::rt::Clock + Drop> {
     again_ms: AtomicU64,
     // When the seats are looked at again.
     looks_ms: AtomicU64,
+    // They were looked at.
+    looked: AtomicBool,
+    // Connections that rest are to end.
+    crowded: AtomicBool,
     // Its own thread alone takes it.
     watch: Mutex<Watch>,
 }
@@ -100,6 +104,8 @@ impl<R: std::rt::Clock + Drop> Hall<R> {
             greets: AtomicU64::new(0),
             again_ms: AtomicU64::new(u64::MAX),
             looks_ms: AtomicU64::new(0),
+            looked: AtomicBool::new(false),
+            crowded: AtomicBool::new(false),
             watch: Mutex::new(Watch { poll, events }),
         })
     }
@@ -158,6 +164,16 @@ impl<R: std::rt::Clock + Drop> Hall<R> {
         if let Some(seat) = self.seats.get(place) {
             seat.want(wants);
         }
+    }
+
+    /// Whether the seats were looked at since this was last asked.
+    pub(crate) fn take_looked(&self) -> bool {
+        self.looked.load(Ordering::SeqCst) && self.looked.swap(false, Ordering::SeqCst)
+    }
+
+    /// All places are taken, and somebody waits for one, or not: whether connections that rest are to end.
+    pub(crate) fn crowd(&self, crowded: bool) {
+        self.crowded.store(crowded, Ordering::SeqCst);
     }
 
     /// Nobody stands at the listener.
@@ -324,8 +340,8 @@ impl<R: std::rt::Clock + Drop> Hall<R> {
         }
     }
 
-    // Somebody may stand at the listener from now on.
-    fn callers_come(&self) {
+    /// Somebody may stand at the listener from now on.
+    pub(crate) fn callers_come(&self) {
         self.callers.store(true, Ordering::SeqCst);
         self.call_wanting();
     }
@@ -377,8 +393,11 @@ impl<R: std::rt::Clock + Drop> Hall<R> {
     // Looks at each seat at this reading.
     fn look_at_seats(&self, now_ms: u64) {
         self.arrivals.listen_anew(self.marks());
+        self.looked.store(true, Ordering::SeqCst);
+        let wanted = self.crowded.load(Ordering::SeqCst);
         for place in 0..self.seats.len() {
-            if self.seats.get(place).is_some_and(|seat| seat.look(now_ms)) {
+            let calls = |seat: &Seat| seat.look(now_ms, wanted);
+            if self.seats.get(place).is_some_and(calls) {
                 self.called.put_last(place);
             }
         }

@@ -14,7 +14,8 @@ use std::sync::Arc;
 
 /// Where the workers of a server wait: those of each thread in a hall of their own.
 #[derive(Drop)]
-pub struct Halls<R: std::rt::Clock + Drop> {
+pub struct Halls<R: Eprint + std::rt::Clock + Drop> {
+    entrance: Arc<Entrance<R>>,
     halls: Vec<Arc<Hall<R>>>,
     // How many workers each has; the last may have fewer.
     stretch: usize,
@@ -36,9 +37,14 @@ pub fn open_halls<R: Net + Eprint + std::rt::Clock + Copy + Drop>(
         hall.registry()
             .register(&mut listener, LISTENER, Interest::READABLE)?;
     }
-    let entrance = Arc::new(alloc, Entrance::new(listener, system))?;
+    let entrance = Arc::new(alloc, Entrance::new(listener, system, places))?;
     let places = places_of(alloc, &entrance, &halls, places, stretch)?;
-    Ok((places, Halls { halls, stretch }))
+    let halls = Halls {
+        entrance,
+        halls,
+        stretch,
+    };
+    Ok((places, halls))
 }
 
 // Halls for so many places, each with a stretch of them.
@@ -81,7 +87,7 @@ fn places_of<R: Eprint + std::rt::Clock + Drop>(
     Ok(doors)
 }
 
-impl<R: std::rt::Clock + Drop> Halls<R> {
+impl<R: Eprint + std::rt::Clock + Drop> Halls<R> {
     // The hall of a worker, and its place there.
     fn of(&self, worker: usize) -> Option<(&Arc<Hall<R>>, usize)> {
         let stretch = self.stretch.max(1);
@@ -91,20 +97,35 @@ impl<R: std::rt::Clock + Drop> Halls<R> {
         }
     }
 
+    // Tells a hall that has looked at its seats whether somebody waits for whom there is no place.
+    fn look_out(&self, hall: &Hall<R>) {
+        if !hall.take_looked() {
+            return;
+        }
+        let crowded = self.entrance.is_crowded();
+        hall.crowd(crowded);
+        if !crowded && self.entrance.has_waiting() {
+            hall.callers_come();
+        }
+    }
+
     // The first worker of the hall that this one is in.
     fn first_of(&self, worker: usize) -> usize {
         worker - worker % self.stretch.max(1)
     }
 }
 
-impl<R: std::rt::Clock + Drop> Lobby for Halls<R> {
+impl<R: Eprint + std::rt::Clock + Drop> Lobby for Halls<R> {
     fn share(&self) -> usize {
         self.stretch
     }
 
     fn wait<C: Clock>(&self, clock: &C, first: usize, until: u64) -> bool {
         match self.of(first) {
-            Some((hall, _)) => hall.wait(clock, until),
+            Some((hall, _)) => {
+                self.look_out(hall);
+                hall.wait(clock, until)
+            }
             None => PauseLobby.wait(clock, first, until),
         }
     }
@@ -123,6 +144,7 @@ impl<R: std::rt::Clock + Drop> Lobby for Halls<R> {
         match self.of(worker) {
             Some((hall, place)) => {
                 hall.call(place);
+                self.look_out(hall);
                 true
             }
             None => false,

@@ -14,6 +14,7 @@ mod halls;
 mod place;
 mod queue;
 mod seat;
+mod span;
 #[cfg(test)]
 mod tests;
 

@@ -91,6 +91,7 @@ impl<R: Eprint + std::rt::Clock + Drop> Door for Place<R> {
         match self.next() {
             Ok(caller) if self.out < u64::MAX => {
                 self.hall.greeted(self.place);
+                self.entrance.takes_place();
                 self.out += 1;
                 Ok(Given::One(caller))
             }
@@ -112,6 +113,7 @@ impl<R: Eprint + std::rt::Clock + Drop> Door for Place<R> {
 
     fn done(&mut self, conn: Caller<R>) {
         drop(conn);
+        self.entrance.leaves_place();
         self.out -= 1;
     }
 }

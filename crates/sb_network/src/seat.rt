@@ -1,18 +1,13 @@
 // What a worker, its door and its connection share with the hall of their thread.
 use crate::arrivals::{Kinds, has_all};
+use crate::span::Span;
 use std::sync::atomic::{AtomicBool, AtomicU64, Ordering};
 
 // A connection whose other side takes nothing of what is written for so many milliseconds fails.
 const LONGEST_STALL_MS: u64 = 60_000;
 
-// No write waits.
-const FLOWS: u64 = u64::MAX;
-
-// A write waits since the last look.
-const WAITS: u64 = u64::MAX - 1;
-
-// A write has waited for too long.
-const STALLED: u64 = u64::MAX - 2;
+// A connection that rests between two requests for so many milliseconds ends, where its place is wanted.
+const LONGEST_REST_MS: u64 = 5_000;
 
 /// The seat of a worker in a hall.
 #[derive(Drop)]
@@ -30,8 +25,10 @@ pub(crate) struct Seat {
     kind: AtomicU64,
     // Some of them came.
     rung: AtomicBool,
-    // Since which look a write of its connection waits, or one of the words above.
-    stalls_ms: AtomicU64,
+    // A write of its connection waits.
+    stall: Span,
+    // Its connection rests between two requests.
+    rest: Span,
 }
 
 impl Seat {
@@ -45,7 +42,8 @@ impl Seat {
             mark: AtomicU64::new(0),
             kind: AtomicU64::new(0),
             rung: AtomicBool::new(false),
-            stalls_ms: AtomicU64::new(FLOWS),
+            stall: Span::new(),
+            rest: Span::new(),
         }
     }
 
@@ -98,6 +96,7 @@ impl Seat {
         self.has_ended.store(false, Ordering::SeqCst);
         self.is_unsure.store(false, Ordering::SeqCst);
         self.flows();
+        self.rest.begin();
     }
 
     /// Something has come for its connection: bytes, its end or its failure, or that it may write.
@@ -116,30 +115,47 @@ impl Seat {
         self.is_unsure.store(found, Ordering::SeqCst);
     }
 
-    /// Whether a read may find something.
+    /// Whether a read may find something, or has to tell the end.
     pub(crate) fn may_read(&self) -> bool {
-        self.may_read.load(Ordering::SeqCst) || self.has_ended.load(Ordering::SeqCst)
+        self.may_read.load(Ordering::SeqCst)
+            || self.has_ended.load(Ordering::SeqCst)
+            || self.is_wanted()
+    }
+
+    /// A request of its connection comes, or is being answered.
+    pub(crate) fn works(&self) {
+        self.rest.stop();
+    }
+
+    /// Its connection rests from now on.
+    pub(crate) fn rests(&self) {
+        self.rest.begin();
+    }
+
+    /// Whether its connection has rested for too long, as its place is wanted.
+    pub(crate) fn is_wanted(&self) -> bool {
+        self.rest.is_over()
     }
 
     /// A write took something.
     pub(crate) fn flows(&self) {
-        self.stalls_ms.store(FLOWS, Ordering::SeqCst);
+        self.stall.stop();
     }
 
     /// A write could take nothing yet. Whether it has waited for too long.
     pub(crate) fn stalls(&self) -> bool {
-        let since = self.stalls_ms.load(Ordering::SeqCst);
-        if since == FLOWS {
-            self.stalls_ms.store(WAITS, Ordering::SeqCst);
-        }
-        since == STALLED
+        self.works();
+        self.stall.goes_on()
     }
 
-    /// Looks at the seat at this reading of the hall: whether its worker is to be called, since a write
-    /// has waited for too long, or to make sure that nothing is left to be read.
-    pub(crate) fn look(&self, now_ms: u64) -> bool {
+    /// Looks at the seat at this reading of the hall, in which places are wanted or not: whether its worker
+    /// is to be called, since a write has waited for too long, or its connection has rested for too long, or
+    /// to make sure that nothing is left to be read.
+    pub(crate) fn look(&self, now_ms: u64, wanted: bool) -> bool {
         let doubts = self.doubts();
-        self.has_stalled(now_ms) || doubts
+        let stalled = self.stall.look(now_ms, LONGEST_STALL_MS, true);
+        let rested = self.rest.look(now_ms, LONGEST_REST_MS, wanted);
+        doubts || stalled || rested
     }
 
     // Whether a read has to make sure that nothing is left, which is so once behind one that found something.
@@ -149,20 +165,6 @@ impl Seat {
         }
         self.is_read_out(false);
         self.may_read.store(true, Ordering::SeqCst);
-        true
-    }
-
-    // Whether a write has waited for too long at this reading, which is noted.
-    fn has_stalled(&self, now_ms: u64) -> bool {
-        let since = self.stalls_ms.load(Ordering::SeqCst);
-        if since == WAITS {
-            self.stalls_ms.store(now_ms, Ordering::SeqCst);
-            return false;
-        }
-        if since == FLOWS || now_ms < since.saturating_add(LONGEST_STALL_MS) {
-            return false;
-        }
-        self.stalls_ms.store(STALLED, Ordering::SeqCst);
         true
     }
 }
