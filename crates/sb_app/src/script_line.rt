@@ -24,7 +24,7 @@ fn parse_text(alloc: Global, text: &str) -> Result<ScriptLine, AllocError>
     ensures order { IfOk result IsLineInOrder }
 {
     match read_line(alloc, text) {
-        Ok(Line { timed, form }) => Ok(ScriptLine::Request(timed, form)),
+        Ok(Line { timed, form, .. }) => Ok(ScriptLine::Request(timed, form)),
         Err(LineFault::BadKey { key }) => Ok(ScriptLine::Malformed(key)),
         Err(LineFault::OutOfMemory) => Err(AllocError),
     }

@@ -21,6 +21,8 @@ mod linked_tests;
 #[cfg(test)]
 mod look_tests;
 #[cfg(test)]
+mod patient_lines_tests;
+#[cfg(test)]
 mod server_tests;
 #[cfg(test)]
 mod sharing_tests;

@@ -15,6 +15,9 @@ const TAKE: &[u8] = b"DELETE /q/messages/head?timeout=0 HTTP/1.1\r\nHost: h\r\n\
 
 const WAIT: &[u8] = b"DELETE /q/messages/head?timeout=100 HTTP/1.1\r\nHost: h\r\n\r\n";
 
+const WAIT_BY_LINE: &[u8] =
+    b"POST /$script HTTP/1.1\r\nHost: h\r\nContent-Length: 38\r\n\r\n{\"do\":\"receive\",\"from\":\"q\",\"wait\":100}";
+
 const SEND: &[u8] = b"POST /q/messages HTTP/1.1\r\nHost: h\r\nContent-Length: 204800\r\n\r\n";
 
 /// A clock that goes on by a second at each pause.
@@ -158,7 +161,7 @@ const USUAL: Case<'static> = Case {
     over: (0, 2),
 };
 
-const CASES: [Case<'static>; 8] = [
+const CASES: [Case<'static>; 9] = [
     // nothing waits, so it is answered at once
     USUAL,
     // a byte a second: whole within a minute, and not within ten seconds
@@ -207,6 +210,15 @@ const CASES: [Case<'static>; 8] = [
         request_time: "--request-time=2",
         idle_time: "--idle-time=2",
         request: WAIT,
+        over: (100, 102),
+        ..USUAL
+    },
+    // a line that waits so
+    Case {
+        request_time: "--request-time=2",
+        idle_time: "--idle-time=2",
+        request: WAIT_BY_LINE,
+        given: b"HTTP/1.1 200 OK\r\nContent-Length: 15\r\n\r\n{\"ok\":\"empty\"}\n",
         over: (100, 102),
         ..USUAL
     },

@@ -23,6 +23,21 @@ const NO_LINE: &str = "{\"key\":\"\",\"refused\":\"BadCall\"}\n";
 
 const NO_DO: &str = "{\"key\":\"do\",\"refused\":\"BadCall\"}\n";
 
+const TAKE: &str = "{\"do\":\"receive\",\"from\":\"q\"}\n";
+
+const TAKE_NOW: &str = "{\"do\":\"receive\",\"from\":\"q\",\"wait\":0}\n";
+
+const TAKE_LATER: &str = "{\"do\":\"receive\",\"from\":\"q\",\"wait\":3600}\n";
+
+const TAKE_ONCE: &str =
+    "{\"client\":\"c\",\"do\":\"receive\",\"from\":\"q\",\"number\":1,\"wait\":3600}\n";
+
+const TAKE_FOR_LONG: &str = "{\"do\":\"receive\",\"from\":\"q\",\"wait\":3601}\n";
+
+const EMPTY: &str = "{\"ok\":\"empty\"}\n";
+
+const NO_WAIT: &str = "{\"key\":\"wait\",\"refused\":\"BadCall\"}\n";
+
 const FAILED: &str = "{\"refused\":\"DiskFault\"}\n";
 
 const STOPPED: &str = "{\"faults\":1,\"refused\":\"Stopped\"}\n";
@@ -46,7 +61,16 @@ const ONE: Row<'static> = Row {
     told: "{\"changing\":1,\"entries\":1,\"ok\":\"report\",\"refused\":0}\n",
 };
 
-const ROWS: [Row<'static>; 8] = [
+// One line, which finds nothing.
+const EMPTY_ONCE: Row<'static> = Row {
+    fields: "",
+    body: &[TAKE],
+    answered: "",
+    lines: &[EMPTY],
+    told: "{\"changing\":0,\"entries\":1,\"ok\":\"report\",\"refused\":0}\n",
+};
+
+const ROWS: [Row<'static>; 13] = [
     ONE,
     // a line that is no call is answered at its place, and the others are called
     Row {
@@ -94,6 +118,33 @@ const ROWS: [Row<'static>; 8] = [
         body: &[CREATE_A, CREATE_B],
         lines: &[NO_LINE],
         told: "{\"changing\":0,\"entries\":0,\"ok\":\"report\",\"refused\":0}\n",
+    },
+    // a line that waits not at all is called once
+    EMPTY_ONCE,
+    Row {
+        body: &[TAKE_NOW],
+        ..EMPTY_ONCE
+    },
+    // so is one that has a client and a number: the answer is kept
+    Row {
+        body: &[TAKE_ONCE],
+        told: "{\"changing\":1,\"entries\":1,\"ok\":\"report\",\"refused\":0}\n",
+        ..EMPTY_ONCE
+    },
+    // and each of several lines
+    Row {
+        fields: LINES,
+        answered: "Content-Type: application/x-ndjson\r\n",
+        body: &[TAKE_LATER, TAKE_LATER],
+        lines: &[EMPTY, EMPTY],
+        told: "{\"changing\":0,\"entries\":2,\"ok\":\"report\",\"refused\":0}\n",
+    },
+    // an hour and a second is too long
+    Row {
+        body: &[TAKE_FOR_LONG],
+        lines: &[NO_WAIT],
+        told: "{\"changing\":0,\"entries\":0,\"ok\":\"report\",\"refused\":0}\n",
+        ..EMPTY_ONCE
     },
 ];
 

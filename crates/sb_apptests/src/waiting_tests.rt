@@ -200,7 +200,7 @@ fn serve_into<T: Threads + Wait + Sync>(
 }
 
 // The same, whatever is told.
-fn serve_doors<T: Threads + Wait + Sync>(
+pub(crate) fn serve_doors<T: Threads + Wait + Sync>(
     rt: &HostRuntime,
     threads: &T,
     clock: &Still,

@@ -254,7 +254,7 @@ cancel_holds d = bare (address (codes "from") and number (codes "seq")) (λ x. a
 
 receive_holds : (d : Data) → Holds IsActInOrder (lines.receive d)
 unfolding lines.receive
-receive_holds d = bare (lines.shown (address (codes "from") and mode (codes "mode") and lines.session_if)) (λ x. act.Receive x.0 x.1.0 x.1.1) d (λ x. tt)
+receive_holds d = bare (lines.waiting (lines.shown (address (codes "from") and mode (codes "mode") and lines.session_if))) (λ x. act.Receive x.0 x.1.0 x.1.1) d (λ x. tt)
 
 receive_deferred_holds : (d : Data) → Holds IsActInOrder (lines.receive_deferred d)
 unfolding lines.receive_deferred
@@ -274,7 +274,7 @@ renew_holds d = bare (address (codes "from") and lines.which and token (codes "t
 
 accept_holds : (d : Data) → Holds IsActInOrder (lines.accept d)
 unfolding lines.accept
-accept_holds d = bare (address (codes "from") and lines.text_if (codes "id")) (λ x. act.Accept x.0 x.1) d (λ x. tt)
+accept_holds d = bare (lines.waiting (address (codes "from") and lines.text_if (codes "id"))) (λ x. act.Accept x.0 x.1) d (λ x. tt)
 
 session_renew_holds : (d : Data) → Holds IsActInOrder (lines.session_renew d)
 unfolding lines.session_renew

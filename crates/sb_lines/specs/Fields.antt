@@ -1,5 +1,5 @@
 -- The fields of an object: what stands at a key, and which keys may stand.
-use Rattle.std.specs.Prelude.{ℕ, List, Bool, codes, bytes_eq, if◌then◌else◌, Option, Some, None, option_map, option_and_then, Result, Ok, Err}
+use Rattle.std.specs.Prelude.{ℕ, List, Bool, codes, bytes_eq, nat_le, if◌then◌else◌, Option, Some, None, option_map, option_and_then, Result, Ok, Err}
 use Rattle.std.specs.Result.{result_ok}
 use Rattle.std.specs.Str.{str_to_ascii_lowercase}
 use Rattle.hex.specs.Hex.{decode_of}
@@ -82,6 +82,18 @@ form_named word = if bytes_eq word (codes "amqp") then Some Amqp else None
 -- the form that a word names
 abbrev pub form_in : Data → Option Form
 form_in d = option_and_then form_named (as_str d)
+
+-- the longest that a call may wait, in s
+abbrev pub max_wait : ℕ
+max_wait = 3600
+
+-- so many s, if a call may wait so long
+abbrev pub if_wait : ℕ → Option ℕ
+if_wait n = if nat_le n max_wait then Some n else None
+
+-- how long a call waits, in whole s
+abbrev pub wait_in : Data → Option ℕ
+wait_in d = option_and_then if_wait (whole_in d)
 
 -- the bytes of pairs of hexadecimal digits, in either case
 abbrev pub hex_at : List ℕ → Data → Option (List ℕ)

@@ -23,7 +23,7 @@ use Rattle.sb_lines.specs.Descriptions.{queue_fields, topic_fields, subscription
 use Rattle.sb_lines.specs.Faults.{or_key, then_by}
 use Rattle.sb_lines.specs.Fields.{text_at, whole_in, number_in, or_default}
 use Rattle.sb_lines.specs.Messages.{messages, conditions, bytes}
-use Rattle.sb_lines.specs.Tables.{Field, address, entity, name, text, token, whole, number, mode, form, ◌and◌, optional, one_of, made, object_of}
+use Rattle.sb_lines.specs.Tables.{Field, address, entity, name, text, token, whole, number, mode, form, wait, ◌and◌, optional, one_of, made, object_of}
 
 -- ---- fields that several acts have
 
@@ -64,9 +64,13 @@ abbrev pub in_line : {A : Type 0} → Field A → Field A
 in_line f =
     record { knows = λ k. bytes_eq k (codes "do") || (bytes_eq k (codes "at") || (bytes_eq k (codes "client") || (bytes_eq k (codes "number") || f.knows k))); reads = f.reads }
 
--- the same, and last the form in which the reply is shown, which is no part of the act
+-- the same, and behind them the form in which the reply is shown, which is no part of the act
 abbrev pub shown : {A : Type 0} → Field A → Field A
 shown f = record { knows = λ k. f.knows k || bytes_eq k (codes "form"); reads = f.reads }
+
+-- the same, and last how long the call waits while it finds nothing, which is no part of the act either
+abbrev pub waiting : {A : Type 0} → Field A → Field A
+waiting f = record { knows = λ k. f.knows k || bytes_eq k (codes "wait"); reads = f.reads }
 
 -- the act that these fields make, of an object that has no other keys
 abbrev pub row : {P : Type 0} → Field P → (P → Act) → Data → Result Act (List ℕ)
@@ -106,7 +110,7 @@ cancel = row (address (codes "from") and number (codes "seq")) (λ x. act.Cancel
 
 -- a message is received
 unfoldable pub receive : Data → Result Act (List ℕ)
-receive = row (shown (address (codes "from") and mode (codes "mode") and session_if)) (λ x. act.Receive x.0 x.1.0 x.1.1)
+receive = row (waiting (shown (address (codes "from") and mode (codes "mode") and session_if))) (λ x. act.Receive x.0 x.1.0 x.1.1)
 
 -- a deferred message is received
 unfoldable pub receive_deferred : Data → Result Act (List ℕ)
@@ -128,7 +132,7 @@ renew = row (address (codes "from") and which and token (codes "token")) (λ x. 
 
 -- a session is accepted, by its id or the next one
 unfoldable pub accept : Data → Result Act (List ℕ)
-accept = row (address (codes "from") and text_if (codes "id")) (λ x. act.Accept x.0 x.1)
+accept = row (waiting (address (codes "from") and text_if (codes "id"))) (λ x. act.Accept x.0 x.1)
 
 -- a session's lock is renewed
 unfoldable pub session_renew : Data → Result Act (List ℕ)
@@ -249,13 +253,17 @@ beside takes d = then_by (reading_of d) (λ reading. then_by (by_of takes d) (λ
 abbrev pub is_numbered : List ℕ → Bool
 is_numbered word = not (bytes_eq word (codes "peek") || bytes_eq word (codes "session-state") || bytes_eq word (codes "counts"))
 
--- the form of the reply, then what stands beside the act; a key that the act has not is at fault before them
-abbrev pub formed : Bool → Data → Result (Form × (ℕ × Option By)) (List ℕ)
-formed takes d = then_by ((form (codes "form")).reads d) (λ f. then_by (beside takes d) (λ x. Ok (f, x)))
+-- the form of the reply and how long the call waits
+abbrev pub manner : Field (Form × ℕ)
+manner = form (codes "form") and wait (codes "wait")
+
+-- these, then what stands beside the act; a key that the act has not is at fault before them
+abbrev pub formed : Bool → Data → Result ((Form × ℕ) × (ℕ × Option By)) (List ℕ)
+formed takes d = then_by (manner.reads d) (λ m. then_by (beside takes d) (λ x. Ok (m, x)))
 
 -- an act with what stands beside it
-abbrev pub line_with : Act → Form × (ℕ × Option By) → Line
-line_with a x = record { timed = record { reading = x.1.0; call = record { by = x.1.1; act = a } }; form = x.0 }
+abbrev pub line_with : Act → (Form × ℕ) × (ℕ × Option By) → Line
+line_with a x = record { timed = record { reading = x.1.0; call = record { by = x.1.1; act = a } }; form = x.0.0; wait_s = x.0.1 }
 
 -- the act's name first, then the keys that it has not, then its fields, then what stands beside them
 unfoldable pub named_call : List ℕ → Data → Result Line (List ℕ)
@@ -269,6 +277,6 @@ call_of d = then_by (or_key (codes "do") (text_at (codes "do") d)) (λ word. nam
 abbrev pub object_itself : Data → Option Data
 object_itself d = option_and_then (λ _. Some d) (as_object d)
 
--- the call that this text spells, with the form of its reply, or the key at fault, which is empty where the text is no object
+-- the call that this text spells, with the form of its reply and how long it waits, or the key at fault, which is empty where the text is no object
 abbrev pub line_of : List ℕ → Result Line (List ℕ)
 line_of text = then_by (or_key [] (option_and_then object_itself (read text))) call_of

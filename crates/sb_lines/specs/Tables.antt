@@ -11,7 +11,7 @@ use Rattle.sb_lines.specs.declared.form.Form.TheVariants.{Plain}
 use Rattle.sb_lines.specs.declared.table.Either.{Either}
 use Rattle.sb_lines.specs.declared.table.Either.TheVariants.{First, Second}
 use Rattle.sb_lines.specs.Faults.{or_key, none_or_key, then_by}
-use Rattle.sb_lines.specs.Fields.{text_at, whole_in, whole_at, number_at, name_at, path_at, entity_at, token_at, mode_in, form_in, hex_at, or_default, unknown_key}
+use Rattle.sb_lines.specs.Fields.{text_at, whole_in, whole_at, number_at, name_at, path_at, entity_at, token_at, mode_in, form_in, wait_in, hex_at, or_default, unknown_key}
 
 -- which keys a field takes, and what it reads
 pub record Field (A : Type 0) : Type 0 where
@@ -75,6 +75,10 @@ mode key = with_default key Lock mode_in
 -- the form at a key; plain where it isn't there
 abbrev pub form : List ℕ → Field Form
 form key = with_default key Plain form_in
+
+-- how long the call waits, in s, at a key; not at all where it isn't there
+abbrev pub wait : List ℕ → Field ℕ
+wait key = with_default key 0 wait_in
 
 -- ---- several keys
 

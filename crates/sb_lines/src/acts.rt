@@ -94,7 +94,7 @@ impl<F: Field> Field for InLine<F> {
     }
 }
 
-/// The same, and last the form in which the reply is shown, which is no part of the act.
+/// The same, and behind them the form in which the reply is shown, which is no part of the act.
 struct Shown<F>(F);
 
 impl<F: Field> Field for Shown<F> {
@@ -104,6 +104,23 @@ impl<F: Field> Field for Shown<F> {
 
     fn knows(&self, key: &str) -> bool {
         self.0.knows(key) || key == "form"
+    }
+
+    fn read(&self, alloc: Global, value: &Value) -> Result<F::Value, LineFault> {
+        self.0.read(alloc, value)
+    }
+}
+
+/// The same, and last how long the call waits while it finds nothing, which is no part of the act either.
+struct Waiting<F>(F);
+
+impl<F: Field> Field for Waiting<F> {
+    type Value = F::Value;
+
+    ghost field = { λ f. lines.waiting (F.field f.0) };
+
+    fn knows(&self, key: &str) -> bool {
+        self.0.knows(key) || key == "wait"
     }
 
     fn read(&self, alloc: Global, value: &Value) -> Result<F::Value, LineFault> {
@@ -261,10 +278,10 @@ fn receive(alloc: Global, value: &Value) -> Result<Act, LineFault>
     let (from, (mode, session)) = object_of(
         alloc,
         value,
-        &InLine(Shown(Both(
+        &InLine(Waiting(Shown(Both(
             Address("from"),
             Both(ModeWord("mode"), Optional("session", TokenText("session"))),
-        ))),
+        )))),
     )?;
     Ok(Act::Receive {
         from,
@@ -387,14 +404,15 @@ fn renew(alloc: Global, value: &Value) -> Result<Act, LineFault>
 fn accept(alloc: Global, value: &Value) -> Result<Act, LineFault>
     ensures { Answers result (lines.accept (view value.now)) }
 {
-    row!(
+    let (from, id) = object_of(
         alloc,
         value,
-        Accept {
-            from: Address("from"),
-            id: Optional("id", Words("id"))
-        }
-    )
+        &InLine(Waiting(Both(
+            Address("from"),
+            Optional("id", Words("id")),
+        ))),
+    )?;
+    Ok(Act::Accept { from, id })
 }
 
 #[tactic(auto, unfolding(crate::specs::Lines::session_renew))]

@@ -18,6 +18,9 @@ use std::alloc::{AllocError, Global};
 /// The greatest number that the namespace gives, 2^63 - 1.
 const MAX_NUMBER: u64 = 9_223_372_036_854_775_807;
 
+/// The longest that a call may wait, in s.
+const MAX_WAIT: u64 = 3_600;
+
 pub(crate) fn text_at<'a>(value: &'a Value, key: &str) -> Option<&'a str>
     ensures { option_map (λ s. s.now) result ≡ fields.text_at key.now (view value.now) }
 {
@@ -145,6 +148,19 @@ pub(crate) fn form_in(value: &Value) -> Option<Form>
 {
     let word = value.as_str()?;
     form_named(word)
+}
+
+fn if_wait(n: u64) -> Option<u64>
+    ensures { result ≡ fields.if_wait n }
+{
+    if n <= MAX_WAIT { Some(n) } else { None }
+}
+
+pub(crate) fn wait_in(value: &Value) -> Option<u64>
+    ensures { result ≡ fields.wait_in (view value.now) }
+{
+    let n = value.as_u64()?;
+    if_wait(n)
 }
 
 /// The bytes of pairs of hexadecimal digits, in either case.

@@ -4,7 +4,8 @@ ghost use Rattle.sb_lines.specs.Tables as tables;
 
 use crate::fault::{LineFault, bad};
 use crate::fields::{
-    entity_at, form_in, hex_at, mode_in, name_at, number_at, path_at, text_at, token_at, whole_at,
+    entity_at, form_in, hex_at, mode_in, name_at, number_at, path_at, text_at, token_at, wait_in,
+    whole_at,
 };
 use crate::form::Form;
 use crate::table::Field;
@@ -224,6 +225,29 @@ impl Field for FormWord {
         };
         match form_in(member) {
             Some(form) => Ok(form),
+            None => bad(alloc, self.0),
+        }
+    }
+}
+
+/// How long a call waits, in s; left out, not at all.
+pub(crate) struct WaitTime(pub &'static str);
+
+impl Field for WaitTime {
+    type Value = u64;
+
+    ghost field = { λ f. tables.wait f.0.now };
+
+    fn knows(&self, key: &str) -> bool {
+        key == self.0
+    }
+
+    fn read(&self, alloc: Global, value: &Value) -> Result<u64, LineFault> {
+        let Some(member) = value.get(self.0) else {
+            return Ok(0);
+        };
+        match wait_in(member) {
+            Some(wait_s) => Ok(wait_s),
             None => bad(alloc, self.0),
         }
     }

@@ -11,7 +11,7 @@
 //!
 //! ```rust
 //! let line = "{\"do\":\"peek\",\"from\":\"orders\",\"start\":1,\"count\":10}";
-//! let Line { timed, form } = read_line(alloc, line)?;
+//! let Line { timed, form, .. } = read_line(alloc, line)?;
 //! let text = reply_line(alloc, form, &Ok(Answered::New(Reply::Done)))?;
 //! assert_eq!(rt; text.as_str(), "{\"ok\":\"done\"}\n");
 //! ```
@@ -36,6 +36,7 @@ mod shown;
 mod table;
 mod texts;
 mod token;
+mod worked;
 
 pub use fault::{LineFault, bad};
 pub use form::Form;
@@ -48,3 +49,4 @@ pub use reply::{disk_fault_line, out_of_memory_line, reply_line};
 pub use shown::{message_text, property_data};
 pub use texts::{Nulls, broker_texts, lifetime_at};
 pub use token::{token_of, token_text};
+pub use worked::worked_waits;

@@ -9,8 +9,8 @@ use crate::acts::act_named;
 use crate::fault::{LineFault, bad};
 use crate::fields::{number_in, text_at};
 use crate::form::Form;
-use crate::keys::{FormWord, WholeOr};
-use crate::table::Field;
+use crate::keys::{FormWord, WaitTime, WholeOr};
+use crate::table::{Both, Field};
 use sb_machine::{By, Call, TimedCall};
 use sb_model::Text;
 use serde_json::Value;
@@ -24,6 +24,8 @@ pub struct Line {
     pub timed: TimedCall,
     /// The form in which its reply shows copies. It is no part of the call.
     pub form: Form,
+    /// How long the call waits while it finds nothing, in s, 0 to 3,600. It is no part of the call either.
+    pub wait_s: u64,
 }
 
 #[tactic(auto, unfolding(crate::specs::Lines::reading_of))]
@@ -80,13 +82,24 @@ fn beside(alloc: Global, takes: bool, value: &Value) -> Result<(u64, Option<By>)
     Ok((reading, by))
 }
 
-// The form of the reply, and what stands beside the act.
-fn formed(alloc: Global, takes: bool, value: &Value) -> Result<(Form, (u64, Option<By>)), LineFault>
+// The form of the reply and how long the call waits.
+fn manner(alloc: Global, value: &Value) -> Result<(Form, u64), LineFault>
+    ensures { Answers result (lines.manner.reads (view value.now)) }
+{
+    Both(FormWord("form"), WaitTime("wait")).read(alloc, value)
+}
+
+// These, and what stands beside the act.
+fn formed(
+    alloc: Global,
+    takes: bool,
+    value: &Value,
+) -> Result<((Form, u64), (u64, Option<By>)), LineFault>
     ensures { Answers result (lines.formed takes (view value.now)) }
 {
-    let form = FormWord("form").read(alloc, value)?;
+    let manner = manner(alloc, value)?;
     let found = beside(alloc, takes, value)?;
-    Ok((form, found))
+    Ok((manner, found))
 }
 
 #[tactic(auto, unfolding(crate::specs::Lines::named_call))]
@@ -94,7 +107,7 @@ fn named_call(alloc: Global, word: &str, value: &Value) -> Result<Line, LineFaul
     ensures { Answers result (lines.named_call word.now (view value.now)) }
 {
     let act = act_named(alloc, value, word)?;
-    let (form, (reading, by)) = match formed(alloc, is_numbered(word), value) {
+    let ((form, wait_s), (reading, by)) = match formed(alloc, is_numbered(word), value) {
         Ok(found) => found,
         Err(fault) => {
             drop(act);
@@ -105,7 +118,11 @@ fn named_call(alloc: Global, word: &str, value: &Value) -> Result<Line, LineFaul
         reading,
         call: Call { by, act },
     };
-    Ok(Line { timed, form })
+    Ok(Line {
+        timed,
+        form,
+        wait_s,
+    })
 }
 
 fn call_of(alloc: Global, value: &Value) -> Result<Line, LineFault>
@@ -142,11 +159,12 @@ fn call_in(alloc: Global, text: &str) -> Result<Line, LineFault>
 }
 
 /// The call that the text of a line spells, and the reading of the clock at which it is made, in
-/// ms since 1970 (0 to 2^64 - 1, and 0 where the line gives none); beside it the form of its reply.
+/// ms since 1970 (0 to 2^64 - 1, and 0 where the line gives none); beside it the form of its reply and
+/// how long it waits.
 ///
 /// Else the first key at fault: the empty one where the text is no JSON object, then `do`, then
-/// the unknown keys in byte order, then the act's own keys in their order, then `at`, `client` and
-/// `number`. Inside an object its unknown keys come first, too.
+/// the unknown keys in byte order, then the act's own keys in their order, then `form`, `wait`, `at`,
+/// `client` and `number`. Inside an object its unknown keys come first, too.
 pub fn read_line(alloc: Global, text: &str) -> Result<Line, LineFault>
     ensures call { Answers result (lines.line_of text.now) }
     ensures in_order { IfOk result (λ line. IsActInOrder line.timed.call.act) }

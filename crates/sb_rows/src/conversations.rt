@@ -133,7 +133,7 @@ fn script_answer(
         return Ok((Form::Plain, Err(Refusal::BadCall { key })));
     };
     match read_line(alloc, line) {
-        Ok(ScriptLine { timed, form }) => {
+        Ok(ScriptLine { timed, form, .. }) => {
             let answer = node.step(moment, &timed.call);
             drop(timed);
             Ok((form, answer))

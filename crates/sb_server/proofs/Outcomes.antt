@@ -33,7 +33,7 @@ use Rattle.sb_server.specs.declared.body.LineAsk.{LineAsk}
 use Rattle.sb_server.specs.declared.body.LineAsk.TheVariants.{Call as LineCall, NoCall as LineNone}
 use Rattle.sb_server.specs.Asks.{AsksFor, Reads, asks_close}
 use Rattle.sb_server.specs.Bodies.{line_in, lines_in, asked_by, are_lines}
-use Rattle.sb_server.specs.Responds.{IsOne, RespondsTo, Responds, LineCalled, IsLineCalled, AreCalled, any_stops, turn_of}
+use Rattle.sb_server.specs.Responds.{IsOne, RespondsTo, Responds, LineCalled, IsLineCalled, AreCalled, any_stops, turn_of, waiter_call}
 use Rattle.sb_server.specs.Serves.{Worker, Working, Served, is_fault, is_lost, serve_ending}
 use Rattle.sb_server.specs.Talks.{Start, Here, Talks, Ends}
 use Rattle.sb_server.specs.Waiting.{GoesBy, Waits, round_made, rounds_made}
@@ -156,7 +156,7 @@ lines_stops IsReading seat body lines made cs is called e =
 
 answer_stops : (IsReading : ℕ → Type 0) (access : Access) (seat : ℕ) (m : RequestMessage) (ask : Ask) (closes : Bool) (made : List Entry) (out : List ℕ) → AsksFor access m ask → RespondsTo IsReading seat ask closes made out Stops → list_any is_stop made ≡ true
 answer_stops IsReading access seat m (Once w asker) closes made out a r = one_stops IsReading seat w.call made r.0 r.1 (turn_stops closes (stops r.0) r.3)
-answer_stops IsReading access seat m (Patient w asker limit) closes made out a r = waits_stops IsReading seat w.call limit made r.0 r.1 (turn_stops closes (stops r.0) r.3)
+answer_stops IsReading access seat m (Patient waiter limit) closes made out a r = waits_stops IsReading seat (waiter_call waiter) limit made r.0 r.1 (turn_stops closes (stops r.0) r.3)
 answer_stops IsReading access seat m (Line line) closes made out a r = one_stops IsReading seat line.timed.call made r.0 r.1 (turn_stops closes (stops r.0) r.3)
 answer_stops IsReading access seat m (BadLine (Ok reply)) closes made out a r = absurd a.1
 answer_stops IsReading access seat m (BadLine (Err refusal)) closes made out a r =

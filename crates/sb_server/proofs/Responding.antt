@@ -22,20 +22,34 @@ use Rattle.sb_server.specs.declared.patience.Patience.{Patience}
 use Rattle.sb_server.specs.declared.ask.Ask.{Ask}
 use Rattle.sb_server.specs.declared.ask.Asker.{Asker}
 use Rattle.sb_server.specs.declared.ask.Ask.TheVariants.{Once, Patient, Line, BadLine, Lines, Fault}
-use Rattle.sb_server.specs.Asks.{AsksFor}
-use Rattle.sb_server.specs.Doings.{Answers, Begins, IsSettled, telling_of}
-use Rattle.sb_server.specs.Responds.{IsInOrder, Responds, Responded, IsLast, turn_of}
+use Rattle.sb_server.specs.declared.ask.Waiter.{Waiter}
+use Rattle.sb_server.specs.declared.ask.Waiter.TheVariants.{ByRest, ByLine}
+use Rattle.sb_server.specs.Asks.{AsksFor, IsLineAsk, IsScript}
+use Rattle.sb_server.specs.Doings.{Answers, Says, Begins, IsSettled, said_of, stops_by, telling_of}
+use Rattle.sb_server.specs.Responds.{AnswersWaiter, IsInOrder, Responds, Responded, IsLast, turn_of, waiter_call}
+use Rattle.sb_server.specs.Talks.{ending_of}
 use Rattle.sb_server.specs.Waiting.{GoesByCall, Waiting}
 use Rattle.sb_server.proofs.Going.{goes_by_none, waiting_done}
 
 -- what a request asks for is in order
 pub asks_in_order : (access : Access) (m : RequestMessage) (ask : Ask) → AsksFor access m ask → IsInOrder ask
 asks_in_order access m (Once w asker) x = x.in_order
-asks_in_order access m (Patient w asker limit) x = x.0.in_order
-asks_in_order access m (Line line) x = x.1.1
+asks_in_order access m (Patient (ByRest w asker) limit) x = x.0.in_order
+asks_in_order access m (Patient (ByLine line) limit) x = x.1.0.1
+asks_in_order access m (Line line) x = x.1.0.1
 asks_in_order access m (BadLine answer) x = tt
 asks_in_order access m (Lines lines) x = x.2
 asks_in_order access m (Fault fault) x = tt
+
+-- a body that is one line is asked for so
+pub line_asks : (access : Access) (m : RequestMessage) (ask : Ask) → IsScript access m false → IsLineAsk m.body ask → AsksFor access m ask
+line_asks access m (Once w asker) s x = absurd x
+line_asks access m (Patient (ByRest w asker) limit) s x = absurd x
+line_asks access m (Patient (ByLine line) limit) s x = (s, x)
+line_asks access m (Line line) s x = (s, x)
+line_asks access m (BadLine answer) s x = (s, x)
+line_asks access m (Lines lines) s x = absurd x
+line_asks access m (Fault fault) s x = absurd x
 
 goes_or_ends : (t : Turn) → (t ≡ Goes) ⊎ (t ≡ Goes → ⊥)
 goes_or_ends Goes = inl refl
@@ -100,14 +114,28 @@ fault_begins IsReading pass ask closes fault told is same =
     subst (λ (a : Ask). Answers IsReading pass a closes pass told) (sym is) (subst (λ (t : Telling). Answers IsReading pass (Fault fault) closes pass t) (sym same)
     ([], turn_of closes false, goes_by_none pass, refl, λ out says. (refl, says, refl)))
 
--- a receive was asked once, or once more
+-- what came of what waits is its response
+pub said_answers : (waiter : Waiter) (answer : Result Answered Refusal) (closes : Bool) (out : List ℕ) → Says (said_of waiter answer) closes out → AnswersWaiter waiter answer closes out
+said_answers (ByRest w asker) answer closes out says = says
+said_answers (ByLine line) answer closes out says = says
+
+said_stops : (waiter : Waiter) (answer : Result Answered Refusal) → stops_by (said_of waiter answer) ≡ stops answer
+said_stops (ByRest w asker) answer = refl
+said_stops (ByLine line) answer = refl
+
+-- what waits was asked once, or once more
 pub settled_begins : (IsReading : ℕ → Type 0) (pass new : Sitting) (p : Patience) (begun : Begun)
-    → Waiting IsReading pass p.wanted.call p.limit_ms p.first_ms p.asked_ms p.answer new → IsSettled p begun → Begins IsReading pass (Patient p.wanted p.asker p.limit_ms) p.closes new begun
+    → Waiting IsReading pass (waiter_call p.waiter) p.limit_ms p.first_ms p.asked_ms p.answer new → IsSettled p begun → Begins IsReading pass (Patient p.waiter p.limit_ms) p.closes new begun
 settled_begins IsReading pass new p (Done told) w x =
-    let waits = waiting_done IsReading pass new p.wanted.call p.limit_ms p.first_ms p.asked_ms p.answer w x.1 in
-    subst (λ (t : Telling). Answers IsReading pass (Patient p.wanted p.asker p.limit_ms) p.closes new t) (sym x.0)
-    (waits.0, turn_of p.closes (stops p.answer), waits.1, refl, λ out says. (p.answer, waits.2, says, refl))
+    let waits = waiting_done IsReading pass new (waiter_call p.waiter) p.limit_ms p.first_ms p.asked_ms p.answer w x.1 in
+    subst (λ (t : Telling). Answers IsReading pass (Patient p.waiter p.limit_ms) p.closes new t) (sym x.0) (
+      waits.0,
+      turn_of p.closes (stops p.answer),
+      waits.1,
+      ap (λ (b : Bool). ending_of (turn_of p.closes b)) (said_stops p.waiter p.answer),
+      λ out says. (p.answer, waits.2, said_answers p.waiter p.answer p.closes out says, refl),
+    )
 settled_begins IsReading pass new p (Calls script) w x = absurd x
 settled_begins IsReading pass new p (Waits q) w x =
-    subst (λ (r : Patience). Begins IsReading pass (Patient p.wanted p.asker p.limit_ms) p.closes new (Waits r)) (sym x.0)
+    subst (λ (r : Patience). Begins IsReading pass (Patient p.waiter p.limit_ms) p.closes new (Waits r)) (sym x.0)
     (refl, refl, record { waiting = w; empty = x.1; early = x.2 })

@@ -26,13 +26,14 @@ use Rattle.sb_server.specs.declared.telling.Telling.{Telling}
 use Rattle.sb_server.specs.declared.ending.Ending.{Ending}
 use Rattle.sb_server.specs.declared.ending.Ending.TheVariants.{WriteFault}
 use Rattle.sb_server.specs.Asks.{AsksFor, asks_close}
-use Rattle.sb_server.specs.Doings.{Says, Answers, IsPatient, IsFresh, HasCalled, Begins, IsAsking, IsDue, Owes, IsNext, IsNextInOrder, IsBegunInOrder, refusing, behind, next_of, farewell}
+use Rattle.sb_server.specs.Doings.{Says, Answers, IsPatient, IsFresh, HasCalled, Begins, IsAsking, IsDue, Owes, IsNext, IsNextInOrder, IsBegunInOrder, refusing, behind, next_of, said_of, farewell}
 use Rattle.sb_server.specs.Reads.{Takes, IsDone, IsGone}
-use Rattle.sb_server.specs.Responds.{AnswersCall, GivenUp}
+use Rattle.sb_server.specs.Responds.{AnswersWaiter, GivenUp, waiter_call}
 use Rattle.sb_server.specs.Talks.{Start, Here, Talks, Ends, TurnsTo, refusal_bytes, refusal_ending}
 use Rattle.sb_server.specs.Waiting.{GoesBy, FoundNothing}
 use Rattle.sb_server.proofs.Going.{goes_by_none, found_nothing, nothing_is}
 use Rattle.sb_server.proofs.Reading.{read_on, takes_on, done_before}
+use Rattle.sb_server.proofs.Responding.{said_answers}
 use Rattle.sb_server.proofs.Turning.{Reaches, asked, asked_part, refused_as, refused_part, refused_lost, gone, gone_part, rose_later}
 use Rattle.sb_server.specs.declared.telling.Turn.TheVariants.{Goes}
 
@@ -58,8 +59,8 @@ due_gone IsReading s h n p a x left pass written writes = record {
       (rose_later a.old.writes n.writes k (omega (arith, a.writes, writes)) rose);
 }
   where
-    found : (made : List Entry) × GoesBy a.old.pass made h.pass × FoundNothing IsReading a.old.pass.seat p.wanted.call p.limit_ms made
-    found = found_nothing IsReading a.old.pass h.pass p.wanted.call p.limit_ms p.first_ms p.asked_ms p.answer a.patient.waiting a.patient.empty a.patient.early
+    found : (made : List Entry) × GoesBy a.old.pass made h.pass × FoundNothing IsReading a.old.pass.seat (waiter_call p.waiter) p.limit_ms made
+    found = found_nothing IsReading a.old.pass h.pass (waiter_call p.waiter) p.limit_ms p.first_ms p.asked_ms p.answer a.patient.waiting a.patient.empty a.patient.early
 
     takes : Takes a.old.stand (a.m ∷ []) n.stand
     takes = takes_on a.old.stand h.stand n.stand (a.m ∷ []) [] a.takes x.takes
@@ -67,14 +68,13 @@ due_gone IsReading s h n p a x left pass written writes = record {
     goes : GoesBy a.old.pass found.0 n.pass
     goes = subst (λ (q : Sitting). GoesBy a.old.pass found.0 q) (sym pass) found.1
 
-    up : (out : List ℕ) → AnswersCall p.wanted.call p.answer p.asker true out → GivenUp IsReading s.access a.old.pass.seat a.m found.0 out
+    up : (out : List ℕ) → Says (said_of p.waiter p.answer) true out → GivenUp IsReading s.access a.old.pass.seat a.m found.0 out
     up out says = record {
-      wanted = p.wanted;
-      asker = p.asker;
+      waiter = p.waiter;
       limit = p.limit_ms;
       asks = a.asks;
       found = found.2;
-      says = subst (λ (r : Result Answered Refusal). AnswersCall p.wanted.call r p.asker true out) (nothing_is p.answer a.patient.empty) says;
+      says = subst (λ (r : Result Answered Refusal). AnswersWaiter p.waiter r true out) (nothing_is p.answer a.patient.empty) (said_answers p.waiter p.answer true out says);
     }
 
     left_at : IsGone h.stand.there n.stand.there h.reads n.reads → IsDone s.there n.stand.there ⊎ Rose s.reads n.reads
@@ -154,12 +154,12 @@ begun_next IsReading s h n m ask closes (Calls script) t x asks is begins same w
       },
     )
 
--- a receive that waits was asked again
+-- what waits was asked again
 pub asking_next : (IsReading : ℕ → Type 0) (s : Start) (h n : Here) (p : Patience) (begun : Begun) → IsAsking IsReading s h p → Reaches h n []
-    → ((old : Sitting) → IsPatient IsReading old p h.pass → Begins IsReading old (Patient p.wanted p.asker p.limit_ms) p.closes n.pass begun)
+    → ((old : Sitting) → IsPatient IsReading old p h.pass → Begins IsReading old (Patient p.waiter p.limit_ms) p.closes n.pass begun)
     → n.written ≡ h.written → h.writes ≤ n.writes → IsNext IsReading s n (next_of begun)
 asking_next IsReading s h n p begun a x begins written writes =
-    begun_next IsReading s a.old n a.m (Patient p.wanted p.asker p.limit_ms) p.closes begun a.talks
+    begun_next IsReading s a.old n a.m (Patient p.waiter p.limit_ms) p.closes begun a.talks
     (record { takes = takes_on a.old.stand h.stand n.stand (a.m ∷ []) [] a.takes x.takes; reads = omega (arith, a.reads, x.reads) })
     a.asks a.closes_is (begins a.old.pass a.patient) (written ∙ a.written) (omega (arith, a.writes, writes))
 
@@ -202,7 +202,7 @@ wrote_part IsReading s h out w k o stays rose = o.part w k (omega (arith, rose))
     by None b g t = tt
     by (Some l) b g t = (out.at, subst (λ (o : Option (List ℕ)). Stays o w) g t)
 
--- ---- the calls of receives that wait are in order
+-- ---- the calls of what waits are in order
 
 pub refusing_in_order : (b : Result (Vec ℕ Global) AllocError) (ending : Ending) → IsNextInOrder (refusing b ending)
 refusing_in_order (Ok v) ending = tt

@@ -12,6 +12,8 @@ use Rattle.sb_rest.specs.Calls.{call_of, routed}
 use Rattle.sb_server.specs.declared.telling.Turn.{Turn}
 use Rattle.sb_server.specs.declared.ask.Ask.{Ask}
 use Rattle.sb_server.specs.declared.ask.Ask.TheVariants.{Once, Patient, Line, BadLine, Lines, Fault}
+use Rattle.sb_server.specs.declared.ask.Waiter.{Waiter}
+use Rattle.sb_server.specs.declared.ask.Waiter.TheVariants.{ByRest, ByLine}
 use Rattle.sb_server.specs.Asks.{AsksFor}
 use Rattle.sb_server.specs.Responds.{RespondsTo, GivenUp, IsUnwelcome}
 
@@ -38,11 +40,16 @@ none_called access m u = none_by (is_foreign access m.head.fields) (has_key acce
 pub responds_none : (IsReading : ℕ → Type 0) (access : Access) (seat : ℕ) (m : RequestMessage) (ask : Ask) (closes : Bool) (made : List Entry) (out : List ℕ) (turn : Turn)
     → IsUnwelcome access m → AsksFor access m ask → RespondsTo IsReading seat ask closes made out turn → made ≡ []
 responds_none IsReading access seat m (Once w asker) closes made out turn u a r = absurd (subst IsNone a.call (none_called access m u))
-responds_none IsReading access seat m (Patient w asker limit) closes made out turn u a r = absurd (subst IsNone a.0.call (none_called access m u))
+responds_none IsReading access seat m (Patient (ByRest w asker) limit) closes made out turn u a r = absurd (subst IsNone a.0.call (none_called access m u))
+responds_none IsReading access seat m (Patient (ByLine line) limit) closes made out turn u a r = absurd (subst IsNone a.0.0 (none_called access m u))
 responds_none IsReading access seat m (Line line) closes made out turn u a r = absurd (subst IsNone a.0.0 (none_called access m u))
 responds_none IsReading access seat m (BadLine answer) closes made out turn u a r = r.0
 responds_none IsReading access seat m (Lines lines) closes made out turn u a r = absurd (subst IsNone a.0.0 (none_called access m u))
 responds_none IsReading access seat m (Fault fault) closes made out turn u a r = r.0
 
 pub given_up_none : (IsReading : ℕ → Type 0) (access : Access) (seat : ℕ) (m : RequestMessage) (mine : List Entry) (said : List ℕ) → IsUnwelcome access m → GivenUp IsReading access seat m mine said → mine ≡ []
-given_up_none IsReading access seat m mine said u g = absurd (subst IsNone g.asks.0.call (none_called access m u))
+given_up_none IsReading access seat m mine said u g = by g.waiter g.asks
+  where
+    by : (w : Waiter) → AsksFor access m (Patient w g.limit) → mine ≡ []
+    by (ByRest w asker) a = absurd (subst IsNone a.0.call (none_called access m u))
+    by (ByLine line) a = absurd (subst IsNone a.0.0 (none_called access m u))

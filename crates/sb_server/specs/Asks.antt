@@ -1,5 +1,5 @@
 -- What a request asks for, and whether its connection ends with the response.
-use Rattle.std.specs.Prelude.{◌≡◌, ℕ, ◌*◌, ◌-◌, ◌^◌, min, List, length, take, drop, codes, Bool, true, false, not, ◌&&◌, ◌||◌, ◌==◌, is_none, Result, Ok, Err}
+use Rattle.std.specs.Prelude.{◌≡◌, ℕ, ◌*◌, ◌-◌, ◌^◌, min, nat_lt, List, length, take, drop, codes, Bool, true, false, not, ◌&&◌, ◌||◌, ◌==◌, is_none, Result, Ok, Err}
 use Rattle.std.specs.List.{list_all, list_any, position_or_len}
 use Rattle.form_urlencoded.specs.Form.{split}
 use Rattle.sb_machine.specs.Ordered.{IsActInOrder}
@@ -24,6 +24,8 @@ use Rattle.sb_rest.specs.declared.call.Wanted.{Wanted}
 use Rattle.sb_server.specs.declared.ask.Ask.{Ask}
 use Rattle.sb_server.specs.declared.ask.Asker.{Asker}
 use Rattle.sb_server.specs.declared.ask.Ask.TheVariants.{Once, Patient, Line, BadLine, Lines, Fault}
+use Rattle.sb_server.specs.declared.ask.Waiter.{Waiter}
+use Rattle.sb_server.specs.declared.ask.Waiter.TheVariants.{ByRest, ByLine}
 use Rattle.sb_server.specs.Bodies.{has_lines, line_in, lines_in, IsLineInOrder}
 
 -- ---- the head
@@ -62,10 +64,14 @@ abbrev pub is_receive : Act → Bool
 is_receive (Receive from mode session) = true
 is_receive _ = false
 
--- A receive waits where there is nothing yet. One with a number is made once: that there was nothing is an
+-- A receive by REST waits where there is nothing yet. One with a number is made once: that there was nothing is an
 -- answer, too, and is kept under its number.
 abbrev pub waits : Call → Bool
 waits call = is_receive call.act && is_none call.by
+
+-- A line waits which asks for it, a receive or the accept of a session; one with a number is made once, too.
+abbrev pub line_waits : ScriptLine → Bool
+line_waits line = nat_lt 0 line.wait_s && is_none line.timed.call.by
 
 -- so many s in ms, which stand still at 2^64 - 1
 abbrev pub ms_in : ℕ → ℕ
@@ -83,9 +89,10 @@ abbrev pub IsNoLine : Result ScriptLine (List ℕ) → Result Answered Refusal �
 IsNoLine said (Ok reply) = ⊥
 IsNoLine said (Err refusal) = Reads said (Err refusal)
 
--- what a body asks for as one line
+-- what a body asks for as one line, which waits so many ms at most, or is called once
 abbrev pub IsLineAsk : List ℕ → Ask → Type 0
-IsLineAsk body (Line line) = Reads (line_in body) (Ok line)
+IsLineAsk body (Line line) = Reads (line_in body) (Ok line) × (line_waits line ≡ false)
+IsLineAsk body (Patient (ByLine line) limit) = Reads (line_in body) (Ok line) × (line_waits line ≡ true) × (limit ≡ ms_in line.wait_s)
 IsLineAsk body (BadLine answer) = IsNoLine (line_in body) answer
 IsLineAsk body _ = ⊥
 
@@ -114,7 +121,8 @@ IsScript access m are_several = (call_of access m ≡ Err Script) × (has_lines 
 -- the request asks for this, of a server that answers these
 abbrev pub AsksFor : Access → RequestMessage → Ask → Type 0
 AsksFor access m (Once w asker) = IsCall access m w asker false
-AsksFor access m (Patient w asker limit) = IsCall access m w asker true × (limit ≡ ms_in w.timeout)
+AsksFor access m (Patient (ByRest w asker) limit) = IsCall access m w asker true × (limit ≡ ms_in w.timeout)
+AsksFor access m (Patient (ByLine line) limit) = IsScript access m false × IsLineAsk m.body (Patient (ByLine line) limit)
 AsksFor access m (Line line) = IsScript access m false × IsLineAsk m.body (Line line)
 AsksFor access m (BadLine answer) = IsScript access m false × IsLineAsk m.body (BadLine answer)
 AsksFor access m (Lines lines) = IsScript access m true × (lines ≡ lines_in m.body) × Each IsLineInOrder lines

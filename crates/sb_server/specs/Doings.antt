@@ -23,6 +23,8 @@ use Rattle.sb_server.specs.declared.telling.Telling.{Telling}
 use Rattle.sb_server.specs.declared.ask.Ask.{Ask}
 use Rattle.sb_server.specs.declared.body.LineAsk.{LineAsk}
 use Rattle.sb_server.specs.declared.ask.Ask.TheVariants.{Patient, Lines}
+use Rattle.sb_server.specs.declared.ask.Waiter.{Waiter}
+use Rattle.sb_server.specs.declared.ask.Waiter.TheVariants.{ByRest, ByLine}
 use Rattle.sb_server.specs.declared.doing.Begun.{Begun}
 use Rattle.sb_server.specs.declared.doing.Begun.TheVariants.{Done, Waits, Calls as WillCall}
 use Rattle.sb_server.specs.declared.doing.Doing.{Doing}
@@ -37,7 +39,7 @@ use Rattle.sb_server.specs.declared.ending.Ending.TheVariants.{WriteFault, OutOf
 use Rattle.sb_server.specs.Asks.{AsksFor, asks_close}
 use Rattle.sb_server.specs.Reads.{Takes}
 use Rattle.sb_server.specs.Bodies.{IsLineInOrder}
-use Rattle.sb_server.specs.Responds.{LineCalled, AreCalled, AnswersCall, RespondsTo, any_stops, fault_bytes, form_of, line_bytes, lines_bytes, replies_to, turn_of}
+use Rattle.sb_server.specs.Responds.{LineCalled, AreCalled, AnswersCall, RespondsTo, any_stops, fault_bytes, form_of, line_bytes, lines_bytes, replies_to, turn_of, waiter_call}
 use Rattle.sb_server.specs.Talks.{Start, Here, Talks, ReadsOut, Ends, TurnsTo, ending_of}
 use Rattle.sb_server.specs.Waiting.{GoesBy, Waiting, is_empty}
 
@@ -61,21 +63,26 @@ stops_by (OfFault fault) = false
 abbrev pub telling_of : Said → Bool → Telling
 telling_of said closes = record { said = said; closes = closes; after = ending_of (turn_of closes (stops_by said)) }
 
--- what is to be told of a receive whose caller has gone
-abbrev pub farewell : Patience → Telling
-farewell p = record { said = OfCall p.wanted p.asker p.answer; closes = true; after = Some Gone }
+-- what came of what waits, where its last call was answered so
+abbrev pub said_of : Waiter → Result Answered Refusal → Said
+said_of (ByRest wanted asker) answer = OfCall wanted asker answer
+said_of (ByLine line) answer = OfLine line.form answer
 
--- ---- a receive that waits
+-- what is to be told of what waits where its caller has gone
+abbrev pub farewell : Patience → Telling
+farewell p = record { said = said_of p.waiter p.answer; closes = true; after = Some Gone }
+
+-- ---- what waits: a receive, or a line
 
 -- behind `pass` its calls were made, the last of which found nothing before its end
 pub record IsPatient (IsReading : ℕ → Type 0) (pass : Sitting) (p : Patience) (new : Sitting) : Type 0 where
-  pub waiting : Waiting IsReading pass p.wanted.call p.limit_ms p.first_ms p.asked_ms p.answer new
+  pub waiting : Waiting IsReading pass (waiter_call p.waiter) p.limit_ms p.first_ms p.asked_ms p.answer new
   pub empty : is_empty p.answer ≡ true
   pub early : p.asked_ms < p.first_ms + p.limit_ms
 
 -- it goes on where its last call found nothing before its end, else its answer is told
 abbrev pub IsSettled : Patience → Begun → Type 0
-IsSettled p (Done told) = (told ≡ telling_of (OfCall p.wanted p.asker p.answer) p.closes) × (is_empty p.answer ≡ true → p.first_ms + p.limit_ms ≤ p.asked_ms)
+IsSettled p (Done told) = (told ≡ telling_of (said_of p.waiter p.answer) p.closes) × (is_empty p.answer ≡ true → p.first_ms + p.limit_ms ≤ p.asked_ms)
 IsSettled p (WillCall script) = ⊥
 IsSettled p (Waits q) = (q ≡ p) × (is_empty p.answer ≡ true) × (p.asked_ms < p.first_ms + p.limit_ms)
 
@@ -102,9 +109,9 @@ IsFresh ask closes script = (lines : List LineAsk) × (ask ≡ Lines lines) × (
 abbrev pub Begins : (ℕ → Type 0) → Sitting → Ask → Bool → Sitting → Begun → Type 0
 Begins IsReading pass ask closes new (Done told) = Answers IsReading pass ask closes new told
 Begins IsReading pass ask closes new (WillCall script) = IsFresh ask closes script × (new ≡ pass)
-Begins IsReading pass ask closes new (Waits p) = (ask ≡ Patient p.wanted p.asker p.limit_ms) × (p.closes ≡ closes) × IsPatient IsReading pass p new
+Begins IsReading pass ask closes new (Waits p) = (ask ≡ Patient p.waiter p.limit_ms) × (p.closes ≡ closes) × IsPatient IsReading pass p new
 
--- All requests but the last were answered; the last is a receive that waits, and nothing was written for it.
+-- All requests but the last were answered; the last waits, and nothing was written for it.
 pub record IsAsking (IsReading : ℕ → Type 0) (s : Start) (h : Here) (p : Patience) : Type 0 where
   pub old : Here
   pub m : RequestMessage
@@ -113,7 +120,7 @@ pub record IsAsking (IsReading : ℕ → Type 0) (s : Start) (h : Here) (p : Pat
   pub reads : old.reads ≤ h.reads
   pub writes : old.writes ≤ h.writes
   pub written : h.written ≡ old.written
-  pub asks : AsksFor s.access m (Patient p.wanted p.asker p.limit_ms)
+  pub asks : AsksFor s.access m (Patient p.waiter p.limit_ms)
   pub closes_is : p.closes ≡ asks_close m
   pub patient : IsPatient IsReading old.pass p h.pass
 
@@ -178,12 +185,12 @@ IsNext IsReading s h (Over ending) = Ends IsReading s h ending
 abbrev pub Steps : (ℕ → Type 0) → Access → Here → Doing → Here → Next → Type 0
 Steps IsReading access old doing new next = (s : Start) → s.access ≡ access → IsDoing IsReading s old doing → IsNext IsReading s new next
 
--- ---- the calls of receives that wait, and of lines, are in order
+-- ---- the calls of what waits, and of lines, are in order
 
 -- that of what a connection does
 abbrev pub IsDoingInOrder : Doing → Type 0
 IsDoingInOrder Reads = Unit {0}
-IsDoingInOrder (Asks p) = IsActInOrder p.wanted.call.act
+IsDoingInOrder (Asks p) = IsActInOrder (waiter_call p.waiter).act
 IsDoingInOrder (Calls script) = Each IsLineInOrder script.left.items
 IsDoingInOrder (WillSay script form answer) = Each IsLineInOrder script.left.items
 IsDoingInOrder (Tells told) = Unit {0}
@@ -199,7 +206,7 @@ IsNextInOrder (Over ending) = Unit {0}
 -- that of what came of a request's calls
 abbrev pub IsBegunInOrder : Begun → Type 0
 IsBegunInOrder (Done told) = Unit {0}
-IsBegunInOrder (Waits p) = IsActInOrder p.wanted.call.act
+IsBegunInOrder (Waits p) = IsActInOrder (waiter_call p.waiter).act
 IsBegunInOrder (WillCall script) = Each IsLineInOrder script.left.items
 
 -- ---- how it goes on

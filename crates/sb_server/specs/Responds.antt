@@ -21,10 +21,11 @@ use Rattle.sb_rest.specs.declared.access.Access.{Access}
 use Rattle.sb_rest.specs.Callers.{is_foreign, has_key}
 use Rattle.sb_rest.specs.Responses.{Gives, fault_response, line_response}
 use Rattle.sb_rest.specs.declared.call.RestFault.{RestFault}
-use Rattle.sb_rest.specs.declared.call.Wanted.{Wanted}
 use Rattle.sb_server.specs.declared.ask.Ask.{Ask}
 use Rattle.sb_server.specs.declared.ask.Asker.{Asker}
 use Rattle.sb_server.specs.declared.ask.Ask.TheVariants.{Once, Patient, Line, BadLine, Lines, Fault}
+use Rattle.sb_server.specs.declared.ask.Waiter.{Waiter}
+use Rattle.sb_server.specs.declared.ask.Waiter.TheVariants.{ByRest, ByLine}
 use Rattle.sb_server.specs.declared.body.LineAsk.{LineAsk}
 use Rattle.sb_server.specs.declared.body.LineAsk.TheVariants.{Call as LineCall, NoCall}
 use Rattle.sb_server.specs.declared.telling.Turn.{Turn}
@@ -55,6 +56,18 @@ AnswersCall call answer asker closes out = (said : ResponseMessage) × Gives cal
 -- connection too where the namespace acts no more
 abbrev pub line_bytes : Form → Result Answered Refusal → Bool → List ℕ
 line_bytes form answer closes = response_bytes (closed (closes || stops answer) (line_response (answer_line form answer)))
+
+-- ---- what waits
+
+-- the call that it makes, once or more
+abbrev pub waiter_call : Waiter → Call
+waiter_call (ByRest w asker) = w.call
+waiter_call (ByLine line) = line.timed.call
+
+-- the bytes of the response, by the answer of the last call
+abbrev pub AnswersWaiter : Waiter → Result Answered Refusal → Bool → List ℕ → Type 0
+AnswersWaiter (ByRest w asker) answer closes out = AnswersCall w.call answer asker closes out
+AnswersWaiter (ByLine line) answer closes out = out ≡ line_bytes line.form answer closes
 
 -- ---- the response to several lines
 
@@ -105,7 +118,7 @@ fault_bytes fault closes = response_bytes (closed closes (fault_response fault))
 -- the lists of what it asks for are in order
 abbrev pub IsInOrder : Ask → Type 0
 IsInOrder (Once w asker) = IsActInOrder w.call.act
-IsInOrder (Patient w asker limit) = IsActInOrder w.call.act
+IsInOrder (Patient waiter limit) = IsActInOrder (waiter_call waiter).act
 IsInOrder (Line line) = IsActInOrder line.timed.call.act
 IsInOrder (BadLine answer) = Unit {0}
 IsInOrder (Lines lines) = Each IsLineInOrder lines
@@ -115,8 +128,8 @@ IsInOrder (Fault fault) = Unit {0}
 abbrev pub RespondsTo : (ℕ → Type 0) → ℕ → Ask → Bool → List Entry → List ℕ → Turn → Type 0
 RespondsTo IsReading seat (Once w asker) closes made out turn =
     (answer : Result Answered Refusal) × IsOne IsReading seat w.call made answer × AnswersCall w.call answer asker closes out × (turn ≡ turn_of closes (stops answer))
-RespondsTo IsReading seat (Patient w asker limit) closes made out turn =
-    (answer : Result Answered Refusal) × Waits IsReading seat w.call limit made answer × AnswersCall w.call answer asker closes out × (turn ≡ turn_of closes (stops answer))
+RespondsTo IsReading seat (Patient waiter limit) closes made out turn =
+    (answer : Result Answered Refusal) × Waits IsReading seat (waiter_call waiter) limit made answer × AnswersWaiter waiter answer closes out × (turn ≡ turn_of closes (stops answer))
 RespondsTo IsReading seat (Line line) closes made out turn =
     (answer : Result Answered Refusal) × IsOne IsReading seat line.timed.call made answer × (out ≡ line_bytes line.form answer closes) × (turn ≡ turn_of closes (stops answer))
 RespondsTo IsReading seat (BadLine answer) closes made out turn = (made ≡ []) × (out ≡ line_bytes Plain answer closes) × (turn ≡ turn_of closes (stops answer))
@@ -140,15 +153,14 @@ pub record Responded (IsReading : ℕ → Type 0) (access : Access) (seat : ℕ)
   pub asks : AsksFor access m ask
   pub responds : RespondsTo IsReading seat ask (asks_close m) mine first turn
 
--- A receive that is given up, with its response, which tells that nothing was found and ends the connection: its calls,
+-- What waits and is given up, with its response, which tells that nothing was found and ends the connection: its calls,
 -- one or more, each found nothing before its end.
 pub record GivenUp (IsReading : ℕ → Type 0) (access : Access) (seat : ℕ) (m : RequestMessage) (mine : List Entry) (said : List ℕ) : Type 0 where
-  pub wanted : Wanted
-  pub asker : Asker
+  pub waiter : Waiter
   pub limit : ℕ
-  pub asks : AsksFor access m (Patient wanted asker limit)
-  pub found : FoundNothing IsReading seat wanted.call limit mine
-  pub says : AnswersCall wanted.call (Ok (New Empty)) asker true said
+  pub asks : AsksFor access m (Patient waiter limit)
+  pub found : FoundNothing IsReading seat (waiter_call waiter) limit mine
+  pub says : AnswersWaiter waiter (Ok (New Empty)) true said
 
 -- the response to each request in order, and the entries of their calls
 abbrev pub Responds : (ℕ → Type 0) → Access → ℕ → List RequestMessage → List Entry → List ℕ → Turn → Type 0
@@ -167,6 +179,6 @@ abbrev pub MakesNone : (ℕ → Type 0) → Type 0
 MakesNone IsReading =
     (access : Access) (seat : ℕ) (m : RequestMessage) (mine : List Entry) (first : List ℕ) (turn : Turn) → IsUnwelcome access m → Responded IsReading access seat m mine first turn → mine ≡ []
 
--- nor is it a receive that is given up
+-- nor does it wait and is given up
 abbrev pub GivesUpNone : (ℕ → Type 0) → Type 0
 GivesUpNone IsReading = (access : Access) (seat : ℕ) (m : RequestMessage) (mine : List Entry) (said : List ℕ) → IsUnwelcome access m → GivenUp IsReading access seat m mine said → mine ≡ []

@@ -17,7 +17,7 @@ use Rattle.sb_server.specs.Talks.{Start, Here}
 use Rattle.sb_server.specs.Times.{IsSince}
 use Rattle.sb_server.specs.Works.{Visit, Works, ServesBy, GoesOn, StopsBy}
 
--- a worker that has a connection has it of its door, and the call of a receive that waits is in order
+-- a worker that has a connection has it of its door, and the call of what waits is in order
 abbrev pub IsSound : {X : Type 0} → Stage X → ℕ → Type 0
 IsSound (Wants left) out = Unit {0}
 IsSound (Serves left guest) out = (1 ≤ out) × IsDoingInOrder guest.doing

@@ -111,8 +111,8 @@ pub record Parts (IsReading : ℕ → Type 0) (s : Start) (h : Here) : Type 0 wh
 
 -- ---- who has gone
 
--- These were due, where the other side has ended, or a read has failed, while a receive waited: the responses to all
--- requests but the last, and that of the last, a receive that is given up.
+-- These were due, where the other side has ended, or a read has failed, while a call waited: the responses to all
+-- requests but the last, and that of the last, which is given up.
 pub record Leaves (IsReading : ℕ → Type 0) (s : Start) (h : Here) (all : List ℕ) : Type 0 where
   pub fed : List ℕ
   pub ms : List RequestMessage

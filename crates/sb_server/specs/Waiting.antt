@@ -1,4 +1,4 @@
--- The entries of a pass's own calls, and those of a receive that waits. `IsReading` holds of what a clock may read.
+-- The entries of a pass's own calls, and those of a call that waits: a receive, or the accept of a session. `IsReading` holds of what a clock may read.
 use Rattle.std.specs.Prelude.{◌≡◌, ℕ, ◌+◌, ◌≤◌, ◌<◌, List, [], ◌∷◌, ◌++◌, Bool, true, false, Option, Result, Ok}
 use Rattle.sb_machine.specs.declared.call.Call.{Call}
 use Rattle.sb_machine.specs.declared.history.Entry.{Entry}
@@ -20,9 +20,9 @@ GoesBy old made new = (more : List Entry) × (new ≡ record old { seen = old.se
 abbrev pub GoesByCall : Sitting → ℕ → Call → Result Answered Refusal → Sitting → Type 0
 GoesByCall old reading call answer new = (tick : Option ℕ) × GoesBy old (made_by old.seat tick reading call answer) new
 
--- ---- a receive that waits
+-- ---- a call that waits
 
--- there was nothing to receive
+-- there was nothing to receive, or no session to accept
 abbrev pub is_empty : Result Answered Refusal → Bool
 is_empty (Ok (New Empty)) = true
 is_empty _ = false
@@ -68,7 +68,7 @@ pub record Waits (IsReading : ℕ → Type 0) (seat : ℕ) (call : Call) (limit 
   pub until : is_empty answer ≡ true → first_reading before last + limit ≤ last.reading
   pub read : AreRead IsReading (before ++ last ∷ [])
 
--- These are the entries of a receive that was given up: its calls, one or more, each found nothing, and each was made
+-- These are the entries of a call that was given up: its calls, one or more, each found nothing, and each was made
 -- before the limit, in ms, had passed since the first reading. Each was made at a reading of the clock.
 pub record FoundNothing (IsReading : ℕ → Type 0) (seat : ℕ) (call : Call) (limit : ℕ) (made : List Entry) : Type 0 where
   pub before : List Round
@@ -77,7 +77,7 @@ pub record FoundNothing (IsReading : ℕ → Type 0) (seat : ℕ) (call : Call) 
   pub empty : AreEmpty (first_reading before last + limit) (before ++ last ∷ [])
   pub read : AreRead IsReading (before ++ last ∷ [])
 
--- a receive that waits, so far
+-- a call that waits, so far
 pub record Waiting (IsReading : ℕ → Type 0) (pass : Sitting) (call : Call) (limit first now : ℕ) (answer : Result Answered Refusal) (new : Sitting) : Type 0 where
   pub before : List Round
   pub last : Round

@@ -5,22 +5,22 @@ ghost use Rattle.sb_desk.specs.Desks.{Sitting, IsOf};
 ghost use Rattle.sb_server.specs.declared.ask.Ask.TheVariants.{Patient as Asks};
 ghost use Rattle.sb_server.specs.Doings.{Begins, IsBegunInOrder, IsPatient, IsSettled};
 ghost use Rattle.sb_server.specs.Responds as responds;
+ghost use Rattle.sb_server.specs.Responds.{waiter_call};
 
-use crate::ask::{Ask, Asker};
+use crate::ask::{Ask, Waiter};
 use crate::doing::Begun;
 use crate::lines::script_of;
 use crate::patience::Patience;
-use crate::telling::{Said, telling_of};
+use crate::telling::{Said, said_of, telling_of};
 use crate::waiting::{call_once, is_done};
 use sb_desk::{Desk, Pass, Served};
 use sb_lines::Form;
 use sb_outside::Clock;
-use sb_rest::Wanted;
 use std::alloc::Global;
 use std::sync::Wait;
 
-/// Makes the calls that are asked for at this pass, and says what is to be told of them; of a receive
-/// that waits it makes the first, and of several script lines none yet.
+/// Makes the calls that are asked for at this pass, and says what is to be told of them; of what waits it
+/// makes the first, and of several script lines none yet.
 pub(crate) fn answer<V: Served, R: Wait, C: Clock>(
     rt: &R,
     alloc: Global,
@@ -46,11 +46,9 @@ pub(crate) fn answer<V: Served, R: Wait, C: Clock>(
             };
             (pass, Begun::Done(telling_of(said, closes)))
         }
-        Ask::Patient {
-            wanted,
-            asker,
-            limit_ms,
-        } => ask_first(rt, desk, pass, clock, wanted, asker, limit_ms, closes),
+        Ask::Patient { waiter, limit_ms } => {
+            ask_first(rt, desk, pass, clock, waiter, limit_ms, closes)
+        }
         Ask::Line { line } => {
             let (pass, answer) = call_once(rt, desk, pass, clock.now(), &line.timed.call);
             let form = line.form;
@@ -71,28 +69,26 @@ pub(crate) fn answer<V: Served, R: Wait, C: Clock>(
     }
 }
 
-// The first call of a receive that waits.
+// The first call of what waits.
 fn ask_first<V: Served, R: Wait, C: Clock>(
     rt: &R,
     desk: &Desk<V>,
     pass: Pass,
     clock: &C,
-    wanted: Wanted,
-    asker: Asker,
+    waiter: Waiter,
     limit_ms: u64,
     closes: bool,
 ) -> (Pass, Begun)
     requires desk { IsOf desk.now pass }
-    requires order { IsActInOrder wanted.call.act }
-    ensures begins { Begins (C.reads clock.now) pass (Asks wanted asker limit_ms) closes result.0 result.1 }
+    requires order { IsActInOrder (waiter_call waiter).act }
+    ensures begins { Begins (C.reads clock.now) pass (Asks waiter limit_ms) closes result.0 result.1 }
     ensures desk { IsOf desk.now result.0 }
     ensures in_order { IsBegunInOrder result.1 }
 {
     let first_ms = clock.now();
-    let (pass, answer) = call_once(rt, desk, pass, first_ms, &wanted.call);
+    let (pass, answer) = call_once(rt, desk, pass, first_ms, waiter.call());
     let patience = Patience {
-        wanted,
-        asker,
+        waiter,
         limit_ms,
         closes,
         first_ms,
@@ -102,7 +98,7 @@ fn ask_first<V: Served, R: Wait, C: Clock>(
     (pass, settle(patience))
 }
 
-/// Makes the next call of a receive that waits.
+/// Makes the next call of what waits.
 pub(crate) fn ask_again<V: Served, R: Wait, C: Clock>(
     rt: &R,
     desk: &Desk<V>,
@@ -111,15 +107,14 @@ pub(crate) fn ask_again<V: Served, R: Wait, C: Clock>(
     patience: Patience,
 ) -> (Pass, Begun)
     requires desk { IsOf desk.now pass }
-    requires order { IsActInOrder patience.wanted.call.act }
+    requires order { IsActInOrder (waiter_call patience.waiter).act }
     ensures begins { (old : Sitting) → IsPatient (C.reads clock.now) old patience pass
-        → Begins (C.reads clock.now) old (Asks patience.wanted patience.asker patience.limit_ms) patience.closes result.0 result.1 }
+        → Begins (C.reads clock.now) old (Asks patience.waiter patience.limit_ms) patience.closes result.0 result.1 }
     ensures desk { IsOf desk.now result.0 }
     ensures in_order { IsBegunInOrder result.1 }
 {
     let Patience {
-        wanted,
-        asker,
+        waiter,
         limit_ms,
         closes,
         first_ms,
@@ -127,10 +122,9 @@ pub(crate) fn ask_again<V: Served, R: Wait, C: Clock>(
         answer: _,
     } = patience;
     let asked_ms = clock.now();
-    let (pass, answer) = call_once(rt, desk, pass, asked_ms, &wanted.call);
+    let (pass, answer) = call_once(rt, desk, pass, asked_ms, waiter.call());
     let patience = Patience {
-        wanted,
-        asker,
+        waiter,
         limit_ms,
         closes,
         first_ms,
@@ -140,7 +134,7 @@ pub(crate) fn ask_again<V: Served, R: Wait, C: Clock>(
     (pass, settle(patience))
 }
 
-// What is to be told, where a receive waits no longer.
+// What is to be told, where it waits no longer.
 fn settle(patience: Patience) -> Begun
     ensures { IsSettled patience result }
 {
@@ -149,18 +143,12 @@ fn settle(patience: Patience) -> Begun
         return Begun::Waits(p);
     }
     let Patience {
-        wanted,
-        asker,
+        waiter,
         limit_ms: _,
         closes,
         first_ms: _,
         asked_ms: _,
         answer,
     } = p;
-    let said = Said::Call {
-        wanted,
-        asker,
-        answer,
-    };
-    Begun::Done(telling_of(said, closes))
+    Begun::Done(telling_of(said_of(waiter, answer), closes))
 }

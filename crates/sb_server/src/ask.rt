@@ -5,6 +5,8 @@ ghost use Rattle.sb_http.specs.Said.{said_by};
 ghost use Rattle.sb_rest.specs.Calls.{call_of};
 ghost use Rattle.sb_rest.specs.declared.call.RestFault.TheVariants.{Script};
 ghost use Rattle.sb_server.specs.Asks as asks;
+ghost use Rattle.sb_server.specs.Bodies.{line_in as line_said};
+ghost use Rattle.sb_server.specs.Responds.{waiter_call};
 
 use crate::body::{LineAsk, line_in, lines_in};
 use crate::head::has_lines;
@@ -26,36 +28,42 @@ pub struct Asker {
     pub json: bool,
 }
 
+/// What waits while its call finds nothing: a receive by REST, or a script line.
+#[derive(Drop)]
+pub enum Waiter {
+    /// A receive, and what its response has of who asks.
+    ByRest { wanted: Wanted, asker: Asker },
+    /// A receive, or the accept of a session.
+    ByLine { line: sb_lines::Line },
+}
+
+impl Waiter {
+    /// The call that it makes, once or more.
+    pub(crate) fn call(&self) -> &Call
+        ensures { result.now ≡ waiter_call self.now }
+    {
+        match self {
+            Waiter::ByRest { wanted, asker: _ } => &wanted.call,
+            Waiter::ByLine { line } => &line.timed.call,
+        }
+    }
+}
+
 /// What a request asks for.
 #[derive(Drop)]
 pub enum Ask {
     /// A call that is answered at once.
-    Once {
-        wanted: Wanted,
-        asker: Asker,
-    },
-    /// A receive that waits so many ms at most.
-    Patient {
-        wanted: Wanted,
-        asker: Asker,
-        limit_ms: u64,
-    },
-    /// A script line.
-    Line {
-        line: sb_lines::Line,
-    },
+    Once { wanted: Wanted, asker: Asker },
+    /// A call that waits so many ms at most.
+    Patient { waiter: Waiter, limit_ms: u64 },
+    /// A script line, which is called once.
+    Line { line: sb_lines::Line },
     /// A script line that is no call.
-    BadLine {
-        answer: Answer,
-    },
+    BadLine { answer: Answer },
     /// Script lines, each of which is called, in their order.
-    Lines {
-        lines: Rows<LineAsk>,
-    },
+    Lines { lines: Rows<LineAsk> },
     /// No call.
-    Fault {
-        fault: RestFault,
-    },
+    Fault { fault: RestFault },
 }
 
 /// What a request asks for. Where there is no memory to tell, that is a fault.
@@ -123,8 +131,7 @@ fn called(alloc: Global, access: &Access, request: &Request, wanted: Wanted) -> 
     if waits(&wanted.call) {
         let limit_ms = wanted.timeout.saturating_mul(1000);
         return Ask::Patient {
-            wanted,
-            asker,
+            waiter: Waiter::ByRest { wanted, asker },
             limit_ms,
         };
     }
@@ -147,12 +154,35 @@ fn script_ask(alloc: Global, access: &Access, request: &Request) -> Ask
     }
 }
 
+// Whether a line is called again while it finds nothing.
+fn line_waits(line: &sb_lines::Line) -> bool
+    ensures { result ≡ asks.line_waits line.now }
+{
+    line.wait_s > 0 && line.timed.call.by.is_none()
+}
+
+// A script line, which may wait.
+fn line_called(body: &[u8], line: sb_lines::Line) -> Ask
+    requires { asks.Reads (line_said body.now) (Ok line) }
+    ensures { asks.IsLineAsk body.now result }
+{
+    let _ = body;
+    if line_waits(&line) {
+        let limit_ms = line.wait_s.saturating_mul(1000);
+        return Ask::Patient {
+            waiter: Waiter::ByLine { line },
+            limit_ms,
+        };
+    }
+    Ask::Line { line }
+}
+
 // A body as a script line.
 fn line_ask(alloc: Global, body: &[u8]) -> Ask
     ensures { asks.IsLineAsk body.now result }
 {
     match line_in(alloc, body) {
-        Ok(line) => Ask::Line { line },
+        Ok(line) => line_called(body, line),
         Err(LineFault::BadKey { key }) => Ask::BadLine {
             answer: Err(Refusal::BadCall { key }),
         },

@@ -22,7 +22,7 @@ pub(crate) struct Outgoing {
 #[derive(Drop)]
 pub(crate) enum Doing {
     Reads,
-    /// A receive waits for a message.
+    /// A call waits for a message, or for a session.
     Asks(Patience),
     /// Script lines are called, one after another.
     Calls(Script),
@@ -43,7 +43,7 @@ pub(crate) enum Next {
     Over(Ending),
 }
 
-/// What came of a request's calls: what is to be told, a receive that waits, or script lines that are to be
+/// What came of a request's calls: what is to be told, a call that waits, or script lines that are to be
 /// called.
 #[derive(Drop)]
 pub(crate) enum Begun {

@@ -17,7 +17,7 @@ pub enum Ending {
     /// 2^32 bytes were taken.
     LongConnection,
     ReadFault,
-    /// The other side ended, or a read failed, while a receive waited: that was answered as if it had
+    /// The other side ended, or a read failed, while a call waited: that was answered as if it had
     /// found nothing by its end.
     Gone,
     WriteFault,

@@ -7,6 +7,7 @@ ghost use Rattle.sb_server.specs.declared.doing.Doing.TheVariants.{Reads, Asks, 
 ghost use Rattle.sb_server.specs.Doings as doings;
 ghost use Rattle.sb_server.specs.Doings.{IsDoingInOrder, IsNextInOrder, Steps};
 ghost use Rattle.sb_server.specs.Reads.{Stand, stand_of};
+ghost use Rattle.sb_server.specs.Responds.{waiter_call};
 ghost use Rattle.sb_server.specs.Talks as talks;
 
 use crate::answer::{answer, ask_again};
@@ -96,7 +97,7 @@ fn read_on<V: Served, R: Wait, C: Clock, N: Conn>(
     }
 }
 
-// Makes the next call of a receive that waits, or gives it up where its caller has gone.
+// Makes the next call of what waits, or gives it up where its caller has gone.
 fn wait_on<V: Served, R: Wait, C: Clock, N: Conn>(
     rt: &R,
     access: &Access,
@@ -108,7 +109,7 @@ fn wait_on<V: Served, R: Wait, C: Clock, N: Conn>(
     patience: Patience,
 ) -> (Pass, Next)
     requires desk { IsOf desk.now pass }
-    requires order { IsActInOrder patience.wanted.call.act }
+    requires order { IsActInOrder (waiter_call patience.waiter).act }
     ensures steps { Steps (C.reads clock.now) access.now (record { pass = pass; stand = stand_of inbox.old (N.left conn.old); written = N.given conn.old; reads = N.reads conn.old; writes = N.writes conn.old }) (Asks patience)
         (record { pass = result.0; stand = stand_of inbox.new (N.left conn.new); written = N.given conn.new; reads = N.reads conn.new; writes = N.writes conn.new }) result.1 }
     ensures desk { IsOf desk.now result.0 }

@@ -6,7 +6,7 @@ ghost use Rattle.sb_server.specs.Doings as doings;
 ghost use Rattle.sb_server.specs.Responds as responds;
 ghost use Rattle.sb_server.specs.Talks as talks;
 
-use crate::ask::Asker;
+use crate::ask::{Asker, Waiter};
 use crate::ending::Ending;
 use crate::head::LINES_TYPE;
 use crate::patience::Patience;
@@ -74,13 +74,30 @@ pub(crate) fn telling_of(said: Said, closes: bool) -> Telling
     }
 }
 
-/// What is to be told of a receive whose caller has gone: that nothing was found, as its last call said.
+/// What came of what waits, where its last call was answered so.
+pub(crate) fn said_of(waiter: Waiter, answer: Answer) -> Said
+    ensures { result ≡ doings.said_of waiter answer }
+{
+    match waiter {
+        Waiter::ByRest { wanted, asker } => Said::Call {
+            wanted,
+            asker,
+            answer,
+        },
+        Waiter::ByLine { line } => {
+            let form = line.form;
+            drop(line);
+            Said::Line { form, answer }
+        }
+    }
+}
+
+/// What is to be told of what waits where its caller has gone: that nothing was found, as its last call said.
 pub(crate) fn farewell(patience: Patience) -> Telling
     ensures { result ≡ doings.farewell patience }
 {
     let Patience {
-        wanted,
-        asker,
+        waiter,
         limit_ms: _,
         closes: _,
         first_ms: _,
@@ -88,11 +105,7 @@ pub(crate) fn farewell(patience: Patience) -> Telling
         answer,
     } = patience;
     Telling {
-        said: Said::Call {
-            wanted,
-            asker,
-            answer,
-        },
+        said: said_of(waiter, answer),
         closes: true,
         after: Some(Ending::Gone),
     }

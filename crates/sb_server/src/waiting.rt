@@ -1,4 +1,4 @@
-// Calls at a pass, and a receive that waits.
+// Calls at a pass, and calls that wait.
 ghost use Rattle.std.specs.Prelude.{◌≡◌, ◌+◌, ◌≤◌, ◌<◌, List, true};
 ghost use Rattle.std.specs.Bool.{OnTrue, OnFalse};
 ghost use Rattle.sb_machine.specs.Ordered.{IsActInOrder};
@@ -62,7 +62,7 @@ pub(crate) fn call_once<V: Served, R: Wait>(
     desk.call(rt, pass, reading, call)
 }
 
-// Whether there was nothing to receive.
+// Whether there was nothing to receive, or no session to accept.
 fn is_empty(answer: &Answer) -> bool
     ensures { result ≡ is_empty answer.now }
 {
@@ -80,7 +80,7 @@ fn is_over(first: u64, limit: u64, now: u64) -> bool
     }
 }
 
-/// Whether a receive waits no longer.
+/// Whether a call waits no longer.
 pub(crate) fn is_done(answer: &Answer, first: u64, limit: u64, now: u64) -> bool
     ensures done { OnTrue result (is_empty answer.now ≡ true → first + limit ≤ now) }
     ensures waits { OnFalse result ((is_empty answer.now ≡ true) × (now < first + limit)) }

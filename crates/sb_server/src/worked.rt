@@ -2,9 +2,10 @@
 ghost use Rattle.std.specs.Prelude.{◌≡◌, ◌∷◌, [], codes, replicate, true, false, None, Some, Err};
 ghost use Rattle.sb_machine.specs.declared.reply.Refusal.TheVariants.{BadCall};
 ghost use Rattle.sb_input.specs.Lines.{lines_of};
-ghost use Rattle.sb_machine.specs.declared.call.Act.TheVariants.{Receive};
+ghost use Rattle.sb_machine.specs.declared.call.Act.TheVariants.{Receive, Accept};
 ghost use Rattle.sb_machine.specs.declared.call.Mode.TheVariants.{Lock};
 ghost use Rattle.sb_machine.specs.declared.call.Part.TheVariants.{Main};
+ghost use Rattle.sb_lines.specs.declared.form.Form.TheVariants.{Plain};
 ghost use Rattle.sb_routes.specs.declared.routes.Address.TheVariants.{Entity};
 ghost use Rattle.sb_routes.specs.declared.routes.Route.TheVariants.{Head};
 ghost use Rattle.sb_http.specs.declared.fault.HttpFault.TheVariants.{HeadTooLarge};
@@ -15,7 +16,7 @@ ghost use Rattle.sb_server.specs.declared.work.Stop.TheVariants.{Enough, Ended, 
 ghost use Rattle.sb_rest.specs.Worked.{q};
 ghost use Rattle.sb_server.specs.declared.body.LineAsk.TheVariants.{NoCall};
 ghost use Rattle.sb_server.specs.Bodies.{are_lines, has_lines, lines_in};
-ghost use Rattle.sb_server.specs.Asks.{is_close, lists_close, ms_in, waits};
+ghost use Rattle.sb_server.specs.Asks.{is_close, line_waits, lists_close, ms_in, waits};
 ghost use Rattle.sb_server.specs.Responds.{fault_bytes, lines_bytes, turn_of};
 ghost use Rattle.sb_server.specs.Serves.{serve_ending};
 ghost use Rattle.sb_server.specs.Talks.{refusal_bytes};
@@ -38,6 +39,9 @@ pub fn worked_connections()
     ensures no_method { fault_bytes (BadMethod (Head (Entity Main))) false ≡ codes "HTTP/1.1 405 Method Not Allowed\r\nAllow: DELETE, POST\r\nContent-Length: 0\r\n\r\n" }
     ensures patient { waits (record { by = None; act = Receive q Lock None }) ≡ true }
     ensures numbered { waits (record { by = Some (record { client = codes "c"; number = 1 }); act = Receive q Lock None }) ≡ false }
+    ensures patient_line { line_waits (record { timed = record { reading = 5; call = record { by = None; act = Accept q None } }; form = Plain; wait_s = 1 }) ≡ true }
+    ensures line_once { line_waits (record { timed = record { reading = 5; call = record { by = None; act = Accept q None } }; form = Plain; wait_s = 0 }) ≡ false }
+    ensures numbered_line { line_waits (record { timed = record { reading = 5; call = record { by = Some (record { client = codes "c"; number = 1 }); act = Accept q None } }; form = Plain; wait_s = 1 }) ≡ false }
     ensures door_first { serve_ending (NoMemory ∷ Fault ∷ Stopped ∷ []) ≡ DoorFault }
     ensures lost { serve_ending (Enough ∷ NoMemory ∷ []) ≡ OutOfMemory }
     ensures done { serve_ending (Enough ∷ Ended ∷ Stopped ∷ []) ≡ Done }

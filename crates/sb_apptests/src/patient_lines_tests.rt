@@ -1,0 +1,168 @@
+// Script lines that wait: each has the reply to its last call, and who has gone takes nothing.
+use crate::waiting_tests::{SEND, Single, Still, door, is_given, serve_doors};
+use std::sync::Wait;
+use std::sync::atomic::AtomicU64;
+use std::test::Fail;
+use std::thread::Threads;
+
+const TAKE: &[u8] =
+    b"POST /$script HTTP/1.1\r\nHost: h\r\nContent-Length: 53\r\n\r\n{\"do\":\"receive\",\"from\":\"q\",\"mode\":\"delete\",\"wait\":60}";
+
+const CREATE: &[u8] =
+    b"POST /$script HTTP/1.1\r\nHost: h\r\nContent-Length: 56\r\n\r\n{\"do\":\"create-queue\",\"name\":\"s\",\"requires_session\":true}";
+
+const ACCEPT: &[u8] =
+    b"POST /$script HTTP/1.1\r\nHost: h\r\nContent-Length: 36\r\n\r\n{\"do\":\"accept\",\"from\":\"s\",\"wait\":60}";
+
+const SEND_TO_SESSION: &[u8] =
+    b"POST /$script HTTP/1.1\r\nHost: h\r\nContent-Length: 75\r\n\r\n{\"do\":\"send\",\"to\":\"s\",\"messages\":[{\"body\":\"hi\",\"sys\":{\"SessionId\":\"one\"}}]}";
+
+// A connection: how often the clock is paused before it asks, and before it leaves without a response, what it
+// asks for, and how the bytes that it is given begin and end.
+#[derive(Clone, Copy)]
+struct Caller {
+    asks: u64,
+    leaves: u64,
+    request: &'static [u8],
+    begins: &'static [u8],
+    ends: &'static [u8],
+}
+
+// A receive that waits for what another connection sends.
+const WAITS: [Caller; 2] = [
+    Caller {
+        asks: 0,
+        leaves: u64::MAX,
+        request: TAKE,
+        begins: b"HTTP/1.1 200 OK\r\nContent-Length: 115\r\n\r\n{",
+        ends: b"{\"message\":{\"body\":\"hi\",\"delivery\":1,\"enqueued\":1000,\"enqueued_seq\":1,\"props\":{},\"seq\":1,\"sys\":{}},\"ok\":\"message\"}\n",
+    },
+    Caller {
+        asks: 20,
+        leaves: u64::MAX,
+        request: SEND,
+        begins: b"HTTP/1.1 201 Created\r\n",
+        ends: b"\r\n\r\n",
+    },
+];
+
+// A session that is waited for until a message comes for it.
+const WAITS_FOR_SESSION: [Caller; 3] = [
+    Caller {
+        asks: 0,
+        leaves: u64::MAX,
+        request: CREATE,
+        begins: b"HTTP/1.1 200 OK\r\n",
+        ends: b"{\"ok\":\"done\"}\n",
+    },
+    Caller {
+        asks: 20,
+        leaves: u64::MAX,
+        request: ACCEPT,
+        begins: b"HTTP/1.1 200 OK\r\nContent-Length: 91\r\n\r\n{",
+        ends: b"{\"id\":\"one\",\"ok\":\"session\",\"session\":\"a1b2c3d4-e5f6-0718-0000-000000000001\",\"until\":61000}\n",
+    },
+    Caller {
+        asks: 40,
+        leaves: u64::MAX,
+        request: SEND_TO_SESSION,
+        begins: b"HTTP/1.1 200 OK\r\n",
+        ends: b"{\"numbers\":[1],\"ok\":\"sent\"}\n",
+    },
+];
+
+// One whose caller goes, a message behind it, and another that has the message.
+const GONE: [Caller; 3] = [
+    Caller {
+        asks: 0,
+        leaves: 20,
+        request: TAKE,
+        begins: b"HTTP/1.1 200 OK\r\nContent-Length: 15\r\nConnection: close\r\n\r\n{",
+        ends: b"{\"ok\":\"empty\"}\n",
+    },
+    Caller {
+        asks: 40,
+        leaves: u64::MAX,
+        request: SEND,
+        begins: b"HTTP/1.1 201 Created\r\n",
+        ends: b"\r\n\r\n",
+    },
+    Caller {
+        asks: 60,
+        leaves: u64::MAX,
+        request: TAKE,
+        begins: b"HTTP/1.1 200 OK\r\nContent-Length: 115\r\n\r\n{",
+        ends: b"{\"message\":{\"body\":\"hi\",\"delivery\":1,\"enqueued\":1000,\"enqueued_seq\":1,\"props\":{},\"seq\":1,\"sys\":{}},\"ok\":\"message\"}\n",
+    },
+];
+
+fn put_callers<'a>(
+    rt: &HostRuntime,
+    clock: &'a Still,
+    callers: &[Caller],
+    doors: &mut Vec<Single<'a>>,
+) -> Result<(), Fail> {
+    for caller in callers {
+        doors.push(door(rt, clock, caller.asks, caller.leaves, caller.request))?;
+    }
+    Ok(())
+}
+
+// Whether each was given what it is to be given.
+fn are_given(doors: &[Single<'_>], callers: &[Caller]) -> bool {
+    for (place, caller) in callers.iter().enumerate() {
+        let Some(door) = doors.get(place) else {
+            return false;
+        };
+        if !is_given(door, caller.begins, caller.ends) {
+            return false;
+        }
+    }
+    true
+}
+
+fn serves<'a, T: Threads + Wait + Sync>(
+    rt: &HostRuntime,
+    threads: &T,
+    clock: &'a Still,
+    callers: &[Caller],
+    doors: &mut Vec<Single<'a>>,
+) -> Result<(), Fail> {
+    put_callers(rt, clock, callers, doors)?;
+    if serve_doors(rt, threads, clock, doors, 3)? != 0 {
+        return Err(Fail::from("another status"));
+    }
+    if !are_given(doors, callers) {
+        return Err(Fail::from("a caller was given something else"));
+    }
+    Ok(())
+}
+
+fn tries<T: Threads + Wait + Sync>(
+    rt: &HostRuntime,
+    threads: &T,
+    callers: &[Caller],
+) -> Result<(), Fail> {
+    let clock = Still {
+        pauses: AtomicU64::new(0),
+    };
+    let mut doors = Vec::new(rt.alloc());
+    let tried = serves(rt, threads, &clock, callers, &mut doors);
+    drop(doors);
+    tried
+}
+
+#[test]
+fn a_line_waits_for_a_message(rt: HostRuntime) -> Result<(), Fail> {
+    tries(&rt, &rt, &WAITS)
+}
+
+#[test]
+fn a_line_waits_for_a_session(rt: HostRuntime) -> Result<(), Fail> {
+    tries(&rt, &rt, &WAITS_FOR_SESSION)
+}
+
+#[test]
+fn a_line_whose_caller_has_gone_takes_nothing(rt: HostRuntime) -> Result<(), Fail> {
+    tries(&rt, &rt, &GONE)
+}
