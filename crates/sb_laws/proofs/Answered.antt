@@ -1,10 +1,11 @@
 -- What an entry that is answered anew says of its act's row.
-use Rattle.std.proofs.Common.{Bool, Err, List, None, Ok, Option, Result, Some, false, length, nat_lt, refl, subst, sym, true, ℕ, ◌==◌, ◌∙◌, ◌≡◌}
+use Rattle.std.proofs.Common.{Bool, Err, List, None, Ok, Option, Result, Some, [], ap, false, length, nat_lt, not, refl, subst, sym, true, ℕ, ◌&&◌, ◌==◌, ◌∙◌, ◌≡◌}
 use Rattle.std.specs.Prelude.{MatchBool, if◌then◌else◌}
 use Rattle.sb_laws.proofs.Outcomes.{no_key}
 use Rattle.sb_laws.proofs.Rows.{Of, answered_so}
+use Rattle.sb_machine.specs.Accounts.{entry_changes}
 use Rattle.sb_machine.specs.Acts.{act_row, bad_call, is_via_in, row_of}
-use Rattle.sb_machine.specs.Answers.{answer_in, answer_of, moment_of}
+use Rattle.sb_machine.specs.Answers.{answer_in, answer_of, changes_of, moment_of}
 use Rattle.sb_machine.specs.Changes.{is_numbered}
 use Rattle.sb_machine.specs.Due.{is_due}
 use Rattle.sb_machine.specs.Fields.{bad_field}
@@ -114,6 +115,14 @@ answered_new l seat reading call answer reply allowed said = at l.stopped allowe
   at : (b : Bool) → MatchBool b (is_stopped answer ≡ true) (is_fault answer ≡ false → IsAnswer l.state (moment_of l.state reading) call answer) → IsNew l reading call reply
   at true stopped = let bad : false ≡ true = subst (λ (a : Result Answered Refusal). is_stopped a ≡ true) said stopped in absurd cc
   at false may = machine (is_due (moment_of l.state reading) l.state.space) refl (may fine)
+
+-- its changes are those of its entry
+pub entry_new : (l : Log) (seat reading : ℕ) (call : Call) (answer : Result Answered Refusal) (reply : Reply) (new : IsNew l reading call reply) → answer ≡ Ok (New reply) → entry_changes l (Replied seat reading call answer) ≡ new.changes
+entry_new l seat reading call answer reply new said =
+    let fine : is_fault answer ≡ false = rw said refl in
+    let t = moment_of l.state reading in
+    let o = outcome_of l.state t call in
+    ap (λ (f : Bool). if not f && not (is_due t l.state.space) then changes_of o else []) fine ∙ ap (λ (d : Bool). if not d then changes_of o else []) new.quiet ∙ ap changes_of new.acted_so
 
 stopped_fault : (a : Result Answered Refusal) → is_stopped a ≡ true → is_fault a ≡ true
 stopped_fault (Ok r) e = absurd cc

@@ -76,6 +76,7 @@ pub mod Living
 pub mod SpentLived
 pub mod Wholes
 pub mod StaysWhole
+pub mod DoneSettles
 pub mod Sparing
 pub mod Alike
 pub mod AsFound

@@ -1,5 +1,5 @@
--- A lock is settled once, and only while it lives.
-use Rattle.std.specs.Prelude.{ℕ, ◌≤◌, ◌==◌, List, [], ◌∷◌, true, ◌≡◌}
+-- A lock is settled once, and only while it lives; and who is told that it is settled has settled it.
+use Rattle.std.specs.Prelude.{ℕ, ◌≤◌, ◌==◌, List, [], ◌∷◌, true, ◌≡◌, Option, Ok}
 use Rattle.sb_laws.specs.Counting.{times}
 use Rattle.sb_machine.specs.Accounts.{entry_changes, moment_in, spent_locks}
 use Rattle.sb_machine.specs.Changes.{along}
@@ -8,7 +8,15 @@ use Rattle.sb_machine.specs.Each.{Each}
 use Rattle.sb_machine.specs.Ends.{spends_in}
 use Rattle.sb_machine.specs.History.{IsLegal, Log, after_entry, fresh_log}
 use Rattle.sb_machine.specs.Leases.{lives}
+use Rattle.sb_machine.specs.declared.call.Act.TheVariants.{Settle}
+use Rattle.sb_machine.specs.declared.call.How.{How}
+use Rattle.sb_machine.specs.declared.call.Path.{Path}
+use Rattle.sb_machine.specs.declared.call.Token.{Token}
+use Rattle.sb_machine.specs.declared.call.Which.{Which}
 use Rattle.sb_machine.specs.declared.history.Entry.{Entry}
+use Rattle.sb_machine.specs.declared.history.Entry.TheVariants.{Ticked, Answered as Replied}
+use Rattle.sb_machine.specs.declared.reply.Answered.TheVariants.{New}
+use Rattle.sb_machine.specs.declared.reply.Reply.TheVariants.{Done}
 use Rattle.sb_machine.specs.declared.state.State.{State}
 
 -- no lock is settled twice
@@ -27,3 +35,18 @@ AllLived l (e ∷ es) = Each (λ lock. lives (moment_in l e) lock l.state.space 
 -- in each legal history, a lock that a settlement uses up lived until then
 abbrev pub SpentLived : Type 0
 SpentLived = (s : State) (h : List Entry) → IsConsistent s → IsLegal s h → AllLived (fresh_log s) h
+
+-- if an entry is a settlement under a lock that was answered Done, it settles that lock and no other
+abbrev pub SettlesOwn : Log → Entry → Type 0
+SettlesOwn l (Ticked seat t) = Unit {0}
+SettlesOwn l (Replied seat reading call answer) =
+    (from : Path) (which : Which) (token : Token) (session : Option Token) (how : How) (txn : Option ℕ) → call.act ≡ Settle from which token session how txn → answer ≡ Ok (New Done) → entry_spends l (Replied seat reading call answer) ≡ token.lock ∷ []
+
+-- so it is at each entry
+abbrev pub AllSettle : Log → List Entry → Type 0
+AllSettle l [] = Unit {0}
+AllSettle l (e ∷ es) = SettlesOwn l e × AllSettle (after_entry l e) es
+
+-- in each legal history, a settlement that is answered Done uses up just its own lock
+abbrev pub DoneSettles : Type 0
+DoneSettles = (s : State) (h : List Entry) → IsConsistent s → IsLegal s h → AllSettle (fresh_log s) h

@@ -1,8 +1,9 @@
 -- Two small histories, worked through with the definitions alone.
 use Rattle.std.specs.Prelude.{ℕ, List, [], ◌∷◌, ◌+◌, true, length, codes, Some, None, Result, Ok}
+use Rattle.sb_laws.specs.Spent.{entry_spends}
 use Rattle.sb_machine.specs.Accounts.{Numbered}
 use Rattle.sb_machine.specs.Ends.{End, Noted}
-use Rattle.sb_machine.specs.History.{Log, entries_of, fresh_log}
+use Rattle.sb_machine.specs.History.{Log, after_entry, entries_of, fresh_log}
 use Rattle.sb_machine.specs.Namespace.{default_description, entity_path}
 use Rattle.sb_machine.specs.Worked.{at, empty}
 use Rattle.sb_machine.specs.declared.call.Act.{Act}
@@ -108,3 +109,8 @@ abbrev pub handed_in : List (Result Answered Refusal) → List ℕ
 handed_in [] = []
 handed_in (Ok (New (Given shown)) ∷ rs) = shown.number ∷ handed_in rs
 handed_in (r ∷ rs) = handed_in rs
+
+-- the locks that each entry settles, entry by entry
+abbrev pub spends_by_entry : Log → List Entry → List (List ℕ)
+spends_by_entry l [] = []
+spends_by_entry l (e ∷ es) = entry_spends l e ∷ spends_by_entry (after_entry l e) es

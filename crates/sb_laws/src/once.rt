@@ -4,7 +4,7 @@ ghost use Rattle.sb_laws.specs.Acted.{OnceNumbers};
 ghost use Rattle.sb_laws.specs.Ended.{EndsOnce};
 ghost use Rattle.sb_laws.specs.Handed.{InOrder};
 ghost use Rattle.sb_laws.specs.Holders.{OneHolder};
-ghost use Rattle.sb_laws.specs.Spent.{SpentLived, SpentOnce};
+ghost use Rattle.sb_laws.specs.Spent.{DoneSettles, SpentLived, SpentOnce};
 ghost use Rattle.sb_laws.specs.Thin.{ThinSame};
 
 /// No number of a client acts twice; a client's numbers rise from above the one that was kept.
@@ -50,4 +50,9 @@ pub fn thin_same()
 /// Each lock that is settled, at once or by a commit, lived at its entry's moment in the state before it.
 pub fn spent_lived()
     ensures { SpentLived }
+{}
+
+/// A settlement under a lock that is answered Done, and isn't a repeat, settles that lock and no other.
+pub fn done_settles()
+    ensures { DoneSettles }
 {}

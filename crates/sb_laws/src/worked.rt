@@ -9,6 +9,7 @@ ghost use Rattle.sb_laws.specs.Worked.{
   noted_at,
   second_script,
   seven,
+  spends_by_entry,
   start,
 };
 ghost use Rattle.sb_machine.specs.Accounts.{acted_numbers, changing, ends_of, noted_ids, spent_locks};
@@ -23,6 +24,7 @@ pub fn worked_histories()
     ensures acted { acted_numbers start (history first_script) ≡ seven ∷ [] }
     ensures ends { ends_of start (history first_script) ≡ end_one ∷ [] }
     ensures spent { spent_locks start (history first_script) ≡ 1 ∷ [] }
+    ensures settled { spends_by_entry start (history first_script) ≡ [] ∷ [] ∷ [] ∷ [] ∷ [] ∷ [] ∷ (1 ∷ []) ∷ [] ∷ [] ∷ [] ∷ [] ∷ [] }
     ensures noted { noted_ids start (history first_script) ≡ noted_at 0 ∷ noted_at 20000 ∷ [] }
     ensures made { made (state_after empty (history first_script)).space ≡ 3 }
     ensures live { live (state_after empty (history first_script)).space ≡ 2 }

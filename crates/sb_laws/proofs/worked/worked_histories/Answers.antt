@@ -49,3 +49,7 @@ returns-clause-handed c = refl
 pub returns-clause-locks : goal.returns-clause-locks
 unfolding chars
 returns-clause-locks c = refl
+
+pub returns-clause-settled : goal.returns-clause-settled
+unfolding chars
+returns-clause-settled c = refl
