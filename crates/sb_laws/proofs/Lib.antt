@@ -77,6 +77,7 @@ pub mod SpentLived
 pub mod Wholes
 pub mod StaysWhole
 pub mod DoneSettles
+pub mod SentNotes
 pub mod Sparing
 pub mod Alike
 pub mod AsFound

@@ -1,8 +1,10 @@
 -- Two small histories, worked through with the definitions alone.
-use Rattle.std.specs.Prelude.{ℕ, List, [], ◌∷◌, ◌+◌, true, length, codes, Some, None, Result, Ok}
+use Rattle.std.specs.Prelude.{ℕ, List, [], ◌∷◌, ◌++◌, ◌+◌, true, length, codes, Some, None, Result, Ok}
+use Rattle.sb_laws.specs.Accepted.{accepted_of, entry_notes}
 use Rattle.sb_laws.specs.Spent.{entry_spends}
 use Rattle.sb_machine.specs.Accounts.{Numbered}
 use Rattle.sb_machine.specs.Ends.{End, Noted}
+use Rattle.sb_machine.specs.Events.{receipts_in}
 use Rattle.sb_machine.specs.History.{Log, after_entry, entries_of, fresh_log}
 use Rattle.sb_machine.specs.Namespace.{default_description, entity_path}
 use Rattle.sb_machine.specs.Worked.{at, empty}
@@ -19,6 +21,7 @@ use Rattle.sb_machine.specs.declared.call.Token.{Token}
 use Rattle.sb_machine.specs.declared.call.Which.TheVariants.{Number}
 use Rattle.sb_machine.specs.declared.change.Cause.TheVariants.{Completed}
 use Rattle.sb_machine.specs.declared.history.Entry.{Entry}
+use Rattle.sb_machine.specs.declared.history.Entry.TheVariants.{Answered as Replied}
 use Rattle.sb_machine.specs.declared.reply.Answered.{Answered}
 use Rattle.sb_machine.specs.declared.reply.Answered.TheVariants.{New}
 use Rattle.sb_machine.specs.declared.reply.Refusal.{Refusal}
@@ -114,3 +117,14 @@ handed_in (r ∷ rs) = handed_in rs
 abbrev pub spends_by_entry : Log → List Entry → List (List ℕ)
 spends_by_entry l [] = []
 spends_by_entry l (e ∷ es) = entry_spends l e ∷ spends_by_entry (after_entry l e) es
+
+-- the ids that each entry notes
+abbrev pub notes_by_entry : Log → List Entry → List (List Noted)
+notes_by_entry l [] = []
+notes_by_entry l (e ∷ es) = entry_notes l e ∷ notes_by_entry (after_entry l e) es
+
+-- how many messages of each send got a number, whether or not they have an id
+abbrev pub accepted_in : List Entry → List ℕ
+accepted_in [] = []
+accepted_in (Replied seat reading call (Ok (New reply)) ∷ es) = elim call.act [ Send to messages txn ↦ length (accepted_of (receipts_in reply) messages) ∷ [] | _ ↦ [] ] ++ accepted_in es
+accepted_in (e ∷ es) = accepted_in es

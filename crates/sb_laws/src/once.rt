@@ -1,5 +1,5 @@
 // Laws over all legal histories from a consistent state: each a function without effect whose contract is the law.
-ghost use Rattle.sb_laws.specs.Accepted.{OnceIds};
+ghost use Rattle.sb_laws.specs.Accepted.{OnceIds, SentNotes};
 ghost use Rattle.sb_laws.specs.Acted.{OnceNumbers};
 ghost use Rattle.sb_laws.specs.Ended.{EndsOnce};
 ghost use Rattle.sb_laws.specs.Handed.{InOrder};
@@ -55,4 +55,10 @@ pub fn spent_lived()
 /// A settlement under a lock that is answered Done, and isn't a repeat, settles that lock and no other.
 pub fn done_settles()
     ensures { DoneSettles }
+{}
+
+/// A send that is answered with receipts, and isn't a repeat, has its entity accept the ids of just those
+/// messages that got a number, if it has a window: a duplicate gets its receipt, and notes nothing.
+pub fn sent_notes()
+    ensures { SentNotes }
 {}

@@ -1,12 +1,14 @@
 // Two small histories whose lists compute to what was worked out by hand.
 ghost use Rattle.std.specs.Prelude.{◌≡◌, ◌∷◌, [], length};
 ghost use Rattle.sb_laws.specs.Worked.{
+  accepted_in,
   end_one,
   first_script,
   handed_in,
   history,
   messages_in,
   noted_at,
+  notes_by_entry,
   second_script,
   seven,
   spends_by_entry,
@@ -26,6 +28,8 @@ pub fn worked_histories()
     ensures spent { spent_locks start (history first_script) ≡ 1 ∷ [] }
     ensures settled { spends_by_entry start (history first_script) ≡ [] ∷ [] ∷ [] ∷ [] ∷ [] ∷ [] ∷ (1 ∷ []) ∷ [] ∷ [] ∷ [] ∷ [] ∷ [] }
     ensures noted { noted_ids start (history first_script) ≡ noted_at 0 ∷ noted_at 20000 ∷ [] }
+    ensures notes { notes_by_entry start (history first_script) ≡ [] ∷ (noted_at 0 ∷ []) ∷ [] ∷ (noted_at 20000 ∷ []) ∷ [] ∷ [] ∷ [] ∷ [] ∷ [] ∷ [] ∷ [] ∷ [] }
+    ensures accepted { accepted_in (history first_script) ≡ 1 ∷ 1 ∷ 1 ∷ [] }
     ensures made { made (state_after empty (history first_script)).space ≡ 3 }
     ensures live { live (state_after empty (history first_script)).space ≡ 2 }
     ensures changing { messages_in (changing start (history first_script)) ≡ 4 }

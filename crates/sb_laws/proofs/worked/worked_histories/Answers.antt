@@ -53,3 +53,11 @@ returns-clause-locks c = refl
 pub returns-clause-settled : goal.returns-clause-settled
 unfolding chars
 returns-clause-settled c = refl
+
+pub returns-clause-notes : goal.returns-clause-notes
+unfolding chars
+returns-clause-notes c = refl
+
+pub returns-clause-accepted : goal.returns-clause-accepted
+unfolding chars
+returns-clause-accepted c = refl
