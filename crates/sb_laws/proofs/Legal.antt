@@ -38,7 +38,7 @@ pub record Goes (s : State) (es : List Entry) : Type 0 where
   pub early : later.now ≤ max_moment
 
 -- an answer of the machine where nothing is due
-replied : (l : Log) (seat t reading : ℕ) (call : Call) → l.stopped ≡ false → Follows l.tick seat (moment_of l.state reading) → t ≡ moment_of l.state reading → is_due t l.state.space ≡ false
+pub replied : (l : Log) (seat t reading : ℕ) (call : Call) → l.stopped ≡ false → Follows l.tick seat (moment_of l.state reading) → t ≡ moment_of l.state reading → is_due t l.state.space ≡ false
     → IsAllowed l (Replied seat reading call (answer_of l.state t call)) × (after_entry l (Replied seat reading call (answer_of l.state t call)) ≡ fresh_log (state_of l.state t call))
 replied l seat t reading call running follows moment none =
     subst (λ (u : ℕ). is_due u l.state.space ≡ false → IsAllowed l (Replied seat reading call (answer_of l.state u call)) × (after_entry l (Replied seat reading call (answer_of l.state u call)) ≡ fresh_log (state_of l.state u call))) (sym moment) (at (moment_of l.state reading) refl) none where
@@ -101,7 +101,7 @@ module _ (seat : ℕ) (s : State) (reading : ℕ) (call : Call) (core : LastsCor
     next : IsAllowed (fresh_log s) (Replied seat reading call (answer_of s t call)) × (after_entry (fresh_log s) (Replied seat reading call (answer_of s t call)) ≡ fresh_log (state_of s t call))
     next = replied (fresh_log s) seat t reading call refl tt refl none
 
-  call_goes : Goes s (entries_at seat s reading call)
+  pub call_goes : Goes s (entries_at seat s reading call)
   call_goes = at (is_due t s.space) refl (is_spent s t) refl where
     at : (b : Bool) → is_due t s.space ≡ b → (c : Bool) → is_spent s t ≡ c → Goes s (if b then (if c then Spent else Ticking) else Calling)
     at true due true spent = spent_goes due spent

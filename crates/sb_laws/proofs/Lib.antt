@@ -78,6 +78,7 @@ pub mod Wholes
 pub mod StaysWhole
 pub mod DoneSettles
 pub mod SentNotes
+pub mod Joining
 pub mod Sparing
 pub mod Alike
 pub mod AsFound

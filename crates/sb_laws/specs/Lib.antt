@@ -1,4 +1,4 @@
--- Laws of every legal history, in the order to read them: Laws (what was asked), Ended, Spent, Holders, Handed, Accepted, Acted, Thin;
+-- Laws of every legal history, in the order to read them: Laws (what was asked), Ended, Spent, Holders, Handed, Accepted, Acted, Thin, Joined;
 -- Staying, Orderly, Plain, Sweepable, Counting, AsFound (what carries them); Worked.
 pub mod Laws
 pub mod Sweepable
@@ -12,6 +12,7 @@ pub mod Holders
 pub mod Handed
 pub mod Accepted
 pub mod Thin
+pub mod Joined
 pub mod Worked
 pub mod Staying
 pub mod AsFound

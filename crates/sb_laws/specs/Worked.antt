@@ -1,5 +1,5 @@
--- Two small histories, worked through with the definitions alone.
-use Rattle.std.specs.Prelude.{ℕ, List, [], ◌∷◌, ◌++◌, ◌+◌, true, length, codes, Some, None, Result, Ok}
+-- Small histories, worked through with the definitions alone.
+use Rattle.std.specs.Prelude.{ℕ, List, [], ◌∷◌, ◌++◌, ◌+◌, true, length, codes, Some, None, Result, Ok, Err}
 use Rattle.sb_laws.specs.Accepted.{accepted_of, entry_notes}
 use Rattle.sb_laws.specs.Spent.{entry_spends}
 use Rattle.sb_machine.specs.Accounts.{Numbered}
@@ -25,6 +25,7 @@ use Rattle.sb_machine.specs.declared.history.Entry.TheVariants.{Answered as Repl
 use Rattle.sb_machine.specs.declared.reply.Answered.{Answered}
 use Rattle.sb_machine.specs.declared.reply.Answered.TheVariants.{New}
 use Rattle.sb_machine.specs.declared.reply.Refusal.{Refusal}
+use Rattle.sb_machine.specs.declared.reply.Refusal.TheVariants.{DiskFault, Stopped}
 use Rattle.sb_machine.specs.declared.reply.Reply.TheVariants.{Message as Given}
 use Rattle.sb_model.specs.declared.message.Message.{Message}
 use Rattle.sb_model.specs.declared.message.SystemName.TheVariants.{MessageId, SessionId}
@@ -128,3 +129,25 @@ abbrev pub accepted_in : List Entry → List ℕ
 accepted_in [] = []
 accepted_in (Replied seat reading call (Ok (New reply)) ∷ es) = elim call.act [ Send to messages txn ↦ length (accepted_of (receipts_in reply) messages) ∷ [] | _ ↦ [] ] ++ accepted_in es
 accepted_in (e ∷ es) = accepted_in es
+
+-- ---- histories that a failed disk ended
+
+-- a queue is made
+abbrev pub made_script : List TimedCall
+made_script = at 0 (CreateQueue (codes "q") default_description) ∷ []
+
+-- a message is sent there
+abbrev pub sending : TimedCall
+sending = at 5 (Send q (bare ∷ []) None)
+
+-- and is held, until 60005
+abbrev pub held_script : List TimedCall
+held_script = at 0 (CreateQueue (codes "q") default_description) ∷ sending ∷ at 5 (Receive q Lock None) ∷ []
+
+-- its lock has ended
+abbrev pub receiving : TimedCall
+receiving = at 60005 (Receive q Lock None)
+
+-- the history of these calls, then one that a disk failed, and the same again, which is refused since the namespace has stopped
+abbrev pub broken_off : List TimedCall → TimedCall → List Entry
+broken_off calls last = history calls ++ Replied 0 last.reading last.call (Err DiskFault) ∷ Replied 0 last.reading last.call (Err (Stopped 1)) ∷ []

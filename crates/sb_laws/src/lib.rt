@@ -17,7 +17,7 @@ pub use laws::{
     stays_orderly, tick_as_found, ticks_orderly,
 };
 pub use once::{
-    done_settles, ends_once, in_order, once_ids, once_numbers, one_holder, sent_notes, spent_lived,
-    spent_once, thin_same,
+    done_settles, ends_once, fronts_join, in_order, once_ids, once_numbers, one_holder, sent_notes,
+    spent_lived, spent_once, thin_same, undecided_joins,
 };
-pub use worked::worked_histories;
+pub use worked::{worked_failures, worked_histories};

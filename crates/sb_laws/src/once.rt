@@ -4,6 +4,7 @@ ghost use Rattle.sb_laws.specs.Acted.{OnceNumbers};
 ghost use Rattle.sb_laws.specs.Ended.{EndsOnce};
 ghost use Rattle.sb_laws.specs.Handed.{InOrder};
 ghost use Rattle.sb_laws.specs.Holders.{OneHolder};
+ghost use Rattle.sb_laws.specs.Joined.{FrontsJoin, UndecidedJoins};
 ghost use Rattle.sb_laws.specs.Spent.{DoneSettles, SpentLived, SpentOnce};
 ghost use Rattle.sb_laws.specs.Thin.{ThinSame};
 
@@ -61,4 +62,17 @@ pub fn done_settles()
 /// messages that got a number, if it has a window: a duplicate gets its receipt, and notes nothing.
 pub fn sent_notes()
     ensures { SentNotes }
+{}
+
+/// A front of a legal history, cut at an answer while it runs, is a legal history; so is it with the event
+/// of a call that is made behind it, or with its whole step. What a crash leaves is the state after one of
+/// these, and each legal history from there goes on behind it.
+pub fn fronts_join()
+    ensures { FrontsJoin }
+{}
+
+/// Whether or not the event is found that a failed disk left undecided, what is found is the state after
+/// a legal history: the one that it ended, up to the failed call, with that event or without.
+pub fn undecided_joins()
+    ensures { UndecidedJoins }
 {}
