@@ -4,3 +4,4 @@ pub mod Steady
 pub mod Turning
 pub mod Seating
 pub mod Ends
+pub mod Sparing

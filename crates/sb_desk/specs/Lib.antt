@@ -1,7 +1,9 @@
--- A desk gives many callers turns at one namespace. In the order to read it: Entries, Lists (histories by the seats that made them), Desks
--- (what a caller holds, and what a call does), Rule (what is kept between calls), Steps (what each step does).
+-- A desk gives many callers turns at one namespace. In the order to read it: Entries, Lists (histories by the seats that made them), Spared
+-- (which of their calls memory is never wanting for), Desks (what a caller holds, and what a call does), Rule (what is kept between calls),
+-- Steps (what each step does).
 pub mod Entries
 pub mod Lists
+pub mod Spared
 pub mod Rule
 pub mod Steps
 pub mod Desks

@@ -1,9 +1,11 @@
 ghost use Rattle.std.specs.Prelude.{◌≡◌, ◌<◌, List, [], length, map, IfOk, IfErr};
 ghost use Rattle.sb_machine.specs.Ordered.{IsActInOrder};
 ghost use Rattle.sb_machine.specs.declared.history.Entry.{Entry};
+ghost use Rattle.sb_machine.specs.declared.state.State.{State};
 ghost use Rattle.sb_desk.specs.Desks.{Open, IsOf, IsNew, Calls, HasLegal, IsKeptIn, below, value_of};
 ghost use Rattle.sb_desk.specs.Entries.{IsReport};
 ghost use Rattle.sb_desk.specs.Lists.{IsFront, Each, HaveSeatsBelow, longer};
+ghost use Rattle.sb_desk.specs.Spared.{Spares};
 ghost use Rattle.sb_desk.specs.Steps.{IsSized};
 
 use crate::arrivals::Arrivals;
@@ -94,6 +96,7 @@ impl<V: Served> Desk<V> {
         requires order { IsActInOrder call.now.act }
         ensures call { Calls pass reading call.now result.0 result.1 }
         ensures legal { HasLegal result.0 }
+        ensures spares { Spares V.spared result.0.start result.0.seen }
         ensures seats { HaveSeatsBelow self.now.passes result.0.seen }
     {
         let Pass { badge } = pass;
@@ -139,6 +142,7 @@ impl<V: Served> Desk<V> {
         ensures other { result.1 ≡ record other { seen = longer one.seen other.seen } }
         ensures longer { IsFront one.seen (longer one.seen other.seen) × IsFront other.seen (longer one.seen other.seen) }
         ensures legal { HasLegal result.0 × HasLegal result.1 }
+        ensures spares { (from : State) → Spares V.spared from one.seen → Spares V.spared from other.seen → Spares V.spared from (longer one.seen other.seen) }
         ensures seats { HaveSeatsBelow self.now.passes (longer one.seen other.seen) }
     {
         let Pass { badge: one } = one;

@@ -5,7 +5,8 @@
 //! Contracts see a pass as the entries that it has seen. Each call gives a longer list, which begins
 //! with the old one, is a legal history of the state in which the desk began, and ends with this
 //! call and the answer that was handed out (`Calls` in `specs/Desks`). `close` gives the value back
-//! with one history that all these lists begin and in which nobody else has an entry. It stands on
+//! with one history that all these lists begin and in which nobody else has an entry. A call that the
+//! value spares is in none of them answered with want of memory (`specs/Spared`). It stands on
 //! the machine, whose `specs/History` says which histories are legal, and on the kit's
 //! `atomic_table`: one slot for the value, and three words by which seats take turns, under a rule
 //! that each step keeps (`specs/Rule`); beside it words on which seats sleep, of which who leaves rings

@@ -1,11 +1,13 @@
 //! What a desk serves.
-ghost use Rattle.std.specs.Prelude.{◌≡◌, ℕ, List, ◌++◌};
+ghost use Rattle.std.specs.Prelude.{◌≡◌, ℕ, Bool, List, ◌++◌};
 ghost use Rattle.sb_machine.specs.Consistent.{IsConsistent};
 ghost use Rattle.sb_machine.specs.History.{IsLegal};
 ghost use Rattle.sb_machine.specs.Ordered.{IsActInOrder};
+ghost use Rattle.sb_machine.specs.declared.call.Call.{Call};
 ghost use Rattle.sb_machine.specs.declared.history.Entry.{Entry};
 ghost use Rattle.sb_machine.specs.declared.state.State.{State};
 ghost use Rattle.sb_desk.specs.Entries.{made_by, IsReport};
+ghost use Rattle.sb_desk.specs.Spared.{Spares};
 ghost use Rattle.sb_desk.specs.declared.report.Origin.{Origin};
 
 use crate::Report;
@@ -36,6 +38,9 @@ pub trait Served {
     /// What it found as it was opened. No call changes it.
     ghost origin: { Self → Origin };
 
+    /// Whether a call at this moment and in this state is never refused for want of memory.
+    ghost spared: { ℕ → Call → State → Bool };
+
     /// The mark of a part of an entity: some of 64 bits, by its path alone. Others may have the same; marks
     /// of several are joined, and a part is among them where all its bits are.
     fn mark_of(path: &Path) -> u64;
@@ -53,4 +58,7 @@ pub trait Served {
 
     /// It stands for legal histories of consistent states alone.
     ghost legal: { (v : Self) (from : State) (h : List Entry) → stands v from h → IsConsistent from × IsLegal from h };
+
+    /// In those no call that is spared is answered with want of memory.
+    ghost spares: { (v : Self) (from : State) (h : List Entry) → stands v from h → Spares spared from h };
 }

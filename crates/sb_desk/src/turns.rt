@@ -8,6 +8,7 @@ ghost use Rattle.sb_desk.specs.declared.view.Stage.TheVariants.{Idle, Waits, Tur
 ghost use Rattle.sb_desk.specs.Entries.{made_by, entries_by};
 ghost use Rattle.sb_desk.specs.Lists.{HaveSeatsBelow};
 ghost use Rattle.sb_desk.specs.Rule.{word, ticket_of, log_of};
+ghost use Rattle.sb_desk.specs.Spared.{Spares};
 ghost use Rattle.sb_desk.specs.Steps.{IsSized, placed, with_made};
 
 use crate::arrivals::Arrivals;
@@ -51,6 +52,7 @@ pub(crate) fn serve_one<V: Served, R: Wait>(
     ensures call { (tick : Option ℕ) × (between : List Entry) × (entries_by place.old.me.0.seat between ≡ [])
         × (place.new.me ≡ (record place.old.me.0 { seen = (place.old.me.0.seen ++ between) ++ made_by place.old.me.0.seat tick reading call.now result; stage = Idle }, [])) }
     ensures legal { IsConsistent place.new.me.0.start × IsLegal place.new.me.0.start place.new.me.0.seen }
+    ensures spares { Spares V.spared place.new.me.0.start place.new.me.0.seen }
     ensures seats { HaveSeatsBelow place.new.me.0.passes place.new.me.0.seen }
 {
     let ticket = draw(top, place);

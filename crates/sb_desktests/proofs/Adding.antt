@@ -20,7 +20,9 @@ use Rattle.sb_machine.specs.declared.reply.Reply.TheVariants.{Done}
 use Rattle.sb_machine.specs.declared.state.State.{State}
 use Rattle.sb_desk.specs.Entries.{is_refused, counted}
 use Rattle.sb_desk.specs.declared.report.Report.{Report}
-use Rattle.sb_desktests.specs.Namespaces.{creation, state_at, StandsFor, GoesOn}
+use Rattle.sb_desk.specs.Spared.{SparesFrom}
+use Rattle.sb_desk.proofs.Sparing.{spares_on}
+use Rattle.sb_desktests.specs.Namespaces.{creation, none_spared, state_at, StandsFor, GoesOn}
 
 after_append : (l : Log) (h es : List Entry) → after_entries l (h ++ es) ≡ after_entries (after_entries l h) es
 after_append l [] es = refl
@@ -38,6 +40,11 @@ changing_append l (Replied seat reading call answer ∷ h) es =
     let next = after_entry l (Replied seat reading call answer) in
     ap (λ (z : List Event). own ++ z) (changing_append next h es) ∙ sym (append_assoc own (changing next h) (changing (after_entries next h) es))
 
+-- whatever an entry says
+unspared : (l : Log) (e : Entry) → SparesFrom none_spared l (e ∷ [])
+unspared l (Ticked seat t) = tt
+unspared l (Replied seat reading call answer) = ((λ is. absurd (true≢false (sym is))), tt)
+
 -- one entry more, and its numbers
 adds : (made made' : Option ℕ) (n n' : Report) (from : State) (h : List Entry) (e : Entry) → IsAllowed (fresh_log (state_at made)) e → after_entry (fresh_log (state_at made)) e ≡ fresh_log (state_at made')
     → n'.entries ≡ counted (n.entries + 1) → n'.changing ≡ counted (n.changing + length (changing (fresh_log (state_at made)) (e ∷ []))) → n'.refused ≡ counted (n.refused + length (filter is_refused (e ∷ [])))
@@ -45,6 +52,7 @@ adds : (made made' : Option ℕ) (n n' : Report) (from : State) (h : List Entry)
 adds made made' n n' from h e allowed next entries changed refused s = record {
   consistent = s.consistent;
   legal = legal_append (fresh_log from) h (e ∷ []) s.legal (subst (λ (l : Log). IsLegalFrom l (e ∷ [])) (sym s.state) (allowed, ap (λ (l : Log). l.tick) next));
+  spares = spares_on none_spared (fresh_log from) h (e ∷ []) s.spares (unspared (after_entries (fresh_log from) h) e);
   state = after_append (fresh_log from) h (e ∷ []) ∙ (ap (λ (l : Log). after_entry l e) s.state ∙ next);
   counted = record {
     entries = omega (arith, entries, s.counted.entries, length-append h (e ∷ []));

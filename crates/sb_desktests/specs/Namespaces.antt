@@ -1,5 +1,5 @@
 -- A namespace in which one queue is made, and the histories that it stands for.
-use Rattle.std.specs.Prelude.{◌≡◌, ◌++◌, ℕ, false, codes, List, [], ◌∷◌, Option, Some, None, Result}
+use Rattle.std.specs.Prelude.{◌≡◌, ◌++◌, ℕ, Bool, false, codes, List, [], ◌∷◌, Option, Some, None, Result}
 use Rattle.sb_machine.specs.Answers.{state_of}
 use Rattle.sb_machine.specs.Consistent.{IsConsistent}
 use Rattle.sb_machine.specs.History.{fresh_log, after_entries, IsLegal}
@@ -12,6 +12,7 @@ use Rattle.sb_machine.specs.declared.reply.Answered.{Answered}
 use Rattle.sb_machine.specs.declared.reply.Refusal.{Refusal}
 use Rattle.sb_machine.specs.declared.state.State.{State}
 use Rattle.sb_desk.specs.Entries.{IsReport}
+use Rattle.sb_desk.specs.Spared.{Spares}
 use Rattle.sb_desk.specs.declared.report.DiskOrigin.{DiskOrigin}
 use Rattle.sb_desk.specs.declared.report.Report.{Report}
 
@@ -28,10 +29,15 @@ state_at (Some t) = state_of (empty_state 0) t creation
 abbrev pub no_disk : DiskOrigin
 no_disk = record { faults = 0; honest = false; held = record { seen = []; synced = []; ranges = []; least = 0; greatest = 0 }; past = [] }
 
+-- memory may be wanting for each call
+abbrev pub none_spared : ℕ → Call → State → Bool
+none_spared t call s = false
+
 -- this namespace stands for a history: it is legal, and leads to this state and these numbers
 pub record StandsFor (made : Option ℕ) (numbers : Report) (from : State) (h : List Entry) : Type 0 where
   pub consistent : IsConsistent from
   pub legal : IsLegal from h
+  pub spares : Spares none_spared from h
   pub state : after_entries (fresh_log from) h ≡ fresh_log (state_at made)
   pub counted : IsReport from h numbers
 

@@ -1,7 +1,7 @@
 ghost use Rattle.std.specs.Prelude.{◌≡◌, ◌+◌, true, [], Err};
 ghost use Rattle.sb_machine.specs.Namespace.{default_description};
 ghost use Rattle.sb_desk.specs.Entries.{counted};
-ghost use Rattle.sb_desktests.specs.Namespaces.{creation, no_disk, state_at, StandsFor, GoesOn};
+ghost use Rattle.sb_desktests.specs.Namespaces.{creation, no_disk, none_spared, state_at, StandsFor, GoesOn};
 
 use sb_desk::{Report, Served, Stepped};
 use sb_machine::{Act, Answer, Answered, Call, Description, Path, Refusal, Reply};
@@ -66,6 +66,9 @@ impl Served for OneQueue {
 
     ghost origin = { λ q. record { disk_a = no_disk; disk_b = no_disk } };
 
+    // It spares no call.
+    ghost spared = { none_spared };
+
     fn mark_of(_path: &Path) -> u64 {
         0
     }
@@ -84,6 +87,8 @@ impl Served for OneQueue {
     }
 
     ghost legal = { λ v from h s. (s.consistent, s.legal) };
+
+    ghost spares = { λ v from h s. s.spares };
 }
 
 // Whether this is the call that makes the queue.
