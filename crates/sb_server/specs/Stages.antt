@@ -34,6 +34,13 @@ stop_at (Over stop) other = stop
 stop_at (Wants left) other = other
 stop_at (Serves left guest) other = other
 
+-- whether it has a connection
+abbrev pub has_conn : {X : Type 0} → Stage X → Bool
+has_conn (Over stop) = false
+has_conn (Wants left) = false
+has_conn (Serves left guest) = true
+
+-- whether it serves no more
 abbrev pub is_over : {X : Type 0} → Stage X → Bool
 is_over (Over stop) = true
 is_over (Wants left) = false
@@ -85,6 +92,7 @@ module _ {D X : Type 0} (IsReading : ℕ → Type 0) (access : Access) (limits :
     pub stops : StopsBy stop most visits (ended e) (count d) (count e)
     pub out_is : out e ≡ out d
 
+  -- it is where its stage says, over this door with this pass
   abbrev pub IsAt : Sitting → D → Stage X → Type 0
   IsAt q e (Wants left) = IsWanting q e left
   IsAt q e (Serves left guest) = IsServing q e left guest
