@@ -1,0 +1,3 @@
+pub mod Finds
+pub mod Least
+pub mod Order
