@@ -15,3 +15,4 @@ pub mod Parts
 pub mod Finished
 pub mod Agreed
 pub mod Standing
+mod Gathering

@@ -4,14 +4,14 @@ ghost use Rattle.sb_amqp.specs.Meaning as meaning;
 ghost use Rattle.sb_amqp.specs.Meaning.{Says};
 ghost use Rattle.sb_amqp.specs.Values.{AreValues, joined};
 
+use crate::draft::Draft;
 use crate::fields::{ANNOTATIONS, HEADER, PROPERTIES, SCHEDULE_KEY, field_name};
 use crate::numbers::unsigned_in;
-use crate::properties::{with_text, with_user};
 use crate::taken::value_at;
 use crate::texts::{is_null, plain_text, property_from, text_from};
 use crate::unread::Unread;
 use crate::values::{Kind, content_of, kind_of};
-use sb_model::{Message, PropertyValue, SystemName, Text};
+use sb_model::SystemName;
 use std::alloc::{AllocError, Global};
 
 fn seconds(ms: u64) -> u64
@@ -30,19 +30,17 @@ fn ttl_from(kind: Kind, content: &[u8], ttl: Option<u64>) -> Option<Option<u64>>
     }
 }
 
-fn header_item(index: usize, value: &[u8], message: Message) -> Option<Message>
-    ensures { result ≡ meaning.header_item index value.now message }
+fn header_item(index: usize, value: &[u8], draft: Draft) -> Option<Draft>
+    ensures { result ≡ meaning.header_item index value.now draft }
 {
     if index != 2 {
-        return Some(message);
+        return Some(draft);
     }
-    let Some(ttl) = ttl_from(kind_of(value), content_of(value), message.ttl) else {
-        drop(message);
+    let Some(ttl) = ttl_from(kind_of(value), content_of(value), draft.ttl()) else {
+        drop(draft);
         return None;
     };
-    let mut message = message;
-    message.ttl = ttl;
-    Some(message)
+    Some(draft.with_ttl(ttl))
 }
 
 fn is_schedule_key(kind: Kind, content: &[u8]) -> bool
@@ -72,129 +70,80 @@ fn moment_from(kind: Kind, content: &[u8]) -> Option<u64>
     }
 }
 
-fn annotation_item(index: usize, key: &[u8], value: &[u8], message: Message) -> Option<Message>
-    ensures { result ≡ meaning.annotation_item index key.now value.now message }
+fn annotation_item(index: usize, key: &[u8], value: &[u8], draft: Draft) -> Option<Draft>
+    ensures { result ≡ meaning.annotation_item index key.now value.now draft }
 {
     if index % 2 != 1 || !is_schedule_key(kind_of(key), content_of(key)) {
-        return Some(message);
+        return Some(draft);
     }
     let Some(moment) = moment_from(kind_of(value), content_of(value)) else {
-        drop(message);
+        drop(draft);
         return None;
     };
-    let mut message = message;
-    message.schedule = Some(moment);
-    Some(message)
-}
-
-fn with_system_text(name: SystemName, text: Text, message: Message) -> Result<Message, AllocError>
-    ensures { IfOk result (λ m. m ≡ record message { sys = meaning.with_text name text message.sys }) }
-{
-    let Message {
-        body,
-        sys,
-        props,
-        ttl,
-        schedule,
-    } = message;
-    let sys = with_text(name, text, sys)?;
-    Ok(Message {
-        body,
-        sys,
-        props,
-        ttl,
-        schedule,
-    })
+    Some(draft.with_schedule(moment))
 }
 
 fn named_item(
     alloc: Global,
     name: Option<SystemName>,
     value: &[u8],
-    message: Message,
-) -> Result<Option<Message>, AllocError>
-    ensures { IfOk result (λ o. o ≡ meaning.named_item name value.now message) }
+    draft: Draft,
+) -> Result<Option<Draft>, AllocError>
+    ensures { IfOk result (λ o. o ≡ meaning.named_item name value.now draft) }
 {
     let Some(name) = name else {
-        return Ok(Some(message));
+        return Ok(Some(draft));
     };
     let Some(text) = text_from(alloc, name, kind_of(value), content_of(value))? else {
-        drop(message);
+        drop(draft);
         return Ok(None);
     };
-    let message = with_system_text(name, text, message)?;
-    Ok(Some(message))
+    let draft = draft.with_text(name, text)?;
+    Ok(Some(draft))
 }
 
-fn key_of(key: &[u8], message: Message) -> Option<Message>
-    ensures { result ≡ meaning.key_of key.now message }
+fn key_of(key: &[u8], draft: Draft) -> Option<Draft>
+    ensures { result ≡ meaning.key_of key.now draft }
 {
     if plain_text(kind_of(key), content_of(key)).is_none() {
-        drop(message);
+        drop(draft);
         return None;
     }
-    Some(message)
-}
-
-fn with_property(
-    alloc: Global,
-    name: &str,
-    value: PropertyValue,
-    message: Message,
-) -> Result<Message, AllocError>
-    ensures { IfOk result (λ m. m ≡ meaning.with_property name.now value message) }
-{
-    let Message {
-        body,
-        sys,
-        props,
-        ttl,
-        schedule,
-    } = message;
-    let mut folded = Text::of(alloc, name)?;
-    folded.fold();
-    let props = with_user(folded, value, props)?;
-    Ok(Message {
-        body,
-        sys,
-        props,
-        ttl,
-        schedule,
-    })
+    Some(draft)
 }
 
 fn entry_named(
     alloc: Global,
     name: &str,
     value: &[u8],
-    message: Message,
-) -> Result<Option<Message>, AllocError>
-    ensures { IfOk result (λ o. o ≡ meaning.entry_named name.now value.now message) }
+    draft: Draft,
+) -> Result<Option<Draft>, AllocError>
+    ensures { IfOk result (λ o. o ≡ meaning.entry_named name.now value.now draft) }
 {
     let Some(value) = property_from(alloc, kind_of(value), content_of(value))? else {
-        drop(message);
+        drop(draft);
         return Ok(None);
     };
-    let message = with_property(alloc, name, value, message)?;
-    Ok(Some(message))
+    let draft = draft.with_property(alloc, name, value)?;
+    Ok(Some(draft))
 }
 
 fn entry_of(
     alloc: Global,
     key: &[u8],
     value: &[u8],
-    message: Message,
-) -> Result<Option<Message>, AllocError>
-    ensures { IfOk result (λ o. o ≡ meaning.entry_of key.now value.now message) }
+    draft: Draft,
+) -> Result<Option<Draft>, AllocError>
+    ensures { IfOk result (λ o. o ≡ meaning.entry_of key.now value.now draft) }
 {
     if is_null(kind_of(value)) {
-        return Ok(Some(message));
+        return Ok(Some(draft));
     }
     let Some(name) = plain_text(kind_of(key), content_of(key)) else {
-        drop(message);
+        drop(draft);
         return Ok(None);
     };
-    entry_named(alloc, name, value, message)
+    entry_named(alloc, name, value, draft)
 }
 
 fn application_item(
@@ -202,14 +151,14 @@ fn application_item(
     index: usize,
     key: &[u8],
     value: &[u8],
-    message: Message,
-) -> Result<Option<Message>, AllocError>
-    ensures { IfOk result (λ o. o ≡ meaning.application_item index key.now value.now message) }
+    draft: Draft,
+) -> Result<Option<Draft>, AllocError>
+    ensures { IfOk result (λ o. o ≡ meaning.application_item index key.now value.now draft) }
 {
     if index % 2 == 0 {
-        return Ok(key_of(value, message));
+        return Ok(key_of(value, draft));
     }
-    entry_of(alloc, key, value, message)
+    entry_of(alloc, key, value, draft)
 }
 
 /// What an item of such a section adds, by its place and the item before it. None where it can't be
@@ -221,16 +170,16 @@ fn with_item(
     index: usize,
     before: &[u8],
     value: &[u8],
-    message: Message,
-) -> Result<Option<Message>, AllocError>
+    draft: Draft,
+) -> Result<Option<Draft>, AllocError>
     requires { index < 2 ^ 63 }
-    ensures { IfOk result (λ o. o ≡ meaning.with_item code index before.now value.now message) }
+    ensures { IfOk result (λ o. o ≡ meaning.with_item code index before.now value.now draft) }
 {
     match code {
-        HEADER => Ok(header_item(index, value, message)),
-        ANNOTATIONS => Ok(annotation_item(index, before, value, message)),
-        PROPERTIES => named_item(alloc, field_name(index + 1), value, message),
-        _ => application_item(alloc, index, before, value, message),
+        HEADER => Ok(header_item(index, value, draft)),
+        ANNOTATIONS => Ok(annotation_item(index, before, value, draft)),
+        PROPERTIES => named_item(alloc, field_name(index + 1), value, draft),
+        _ => application_item(alloc, index, before, value, draft),
     }
 }
 
@@ -241,38 +190,38 @@ fn use_item(
     index: usize,
     before: &[u8],
     value: &[u8],
-    message: Message,
+    draft: Draft,
     left: usize,
-) -> Result<Message, Unread>
+) -> Result<Draft, Unread>
     requires { index < 2 ^ 63 }
-    ensures { Says result (meaning.or_left left (meaning.with_item code index before.now value.now message)) }
+    ensures { Says result (meaning.or_left left (meaning.with_item code index before.now value.now draft)) }
 {
-    let Some(message) = with_item(alloc, code, index, before, value, message)? else {
+    let Some(draft) = with_item(alloc, code, index, before, value, draft)? else {
         return Err(Unread::At(left));
     };
-    Ok(message)
+    Ok(draft)
 }
 
 /// What the items that stand in these bytes add, so many bytes before the end.
 pub(crate) fn say_items(
     alloc: Global,
     code: u8,
-    message: Message,
+    draft: Draft,
     items: &[u8],
     behind: &[u8],
-) -> Result<Message, Unread>
-    ensures { (vs : List (List ℕ)) → AreValues vs → items.now ≡ joined vs → Says result (meaning.items_say code 0 [] message vs (length behind.now)) }
+) -> Result<Draft, Unread>
+    ensures { (vs : List (List ℕ)) → AreValues vs → items.now ≡ joined vs → Says result (meaning.items_say code 0 [] draft vs (length behind.now)) }
 {
-    let mut message = message;
+    let mut draft = draft;
     let mut index = 0;
     let mut before: &[u8] = &[];
     let mut rest = items;
     while let Some((value, after)) = value_at(rest) {
         let left = rest.len() + behind.len();
-        message = use_item(alloc, code, index, before, value, message, left)?;
+        draft = use_item(alloc, code, index, before, value, draft, left)?;
         index += 1;
         before = value;
         rest = after;
     }
-    Ok(message)
+    Ok(draft)
 }

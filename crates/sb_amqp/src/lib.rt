@@ -12,8 +12,10 @@
 //! ```
 #![tactic(auto)]
 
+mod draft;
 mod fault;
 mod fields;
+mod gathered;
 mod items;
 mod laws;
 mod numbers;
@@ -29,6 +31,7 @@ mod worked;
 mod write;
 
 pub use fault::AmqpFault;
+pub use gathered::Gathered;
 pub use laws::written_is_read;
 pub use read::read_message;
 pub use worked::worked_messages;

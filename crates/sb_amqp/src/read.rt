@@ -1,5 +1,5 @@
 // From bytes to the message that they spell.
-ghost use Rattle.std.specs.Prelude.{◌≡◌, ◌++◌, List, ℕ, IfOk, length, option_map};
+ghost use Rattle.std.specs.Prelude.{◌≡◌, List, ℕ, IfOk, length, option_map};
 ghost use Rattle.sb_model.specs.Orders.{IsInOrder};
 ghost use Rattle.sb_amqp.specs.Found.{IsFound, message_in};
 ghost use Rattle.sb_amqp.specs.Meaning as meaning;
@@ -8,6 +8,7 @@ ghost use Rattle.sb_amqp.specs.Reads.{Answers, AnswersOnly, Spells, Tells};
 ghost use Rattle.sb_amqp.specs.Sections.{AreSections, HasUsedItems, Section as SpelledSection, all_spelled, has_used_items};
 ghost use Rattle.sb_amqp.specs.Values.{kind_of};
 
+use crate::draft::Draft;
 use crate::fault::AmqpFault;
 use crate::fields::{ANNOTATIONS, APPLICATION, DATA, HEADER, PROPERTIES, SEQUENCE, VALUE};
 use crate::items::say_items;
@@ -16,39 +17,8 @@ use crate::taken::section_at;
 use crate::texts::plain_text;
 use crate::unread::Unread;
 use crate::values::{Kind, content_of, extent_at, is_list, is_map, item_bytes, kind_of};
-use sb_model::{Body, Message, Rows};
-use std::alloc::{AllocError, Global};
-
-fn no_message(alloc: Global) -> Message
-    ensures { result ≡ meaning.no_message }
-{
-    Message {
-        body: Body::new(),
-        sys: Rows::new(alloc),
-        props: Rows::new(alloc),
-        ttl: None,
-        schedule: None,
-    }
-}
-
-fn with_body(alloc: Global, more: &[u8], message: Message) -> Result<Message, AllocError>
-    ensures { IfOk result (λ m. m ≡ meaning.with_body more.now message) }
-{
-    let Message {
-        body,
-        sys,
-        props,
-        ttl,
-        schedule,
-    } = message;
-    Ok(Message {
-        body: body.with(alloc, more)?,
-        sys,
-        props,
-        ttl,
-        schedule,
-    })
-}
+use sb_model::Message;
+use std::alloc::Global;
 
 /// The bytes of a string that is UTF-8, where the body is a value.
 fn value_text(code: u8, content: &[u8]) -> Option<&[u8]>
@@ -74,20 +44,14 @@ fn body_from(code: u8, kind: Kind, content: &[u8]) -> Option<&[u8]>
     }
 }
 
-fn say_body(
-    alloc: Global,
-    code: u8,
-    value: &[u8],
-    message: Message,
-    left: usize,
-) -> Result<Message, Unread>
-    ensures { Says result (meaning.body_says code value.now message left) }
+fn say_body(code: u8, value: &[u8], draft: Draft, left: usize) -> Result<Draft, Unread>
+    ensures { Says result (meaning.body_says code value.now draft left) }
 {
     let Some(bytes) = body_from(code, kind_of(value), content_of(value)) else {
-        drop(message);
+        drop(draft);
         return Err(Unread::At(left));
     };
-    Ok(with_body(alloc, bytes, message)?)
+    Ok(draft.with_body(bytes)?)
 }
 
 /// What the items of a list or a map add, where the value is one.
@@ -96,61 +60,75 @@ fn say_items_if(
     is_due: bool,
     code: u8,
     value: &[u8],
-    message: Message,
+    draft: Draft,
     rest: &[u8],
-) -> Result<Message, Unread>
-    ensures { (vs : List (List ℕ)) → HasUsedItems is_due value.now vs → Says result (meaning.items_if is_due code message value.now vs (length rest.now)) }
+) -> Result<Draft, Unread>
+    ensures { (vs : List (List ℕ)) → HasUsedItems is_due value.now vs → Says result (meaning.items_if is_due code draft value.now vs (length rest.now)) }
 {
     if !is_due {
-        drop(message);
+        drop(draft);
         return Err(Unread::At(value.len() + rest.len()));
     }
     let items = item_bytes(extent_at(value), content_of(value));
-    say_items(alloc, code, message, items, rest)
+    say_items(alloc, code, draft, items, rest)
 }
 
-/// What a section adds to a message, with so many bytes behind it.
+/// What a section adds to a draft, with so many bytes behind it.
 fn say_section(
     alloc: Global,
     code: u8,
     value: &[u8],
-    message: Message,
+    draft: Draft,
     rest: &[u8],
-) -> Result<Message, Unread>
-    ensures { (vs : List (List ℕ)) → HasUsedItems (has_used_items code (kind_of value.now)) value.now vs → Says result (meaning.section_says code value.now vs message (length rest.now)) }
+) -> Result<Draft, Unread>
+    ensures { (vs : List (List ℕ)) → HasUsedItems (has_used_items code (kind_of value.now)) value.now vs → Says result (meaning.section_says code value.now vs draft (length rest.now)) }
 {
     if code == HEADER || code == PROPERTIES {
-        say_items_if(alloc, is_list(kind_of(value)), code, value, message, rest)
+        say_items_if(alloc, is_list(kind_of(value)), code, value, draft, rest)
     } else if code == ANNOTATIONS || code == APPLICATION {
-        say_items_if(alloc, is_map(kind_of(value)), code, value, message, rest)
+        say_items_if(alloc, is_map(kind_of(value)), code, value, draft, rest)
     } else if code == DATA || code == VALUE {
-        say_body(alloc, code, value, message, value.len() + rest.len())
+        say_body(code, value, draft, value.len() + rest.len())
     } else if code == SEQUENCE {
-        drop(message);
+        drop(draft);
         Err(Unread::At(value.len() + rest.len()))
     } else {
-        Ok(message)
+        Ok(draft)
     }
 }
 
 /// What sections say that are well formed.
-fn say_sections(alloc: Global, bytes: &[u8]) -> Result<Message, Unread>
+fn say_sections(alloc: Global, bytes: &[u8]) -> Result<Draft, Unread>
     ensures { (ss : List SpelledSection) → AreSections ss → bytes.now ≡ all_spelled ss → Says result (meaning.sections_say meaning.no_message ss) }
 {
-    let mut message = no_message(alloc);
+    let mut draft = Draft::new(alloc);
     let mut rest = bytes;
     while let Some(section) = section_at(rest) {
-        message = say_section(alloc, section.code, section.value, message, section.rest)?;
+        draft = say_section(alloc, section.code, section.value, draft, section.rest)?;
         rest = section.rest;
     }
-    Ok(message)
+    Ok(draft)
+}
+
+/// The same as a message that is whole.
+fn say_message(alloc: Global, bytes: &[u8]) -> Result<Message, Unread>
+    ensures { (ss : List SpelledSection) → AreSections ss → bytes.now ≡ all_spelled ss → Says result (meaning.sections_say meaning.no_message ss) }
+{
+    let draft = match say_sections(alloc, bytes) {
+        Ok(draft) => draft,
+        Err(unread) => return Err(unread),
+    };
+    match draft.into_message(alloc) {
+        Ok(message) => Ok(message),
+        Err(_) => Err(Unread::Memory),
+    }
 }
 
 /// The message that sections say, or the place of the first value that is used but can't be.
 fn said_message(alloc: Global, bytes: &[u8]) -> Result<Message, AmqpFault>
     ensures { (ss : List SpelledSection) → Spells bytes.now ss → Tells bytes.now (meaning.sections_say meaning.no_message ss) result }
 {
-    match say_sections(alloc, bytes) {
+    match say_message(alloc, bytes) {
         Ok(message) => Ok(message),
         Err(Unread::At(left)) => Err(AmqpFault::Unsupported {
             at: bytes.len().saturating_sub(left),

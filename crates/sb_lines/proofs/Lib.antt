@@ -1,5 +1,4 @@
 pub mod UnknownKeys
-mod Gathering
 mod Parsed
 pub mod Floats
 pub mod OneLine

@@ -22,7 +22,6 @@ mod descriptions;
 mod fault;
 mod fields;
 mod form;
-mod gathered;
 mod keys;
 mod laws;
 mod line;
@@ -40,7 +39,6 @@ mod worked;
 
 pub use fault::{LineFault, bad};
 pub use form::Form;
-pub use gathered::Gathered;
 pub use laws::each_is_one_line;
 pub use line::{Line, read_line};
 pub use properties::{property_value, put_property};

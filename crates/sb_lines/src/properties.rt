@@ -8,8 +8,8 @@ ghost use Rattle.sb_lines.specs.Gathering.{Leaves};
 ghost use Rattle.sb_lines.specs.Messages as messages;
 
 use crate::fault::{LineFault, bad};
-use crate::gathered::Gathered;
 use crate::table::Field;
+use sb_amqp::Gathered;
 use sb_model::{Body, Message, Property, PropertyValue, Rows, Text};
 use sb_sqleval::with_property;
 use serde_json::{Map, Value};

@@ -5,7 +5,7 @@ ghost use Rattle.sb_model.specs.declared.message.SystemName.TheVariants.{Content
 ghost use Rattle.sb_rest.specs.Brokers.{no_broker};
 ghost use Rattle.sb_rest.specs.Headers.{no_draft, message_from};
 
-use sb_lines::Gathered;
+use sb_amqp::Gathered;
 use sb_model::{Body, Message, Rows, SystemName, SystemText, Text};
 use std::alloc::{AllocError, Global};
 

@@ -8,7 +8,7 @@ use Rattle.sb_amqp.proofs.items.say_items.Given as goal
 abbrev pub invariant-loop-value : goal.invariant-loop-value
 invariant-loop-value l = record {
   within : l.index + length l.rest ≤ length l.items;
-  says : (vs : List (List ℕ)) → AreValues vs → l.items ≡ joined vs → ItemsLeft l.code l.index l.before l.message l.rest (length l.behind) (items_say l.code 0 [] l.fn.message vs (length l.behind));
+  says : (vs : List (List ℕ)) → AreValues vs → l.items ≡ joined vs → ItemsLeft l.code l.index l.before l.draft l.rest (length l.behind) (items_say l.code 0 [] l.fn.draft vs (length l.behind));
 }
 
 abbrev pub decreases-loop-value : goal.decreases-loop-value

@@ -2,7 +2,7 @@
 ghost use Rattle.std.specs.Prelude.{◌≡◌, ◌++◌, [], Some, map, IfOk, OnOk};
 ghost use Rattle.std.specs.Str.{str_to_ascii_lowercase};
 ghost use Rattle.sb_model.specs.Effects.{with_user};
-ghost use Rattle.sb_lines.specs.Gathering.{property_at};
+ghost use Rattle.sb_amqp.specs.Gathering.{property_at};
 
 use sb_model::{Property, PropertyValue, Rows, Text};
 use std::alloc::{AllocError, Global};
@@ -22,7 +22,7 @@ impl Model for Gathered {
 
     ghost Value = { List Property };
 
-    ghost use Rattle.sb_lines.specs.Gathering.{property_at};
+    ghost use Rattle.sb_amqp.specs.Gathering.{property_at};
 
     ghost view = { λ g. map property_at g.by_name.entries };
 }

@@ -1,18 +1,18 @@
 -- A map by names beside the properties that it stands for: an entry that is put in is a property that is set.
-use Rattle.std.proofs.Common.{◌≡◌, ℕ, suc, ◌+◌, List, [], ◌∷◌, ◌++◌, Some, String, Global, Ordering, Less, Equal, Greater, string_bytes, string_cmp, nat_cmp, is_eq, is_lt, cond, Bool, true, false, not, bytes_eq, take, drop, map, refl, sym, ap, subst, one-add, ◌∙◌}
+use Rattle.std.proofs.Common.{◌≡◌, ℕ, List, [], ◌∷◌, Some, String, Global, Ordering, Less, Equal, Greater, string_bytes, string_cmp, nat_cmp, is_eq, is_lt, true, false, bytes_eq, map, refl, sym, ap, subst, one-add, ◌∙◌}
 use Rattle.std.proofs.lemmas.Cmp.{nat_list_cmp_total}
 use Rattle.std.proofs.lemmas.Map.Text.{is_eq-slice_cmp}
 use Rattle.std.proofs.lemmas.Slice.Eq.{bytes_eq-Decides}
 use Rattle.std.specs.Cmp.Lexicographic.{slice_cmp}
-use Rattle.std.specs.List.{AllByRecursion, filter, insert, prefix_len}
+use Rattle.std.specs.List.{AllByRecursion, prefix_len}
 use Rattle.std.specs.List.Sorted.{IsStrictlySortedBy}
 use Rattle.std.specs.Map.{keys_of}
 use Rattle.std.specs.Ordering.{match_ordering, ordering_reverse}
 use Rattle.std.specs.BTreeMap.{insert_entry}
-use Rattle.sb_model.specs.Effects.{without_user, with_user, with_one_more}
+use Rattle.sb_model.specs.Effects.{without_user, with_user}
 use Rattle.sb_model.specs.declared.message.Property.{Property}
 use Rattle.sb_model.specs.declared.message.PropertyValue.{PropertyValue}
-use Rattle.sb_lines.specs.Gathering.{property_at}
+use Rattle.sb_amqp.specs.Gathering.{property_at}
 
 abbrev Entry : Type 0
 Entry = String Global × PropertyValue

@@ -1,6 +1,6 @@
 use Rattle.std.proofs.Common.{◌≡◌, ◌++◌, map, btree_map_len}
-use Rattle.sb_lines.specs.Gathering.{property_at}
-use Rattle.sb_lines.proofs.gathered.move_all.Given as goal
+use Rattle.sb_amqp.specs.Gathering.{property_at}
+use Rattle.sb_amqp.proofs.gathered.move_all.Given as goal
 
 -- those that were moved, before those that are left, are all
 abbrev pub invariant-moving : goal.invariant-moving
