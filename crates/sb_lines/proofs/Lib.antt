@@ -4,3 +4,4 @@ pub mod Floats
 pub mod OneLine
 pub mod InOrder
 pub mod OrderedLines
+mod Printed

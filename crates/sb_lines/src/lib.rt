@@ -18,6 +18,7 @@
 #![tactic(auto)]
 
 mod acts;
+mod compact;
 mod descriptions;
 mod fault;
 mod fields;

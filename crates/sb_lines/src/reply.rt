@@ -7,6 +7,7 @@ ghost use Rattle.sb_machine.specs.declared.reply.Refusal.TheVariants.{DiskFault,
 ghost use Rattle.sb_lines.specs.declared.form.Form.TheVariants.{Plain};
 ghost use Rattle.sb_lines.specs.Replies as replies;
 
+use crate::compact::compact;
 use crate::form::Form;
 use crate::members::tag_with;
 use crate::refusals::refusal_value;
@@ -30,15 +31,6 @@ fn answer_value(alloc: Global, form: Form, answer: &Answer) -> Result<Value, All
         Ok(Answered::Kept(reply)) => kept_value(alloc, form, reply),
         Err(refusal) => refusal_value(alloc, refusal),
     }
-}
-
-/// The text of a value with no float.
-pub(crate) fn compact(alloc: Global, value: &Value) -> Result<String, AllocError>
-    requires { has_float (view value.now) ≡ false }
-    ensures { IfOk result (λ s. string_bytes s ≡ compact_text (view value.now)) }
-{
-    let text = value.to_string(alloc)?;
-    Ok(text)
 }
 
 // The text of a value with no float, and a line feed.

@@ -5,9 +5,9 @@ ghost use Rattle.serde_json.specs.Data.{object, no_members};
 ghost use Rattle.serde_json.specs.View.{view, members_view};
 ghost use Rattle.sb_lines.specs.Shown as shown;
 
+use crate::compact::compact;
 use crate::form::Form;
 use crate::members::{Members, put_bytes, put_number, put_text, put_token};
-use crate::reply::compact;
 use sb_amqp::write_scheduled;
 use sb_machine::{CopyShown, CopyState, Showing};
 use sb_model::{Property, PropertyValue, SystemText};
