@@ -1,12 +1,12 @@
 -- The laws of one history: what holds of each legal one that begins in a consistent state.
 use Rattle.std.specs.Prelude.{ℕ, ◌≤◌, ◌==◌, List}
-use Rattle.sb_laws.specs.Accepted.{Apart, kept_ids}
+use Rattle.sb_laws.specs.Accepted.{AllNote, Apart, kept_ids}
 use Rattle.sb_laws.specs.Acted.{ActOnce}
 use Rattle.sb_laws.specs.Counting.{times}
 use Rattle.sb_laws.specs.Ended.{EndOnce}
 use Rattle.sb_laws.specs.Handed.{AreHandedInOrder}
 use Rattle.sb_laws.specs.Holders.{AreHeldAlone}
-use Rattle.sb_laws.specs.Spent.{AllLived}
+use Rattle.sb_laws.specs.Spent.{AllLived, AllSettle}
 use Rattle.sb_laws.specs.Thin.{Alike}
 use Rattle.sb_machine.specs.Accounts.{acted_numbers, ends_of, noted_ids, spent_locks}
 use Rattle.sb_machine.specs.Events.{replayed, thinned}
@@ -20,6 +20,8 @@ pub record HasLaws (s : State) (h : List Entry) : Type 0 where
   pub numbers : ActOnce s (acted_numbers (fresh_log s) h)
   -- nor does an id within its entity's window
   pub ids : Apart (kept_ids s.space) (noted_ids (fresh_log s) h)
+  -- and a send notes the ids of just those messages that got a number
+  pub notes : AllNote (fresh_log s) h
   -- without the messages that were dropped as duplicates the events lead to the same state
   pub thin : Alike (replayed s (thinned (fresh_log s) h)) (state_after s h)
   -- a copy ends once, and none is lost
@@ -27,6 +29,8 @@ pub record HasLaws (s : State) (h : List Entry) : Type 0 where
   -- a lock is settled once, and only while it lives
   pub spent : (lock : ℕ) → times (λ l. l == lock) (spent_locks (fresh_log s) h) ≤ 1
   pub lived : AllLived (fresh_log s) h
+  -- and who is told that it is settled has settled it
+  pub settles : AllSettle (fresh_log s) h
   -- a session has one holder
   pub holders : AreHeldAlone (fresh_log s) h
   -- and is handed out in order
