@@ -1,17 +1,18 @@
 -- A call that takes no memory isn't refused for want of it.
 use Rattle.std.proofs.Common.{◌≡◌, ◌≢◌, ◌<◌, ◌≤◌, ◌+◌, ℕ, Bool, true, false, Option, Some, None, Result, Err, sym, ap, ◌∙◌, subst, arith}
-use Rattle.std.specs.Prelude.{not}
+use Rattle.std.specs.Prelude.{not, IfSome}
 use Rattle.sb_codec.proofs.Passed.{both}
-use Rattle.sb_machine.specs.Answers.{answer_of}
+use Rattle.sb_desk.specs.Spared.{SparesFrom}
+use Rattle.sb_machine.specs.Answers.{answer_of, moment_of}
 use Rattle.sb_machine.specs.Due.{is_due}
-use Rattle.sb_machine.specs.History.{advanced, is_fault}
+use Rattle.sb_machine.specs.History.{Log, IsLegalFrom, advanced, is_fault}
 use Rattle.sb_machine.specs.declared.call.Call.{Call}
 use Rattle.sb_machine.specs.declared.reply.Answered.{Answered}
 use Rattle.sb_machine.specs.declared.reply.Refusal.{Refusal}
 use Rattle.sb_machine.specs.declared.reply.Refusal.TheVariants.{DiskFault, OutOfMemory}
 use Rattle.sb_machine.specs.declared.state.State.{State}
 use Rattle.sb_engine.specs.Small.{takes_no_memory}
-use Rattle.sb_node.specs.Steps.{is_spared, IsTicked, ticked_to}
+use Rattle.sb_node.specs.Steps.{entries_with, is_spared, IsTicked, ticked_to}
 use Rattle.sb_node.proofs.Machine.{no_fault}
 
 -- the machine refuses nothing so
@@ -43,3 +44,12 @@ pub spared_tick : (later : Option ℕ) (t m : ℕ) (call : Call) (s : State) (an
 spared_tick later t m call s answer none at due spared same =
     let calm = (both (not (is_due m (ticked_to later s).space)) (takes_no_memory (ticked_to later s).space call) spared).0 in
     not_so (is_due m s.space) (ap (λ (n : ℕ). is_due n s.space) at ∙ due) (subst (λ (o : Option ℕ). not (is_due m (ticked_to o s).space) ≡ true) none calm)
+
+-- ---- the entries of a step
+
+-- its call acts behind its tick, at the moment of the reading
+pub step_spares : (tick : Option ℕ) (l : Log) (seat reading : ℕ) (call : Call) (answer : Result Answered Refusal) → IfSome tick (λ t. t ≡ moment_of l.state reading) → IsLegalFrom l (entries_with tick seat reading call answer)
+    → (is_spared (moment_of l.state reading) call (ticked_to tick l.state) ≡ true → answer ≢ Err OutOfMemory) → SparesFrom is_spared l (entries_with tick seat reading call answer)
+step_spares None l seat reading call answer at legal free = (free, tt)
+step_spares (Some t) l seat reading call answer at legal free =
+    ((λ spared. free (subst (λ (m : ℕ). is_spared m call (advanced l.state t) ≡ true) (legal.1.0.0.1 ∙ at) spared)), tt)

@@ -1,15 +1,18 @@
 -- A node stands for a history, and after a step for that with the step's entries.
 use Rattle.std.proofs.Common.{◌≡◌, ◌≢◌, inl, inr, ℕ, List, [], ◌∷◌, ◌++◌, map, Bool, true, false, true≢false, Option, Some, None, Result, Ok, Err, refl, sym, ap, ◌∙◌, subst, arith}
-use Rattle.std.specs.Prelude.{if◌then◌else◌, is_some, IfErr}
+use Rattle.std.specs.Prelude.{if◌then◌else◌, is_some, IfErr, IfSome}
 use Rattle.sb_desk.specs.Entries.{made_by}
+use Rattle.sb_desk.specs.Spared.{SparesFrom}
 use Rattle.sb_desk.specs.declared.report.DiskMoment.{DiskMoment}
 use Rattle.sb_desk.specs.declared.report.DiskOrigin.{DiskOrigin}
 use Rattle.sb_desk.specs.declared.report.Origin.{Origin}
+use Rattle.sb_desk.proofs.Sparing.{spares_on}
 use Rattle.sb_journal.specs.Disks.{disks_of, Disks, OneDisk, AreHonest, AreQuiet, NoneFell, OneFault, SameHonesty}
 use Rattle.sb_journal.specs.Journals.{journal_disks}
 use Rattle.sb_journal.specs.declared.journal.Journal.{Journal}
 use Rattle.sb_journal.proofs.Pairs.{started_pair, still_honest}
 use Rattle.sb_laws.proofs.Histories.{goes_on}
+use Rattle.sb_machine.specs.Answers.{moment_of}
 use Rattle.sb_machine.specs.Consistent.{IsConsistent}
 use Rattle.sb_machine.specs.Events.{after_event, event_at, is_disk_fault, undecided}
 use Rattle.sb_machine.specs.History.{Log, IsLegalFrom, after_entry, after_entries, fresh_log, state_after, stops}
@@ -19,16 +22,17 @@ use Rattle.sb_machine.specs.declared.history.Entry.{Entry}
 use Rattle.sb_machine.specs.declared.history.Entry.TheVariants.{Ticked, Answered as Replied}
 use Rattle.sb_machine.specs.declared.reply.Answered.{Answered}
 use Rattle.sb_machine.specs.declared.reply.Refusal.{Refusal}
-use Rattle.sb_machine.specs.declared.reply.Refusal.TheVariants.{DiskFault, Stopped}
+use Rattle.sb_machine.specs.declared.reply.Refusal.TheVariants.{DiskFault, Stopped, OutOfMemory}
 use Rattle.sb_machine.specs.declared.state.State.{State}
 use Rattle.sb_outside.specs.Held.{Held}
 use Rattle.sb_outside.specs.declared.disk.Disk.{Ghosts}
 use Rattle.sb_node.specs.declared.node.Node.{Node}
 use Rattle.sb_node.specs.Nodes.{node_disk_a, node_disk_b, node_disks, node_journal, node_log, node_state, node_stopped, node_ticked, IsDurable, IsKept, IsOneOf, LeadsToOneOf, StayOneOf}
 use Rattle.sb_node.specs.Serving.{disk_moment, disk_origin, node_report, opened_disks, origin_of, states_left, states_with, with_entries, FollowEntries, FollowHistory, HasDiskRisen, StandsFor}
-use Rattle.sb_node.specs.Steps.{entries_with, log_of, IsStep}
+use Rattle.sb_node.specs.Steps.{entries_with, is_spared, log_of, ticked_to, IsStep}
 use Rattle.sb_node.proofs.Counts.{after_on, numbers_on}
 use Rattle.sb_node.proofs.Following.{follows_on}
+use Rattle.sb_node.proofs.Sparing.{step_spares}
 use Rattle.sb_node.proofs.Whole.{fell_on, honest_on, quiet_on}
 
 -- the entries of a step, in the desk's words
@@ -151,6 +155,8 @@ pub record Goes {D : Type 0} {B : Ghosts D} (old new : Node D B) (seat reading :
   pub follows : IsKept old → FollowEntries [] (node_log old) (entries_with (node_ticked new) seat reading call answer) (node_disks old) (node_disks new)
   pub quiet : answer ≢ Err DiskFault → AreQuiet (node_disks old) (node_disks new)
   pub undecided_now : IsKept old → answer ≡ Err DiskFault → IsOneOf (node_disks new) (node_state new ∷ after_event (node_state new) (event_at (node_state new) reading call) ∷ [])
+  pub ticked : IfSome (node_ticked new) (λ t. t ≡ moment_of (node_state old) reading)
+  pub free : is_spared (moment_of (node_state old) reading) call (ticked_to (node_ticked new) (node_state old)) ≡ true → answer ≢ Err OutOfMemory
 
 -- it ran before a step, where it runs behind it
 ran : {D : Type 0} {B : Ghosts D} (old new : Node D B) (seat reading : ℕ) (call : Call) (answer : Result Answered Refusal) → Goes old new seat reading call answer → node_stopped new ≡ None → node_stopped old ≡ None
@@ -314,6 +320,9 @@ stands_on : {D : Type 0} {B : Ghosts D} (old new : Node D B) (seat reading : ℕ
 stands_on old new seat reading call answer start h go is = record {
   consistent = is.consistent;
   legal = goes_on (fresh_log start) h (entries_with (node_ticked new) seat reading call answer) is.legal (subst (λ (l : Log). IsLegalFrom l (entries_with (node_ticked new) seat reading call answer)) is.leads go.step.legal);
+  spares = spares_on is_spared (fresh_log start) h (entries_with (node_ticked new) seat reading call answer) is.spares
+      (subst (λ (l : Log). SparesFrom is_spared l (entries_with (node_ticked new) seat reading call answer)) is.leads
+      (step_spares (node_ticked new) (node_log old) seat reading call answer go.ticked go.step.legal go.free));
   leads = leads_on old new start h (entries_with (node_ticked new) seat reading call answer) go.step.leads is.leads;
   numbers = numbers_on start h (entries_with (node_ticked new) seat reading call answer) (node_log old) (node_report old) (node_report new) is.leads is.numbers go.numbers;
   honesty = subst (λ (d : Disks). SameHonesty d (node_disks new)) (sym go.origin) (honest_on (opened_disks old) (node_disks old) (node_disks new) is.honesty go.honesty);
@@ -368,6 +377,7 @@ pub begins : {D : Type 0} {B : Ghosts D} (n : Node D B) → IsConsistent (node_s
 begins n consistent runs entries changed refused opened kept durable = record {
   consistent = consistent;
   legal = refl;
+  spares = tt;
   leads = ap (log_of (node_state n)) runs;
   numbers = record { entries = entries; changing = changed; refused = refused };
   honesty = (ap (λ (d : Disks). d.a.honest) (sym opened), ap (λ (d : Disks). d.b.honest) (sym opened));

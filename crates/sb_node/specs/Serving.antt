@@ -2,6 +2,7 @@
 use Rattle.std.specs.Prelude.{◌≡◌, ◌⊎◌, ℕ, zero, suc, ◌+◌, List, [], ◌∷◌, ◌++◌, map, length, filter, true, if◌then◌else◌, Option, Some, None, is_some, Result, Ok, Err}
 use Rattle.std.specs.Bool.{MatchBool}
 use Rattle.sb_desk.specs.Entries.{counted, is_refused, IsReport}
+use Rattle.sb_desk.specs.Spared.{Spares}
 use Rattle.sb_desk.specs.declared.report.DiskMoment.{DiskMoment}
 use Rattle.sb_desk.specs.declared.report.DiskOrigin.{DiskOrigin}
 use Rattle.sb_desk.specs.declared.report.Origin.{Origin}
@@ -24,6 +25,7 @@ use Rattle.sb_outside.specs.Held.{Held}
 use Rattle.sb_outside.specs.declared.disk.Disk.{Ghosts}
 use Rattle.sb_node.specs.declared.node.Node.{Node}
 use Rattle.sb_node.specs.Nodes.{node_disks, node_log, node_stopped, IsDurable, IsKept, IsOneOf, StayOneOf}
+use Rattle.sb_node.specs.Steps.{is_spared}
 
 -- ---- numbers
 
@@ -111,11 +113,12 @@ abbrev pub FollowHistory : State → List Entry → (was now : Disks) → Type 0
 FollowHistory start h was now = FollowEntries [] (fresh_log start) h was now
 
 -- A node stands for a history from a state: it holds the state to which that leads, and its numbers, and has stopped where the history
--- has. Where its disks are honest, a crash as it was opened led to the first state, a crash at any moment since leads on as `FollowHistory`
+-- has. No spared call of it was answered with want of memory. Where its disks are honest, a crash as it was opened led to the first state, a crash at any moment since leads on as `FollowHistory`
 -- says, and one now to the last state or to the one after the undecided event.
 pub record StandsFor {D : Type 0} {B : Ghosts D} (n : Node D B) (start : State) (h : List Entry) : Type 0 where
   pub consistent : IsConsistent start
   pub legal : IsLegal start h
+  pub spares : Spares is_spared start h
   pub leads : node_log n ≡ after_entries (fresh_log start) h
   pub numbers : IsReport start h (node_report n)
   pub honesty : SameHonesty (opened_disks n) (node_disks n)

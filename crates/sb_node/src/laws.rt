@@ -1,10 +1,18 @@
 // Laws: each a function without effect whose contract is true of the definitions.
-ghost use Rattle.std.specs.Prelude.{◌≡◌, [], length, take};
+ghost use Rattle.std.specs.Prelude.{◌≡◌, [], codes, length, take, Some, None, Ok, Err};
+ghost use Rattle.sb_desk.specs.Spared.{Spares};
 ghost use Rattle.sb_journal.specs.declared.found.Side.TheVariants.{A};
 ghost use Rattle.sb_machine.specs.Namespace.{empty_state};
+ghost use Rattle.sb_machine.specs.Worked.{empty};
+ghost use Rattle.sb_machine.specs.declared.call.How.TheVariants.{Abandon, Complete};
+ghost use Rattle.sb_machine.specs.declared.reply.Answered.TheVariants.{New};
+ghost use Rattle.sb_machine.specs.declared.reply.Refusal.TheVariants.{OutOfMemory};
+ghost use Rattle.sb_machine.specs.declared.reply.Reply.TheVariants.{Done};
 ghost use Rattle.sb_node.specs.Laws.{RecoversConsistent};
 ghost use Rattle.sb_node.specs.Recovery.{recovered, recovers, damaged};
+ghost use Rattle.sb_node.specs.Steps.{is_spared};
 ghost use Rattle.sb_node.specs.Worked.{worked_file, worked_salt, with_byte, with_queue, ticked_file};
+ghost use Rattle.sb_node.specs.WorkedSpared.{settled, settlement};
 
 /// Whatever stands on two disks, a state that it recovers is consistent: a damaged journal is never
 /// taken for a namespace that calls can't lead to.
@@ -37,4 +45,15 @@ pub fn worked_journal()
     ensures gate_open { recovered (with_byte 86 1) [] 0 ≡ damaged A 86 }
     // Time goes on only where something is due.
     ensures idle { recovered ticked_file [] 0 ≡ damaged A 86 }
+{}
+
+/// A history whose last call settles a message under a lock, worked through with the definitions alone:
+/// for a completion memory isn't wanting.
+pub fn worked_spared()
+    ensures done { Spares is_spared empty (settled 0 (settlement None Complete) (Ok (New Done))) }
+    ensures wanting { Spares is_spared empty (settled 0 (settlement None Complete) (Err OutOfMemory)) → ⊥ }
+    // It may be where the lock ends first, where the reply is kept for a client, and where the message is copied.
+    ensures due { Spares is_spared empty (settled 60000 (settlement None Complete) (Err OutOfMemory)) }
+    ensures numbered { Spares is_spared empty (settled 0 (settlement (Some (record { client = codes "c"; number = 1 })) Complete) (Err OutOfMemory)) }
+    ensures given_back { Spares is_spared empty (settled 0 (settlement None Abandon) (Err OutOfMemory)) }
 {}

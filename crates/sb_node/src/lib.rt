@@ -26,7 +26,7 @@ mod recovering;
 mod replay;
 mod serving;
 
-pub use laws::{recovers_consistent, worked_journal};
+pub use laws::{recovers_consistent, worked_journal, worked_spared};
 pub use looking::look;
 pub use node::Node;
 pub use sb_engine::Summary;

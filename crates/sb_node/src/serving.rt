@@ -1,6 +1,7 @@
 // A node as what a desk serves.
 ghost use Rattle.sb_node.specs.Nodes.{node_state};
 ghost use Rattle.sb_node.specs.Serving.{node_origin, StandsFor};
+ghost use Rattle.sb_node.specs.Steps.{is_spared};
 
 use crate::Node;
 use sb_desk::{Report, Served, Stepped};
@@ -13,6 +14,8 @@ impl<D: Disk> Served for Node<D> {
     ghost stands = { λ n start h. StandsFor n start h };
 
     ghost origin = { λ n. node_origin n };
+
+    ghost spared = { is_spared };
 
     fn mark_of(path: &Path) -> u64 {
         sb_engine::mark_of(path)
@@ -35,4 +38,6 @@ impl<D: Disk> Served for Node<D> {
     }
 
     ghost legal = { λ n start h is. (is.consistent, is.legal) };
+
+    ghost spares = { λ n start h is. is.spares };
 }

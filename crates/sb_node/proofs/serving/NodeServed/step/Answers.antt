@@ -23,4 +23,6 @@ returns-clause-stands g c = λ seat start h is.
       follows = λ kept. made.follows kept seat;
       quiet = made.quiet;
       undecided_now = made.undecided;
+      ticked = made.ticked;
+      free = made.free;
     }) is)
