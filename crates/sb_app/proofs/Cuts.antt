@@ -13,7 +13,8 @@ use Rattle.sb_machine.specs.declared.reply.Refusal.{Refusal}
 use Rattle.sb_machine.specs.declared.reply.Refusal.TheVariants.{BadCall, DiskFault as FailedDisk, Stopped, OutOfMemory as WantsMemory}
 use Rattle.sb_machine.specs.declared.state.State.{State}
 use Rattle.sb_node.specs.Nodes.{IsOneOf, StayOneOf}
-use Rattle.sb_node.specs.Steps.{IsStep, entries_with, log_of}
+use Rattle.sb_node.specs.Steps.{IsStep, entries_with, is_spared, log_of, ticked_to}
+use Rattle.sb_node.proofs.Sparing.{step_spares}
 use Rattle.sb_app.specs.Outside.{Input, Output, Outside}
 use Rattle.sb_lines.specs.Replies.{answer_line}
 use Rattle.sb_lines.specs.declared.form.Form.{Form}
@@ -99,10 +100,10 @@ malformed_cut s x key was now end is cut = subst (λ (y : ScriptLine). IsCutAt s
 
 -- a step of a running node
 pub step_at : (s after : State) (before stopped tick : Option ℕ) (asked : TimedCall) (form : Form) (a : Result Answered Refusal) → before ≡ None → IfSome tick (λ t. t ≡ moment_of s asked.reading) → IsStep (log_of s before) (entries_with tick 0 asked.reading asked.call a) (log_of after stopped)
-    → IsAnswer s (Request asked form) tick a × (after ≡ state_after s (entries_by (Request asked form) tick a))
-step_at s after before stopped tick asked form a running at step =
+    → (is_spared (moment_of s asked.reading) asked.call (ticked_to tick s) ≡ true → a ≢ Err WantsMemory) → IsAnswer s (Request asked form) tick a × (after ≡ state_after s (entries_by (Request asked form) tick a))
+step_at s after before stopped tick asked form a running at step free =
     let step' : IsStep (fresh_log s) (entries_with tick 0 asked.reading asked.call a) (log_of after stopped) = subst (λ (o : Option ℕ). IsStep (log_of s o) (entries_with tick 0 asked.reading asked.call a) (log_of after stopped)) running step in
-    ((at, step'.legal), ap (λ (l : Log). l.state) step'.leads)
+    ((at, step'.legal, step_spares tick (fresh_log s) 0 asked.reading asked.call a at step'.legal free), ap (λ (l : Log). l.state) step'.leads)
 
 -- an answer of another kind is no failed disk
 pub not_failed : (a : Result Answered Refusal) (kind : AnswerKind) → kind_of a ≡ kind → (kind ≡ Failed → ⊥) → a ≡ Err FailedDisk → ⊥

@@ -5,9 +5,12 @@ use Rattle.sb_machine.specs.History.{Log, IsLegal, IsLegalFrom, after_entries, f
 use Rattle.sb_machine.specs.declared.history.Entry.{Entry}
 use Rattle.sb_machine.specs.declared.state.State.{State}
 use Rattle.sb_laws.proofs.Histories.{goes_on}
+use Rattle.sb_desk.specs.Spared.{Spares, SparesFrom}
+use Rattle.sb_desk.proofs.Sparing.{spares_faultless, spares_on}
 use Rattle.sb_journal.specs.Disks.{Disks, AreHonest}
 use Rattle.sb_node.specs.Recovery.{Recovers, recovered_on}
 use Rattle.sb_node.specs.Nodes.{IsDurable}
+use Rattle.sb_node.specs.Steps.{is_spared}
 use Rattle.sb_app.specs.Outside.{Outside}
 use Rattle.sb_app.specs.declared.script_line.ScriptLine.{ScriptLine}
 use Rattle.sb_app.specs.declared.script_line.ScriptLine.TheVariants.{Blank, Malformed, Request}
@@ -39,6 +42,20 @@ legal_to s ls (Some last) part before now end consistent ends = at_line last.lin
     at_line (Malformed key) is = legal_on s ls [] consistent refl
     at_line (Request a form) is = legal_on s ls (entries_by (Request a form) last.tick last.answer) consistent is.1
 
+spares_all : (s : State) (ls : List ScriptLine) (more : List Entry) → IsConsistent s → Spares is_spared (state_after_all s ls) more → Spares is_spared s (history_of s ls ++ more)
+spares_all s ls more consistent here =
+    spares_on is_spared (fresh_log s) (history_of s ls) more (spares_faultless is_spared (fresh_log s) (history_of s ls) (legal_history s ls consistent).1)
+    (subst (λ (l : Log). SparesFrom is_spared l more) (sym (led_log s ls)) here)
+
+spares_to : (s : State) (ls : List ScriptLine) (last : Option LastLine) (part : List ℕ) (before now : ℕ) (end : RunEnd) → IsConsistent s → EndsAt (state_after_all s ls) last part before now end → Spares is_spared s (history_to s ls last)
+spares_to s ls None part before now end consistent ends = spares_all s ls [] consistent tt
+spares_to s ls (Some last) part before now end consistent ends = at_line last.line ends.0
+  where
+    at_line : (x : ScriptLine) → IsAnswer (state_after_all s ls) x last.tick last.answer → Spares is_spared s (history_of s ls ++ entries_by x last.tick last.answer)
+    at_line Blank is = absurd is
+    at_line (Malformed key) is = spares_all s ls [] consistent tt
+    at_line (Request a form) is = spares_all s ls (entries_by (Request a form) last.tick last.answer) consistent is.2
+
 -- ---- the run
 
 pub early_run : (clock : ℕ → Type 0) (days : ℕ) (Safe : Type 0) (salt : ℕ) (was now : Outside) (ready : Disks) (start state : State) (end : RunEnd) → IsOpened Safe salt was.disks ready start → IsCutRun clock days Safe start (opened was ready) now state end
@@ -63,6 +80,7 @@ early_run clock days Safe salt was now ready start state end opening run kept du
       jump = run.jump;
       written = run.written;
       legal = legal;
+      spares = spares_to start run.lines run.last run.part was.output.faults now.output.faults end opening.consistent run.ends;
       laws = lawful start (history_to start run.lines run.last) opening.consistent legal;
       kept = λ honest sound. subst (Recovers (recovered_on now.disks salt)) leads (kept honest sound);
       durable = λ honest sound. subst (IsDurable now.disks) leads (durable honest sound);

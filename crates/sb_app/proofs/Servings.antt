@@ -15,10 +15,12 @@ use Rattle.sb_node.specs.declared.node.Node.{Node}
 use Rattle.sb_node.specs.Nodes.{node_disks, node_state, node_stopped, IsDurable, IsOneOf}
 use Rattle.sb_node.specs.Recovery.{Recovers, recovered_on}
 use Rattle.sb_node.specs.Serving.{opened_disks, origin_of, states_left, FollowHistory, HasDiskRisen, StandsFor}
+use Rattle.sb_node.specs.Steps.{is_spared}
 use Rattle.sb_node.proofs.Whole.{honest_on, quiet_on}
 use Rattle.sb_desk.specs.Desks.{IsKeptIn, IsNew, IsOf, Open, Sitting, below}
 use Rattle.sb_desk.specs.Entries.{IsReport}
 use Rattle.sb_desk.specs.Lists.{Each, HaveSeatsBelow}
+use Rattle.sb_desk.specs.Spared.{Spares}
 use Rattle.sb_desk.specs.declared.report.Report.{Report}
 use Rattle.sb_server.specs.Serves.{Serving, Worker, is_fault, is_lost, serve_ending}
 use Rattle.sb_server.specs.Works.{TellsFault}
@@ -374,6 +376,7 @@ doors_quiet Work count passes passes_now doors doors_now ending tells (inr none)
 -- what is known of its disks since it was opened, and whether it has stopped
 pub record IsClosed (salt : ℕ) (start : State) (h : List Entry) (ready now : Disks) (stopped : Bool) : Type 0 where
   pub legal : IsLegal start h
+  pub spares : Spares is_spared start h
   pub says : stopped ≡ has_stopped start h
   pub cause : stopped ≡ true → HasDiskRisen ready now
   pub quiet : stopped ≡ false → AreQuiet ready now
@@ -386,6 +389,7 @@ pub record IsClosed (salt : ℕ) (start : State) (h : List Entry) (ready now : D
 pub closed_node : {D : Type 0} {B : Ghosts D} (n : Node D B) (salt : ℕ) (start : State) (h : List Entry) → StandsFor n start h → IsClosed salt start h (opened_disks n) (node_disks n) (is_some (node_stopped n))
 closed_node n salt start h stands = record {
   legal = stands.legal;
+  spares = stands.spares;
   says = ap (λ (l : Log). l.stopped) stands.leads;
   cause = stands.cause;
   quiet = λ goes. stands.quiet (none_of (node_stopped n) goes);
@@ -436,6 +440,7 @@ module _ {R : Type 0} (clock : ℕ → Type 0) (days : ℕ) (Works : Open → Wo
     settled = settled;
     history = h;
     legal = closed.legal;
+    spares = closed.spares;
     laws = lawful desk.start h opening.consistent closed.legal;
     desk = desk;
     begins = refl;

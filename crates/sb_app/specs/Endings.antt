@@ -18,7 +18,8 @@ use Rattle.sb_app.specs.declared.ending.RunEnd.{RunEnd}
 use Rattle.sb_app.specs.declared.ending.RunEnd.TheVariants.{ReadFault, WriteFault, DiskFault, OutOfMemory, LongInput, TimeJump}
 use Rattle.sb_journal.specs.Disks.{Disks}
 use Rattle.sb_node.specs.Nodes.{IsOneOf}
-use Rattle.sb_node.specs.Steps.{entries_with}
+use Rattle.sb_node.specs.Steps.{entries_with, is_spared}
+use Rattle.sb_desk.specs.Spared.{Spares}
 use Rattle.sb_app.specs.Outside.{Output, Outside}
 use Rattle.sb_app.specs.Runs.{replies_to, state_after_all, states_of, history_of, FollowLines}
 use Rattle.sb_app.specs.Jumps.{is_far_ahead, jump_line, AllWithin}
@@ -66,11 +67,12 @@ entries_by Blank tick answer = []
 entries_by (Malformed key) tick answer = []
 entries_by (Request a form) tick answer = entries_with tick 0 a.reading a.call answer
 
--- A line got this answer, behind this tick: a call the machine's, or a fault; what is no call the key at fault.
+-- A line got this answer, behind this tick: a call the machine's, or a fault, but want of memory only where the call isn't spared; what is
+-- no call the key at fault.
 abbrev pub IsAnswer : State → ScriptLine → Option ℕ → Result Answered Refusal → Type 0
 IsAnswer s Blank tick answer = ⊥
 IsAnswer s (Malformed key) tick answer = (tick ≡ None) × (answer ≡ Err (BadCall key))
-IsAnswer s (Request a form) tick answer = IfSome tick (λ t. t ≡ moment_of s a.reading) × IsLegal s (entries_with tick 0 a.reading a.call answer)
+IsAnswer s (Request a form) tick answer = IfSome tick (λ t. t ≡ moment_of s a.reading) × IsLegal s (entries_with tick 0 a.reading a.call answer) × Spares is_spared s (entries_with tick 0 a.reading a.call answer)
 
 -- A run ends at a line for this answer and so much of its line in the form that was asked for. After a failed disk, or want of memory in the call, the line of
 -- that answer is written; where an answer's line found no memory nothing of it is.

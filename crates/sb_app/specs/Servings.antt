@@ -11,9 +11,11 @@ use Rattle.sb_journal.specs.Disks.{Disks, AreHonest, KeepFound, AreQuiet, SameHo
 use Rattle.sb_node.specs.Nodes.{IsDurable, IsOneOf}
 use Rattle.sb_node.specs.Recovery.{Recovers, recovered_on}
 use Rattle.sb_node.specs.Serving.{origin_of, states_left, FollowHistory, HasDiskRisen}
+use Rattle.sb_node.specs.Steps.{is_spared}
 use Rattle.sb_desk.specs.Desks.{IsKeptIn, IsNew, Open, Sitting, below}
 use Rattle.sb_desk.specs.Entries.{IsReport}
 use Rattle.sb_desk.specs.Lists.{Each, HaveSeatsBelow}
+use Rattle.sb_desk.specs.Spared.{Spares}
 use Rattle.sb_desk.specs.declared.report.Report.{Report}
 use Rattle.sb_server.specs.Serves.{Serving, Worker}
 use Rattle.sb_server.specs.declared.limits.Limits.{Limits}
@@ -80,7 +82,8 @@ HasDoorRisen count (d ∷ ds) (e ∷ es) = Rose (count d) (count e) ⊎ HasDoorR
 
 -- The doors were served over one history, from the state that the disks stood for, a consistent one: each door by a worker with a pass
 -- of its own (`serves` says what was read and written). What a pass has seen is a front of that history with all entries of its seat,
--- and no other seat has any. The history is legal, so it has the laws; its numbers were told; and what a crash leaves of the disks leads to
+-- and no other seat has any. The history is legal, so it has the laws; none of its calls that is spared was answered with want of memory;
+-- its numbers were told; and what a crash leaves of the disks leads to
 -- the state behind it, or to that after the event which a failed disk left undecided.
 pub record IsServed {R : Type 0} (reads : ℕ → Type 0) (days : ℕ) (Works : Open → Worker R → Type 0) (salt : ℕ) (was now : Outside) (doors doors_now : List R) (status : ℕ) : Type 0 where
   pub start : State
@@ -90,6 +93,7 @@ pub record IsServed {R : Type 0} (reads : ℕ → Type 0) (days : ℕ) (Works : 
   pub settled : IsSettled reads days start.now
   pub history : List Entry
   pub legal : IsLegal start history
+  pub spares : Spares is_spared start history
   pub laws : HasLaws start history
   pub desk : Open
   pub begins : desk.start ≡ start

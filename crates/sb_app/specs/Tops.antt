@@ -9,6 +9,8 @@ use Rattle.sb_machine.specs.declared.state.State.{State}
 use Rattle.sb_journal.specs.Disks.{Disks, AreHonest, AreUnwritten, IsAtRest, KeepFound, HaveFailed, AreQuiet, SameHonesty}
 use Rattle.sb_node.specs.Recovery.{Recovered, damaged, Recovers, recovered_on}
 use Rattle.sb_node.specs.Nodes.{IsDurable}
+use Rattle.sb_node.specs.Steps.{is_spared}
+use Rattle.sb_desk.specs.Spared.{Spares}
 use Rattle.sb_app.specs.Outside.{Output, Outside}
 use Rattle.sb_journal.specs.declared.found.Side.{Side}
 use Rattle.sb_journal.specs.declared.found.Side.TheVariants.{A, B}
@@ -61,7 +63,7 @@ pub record IsWholeRun (reads : ℕ → Type 0) (days salt : ℕ) (was now : Outs
   pub moments : AreHonest was.disks → HasMoments salt start (script_lines input) was.disks now.disks
 
 -- A run that ended before its input did, by 14 before a line that is too far ahead of the clock: from the state that the disks stood for, a consistent one, the first lines of the input were
--- answered, in order; the history of its calls is legal, and unless a disk failed its last state is what the disks stand for, also
+-- answered, in order; the history of its calls is legal, memory was wanting for none that is spared, and unless a disk failed its last state is what the disks stand for, also
 -- after a crash.
 pub record IsEarlyRun (reads : ℕ → Type 0) (days salt : ℕ) (was now : Outside) (end : RunEnd) : Type 0 where
   pub start : State
@@ -78,6 +80,7 @@ pub record IsEarlyRun (reads : ℕ → Type 0) (days salt : ℕ) (was now : Outs
   pub jump : end ≡ TimeJump → IsTimeJump reads days was.input.left lines part was.output.faults now.output.faults
   pub written : Gains was.output.given now.output.given (replies_to start lines ++ part)
   pub legal : IsLegal start (history_to start lines last)
+  pub spares : Spares is_spared start (history_to start lines last)
   pub laws : HasLaws start (history_to start lines last)
   pub kept : AreHonest was.disks → end ≢ DiskFault → Recovers (recovered_on now.disks salt) (state_after start (history_to start lines last))
   pub durable : AreHonest was.disks → end ≢ DiskFault → IsDurable now.disks (state_after start (history_to start lines last))

@@ -407,10 +407,7 @@ fn accept(alloc: Global, value: &Value) -> Result<Act, LineFault>
     let (from, id) = object_of(
         alloc,
         value,
-        &InLine(Waiting(Both(
-            Address("from"),
-            Optional("id", Words("id")),
-        ))),
+        &InLine(Waiting(Both(Address("from"), Optional("id", Words("id"))))),
     )?;
     Ok(Act::Accept { from, id })
 }

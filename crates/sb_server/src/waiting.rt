@@ -4,6 +4,7 @@ ghost use Rattle.std.specs.Bool.{OnTrue, OnFalse};
 ghost use Rattle.sb_machine.specs.Ordered.{IsActInOrder};
 ghost use Rattle.sb_machine.specs.declared.history.Entry.{Entry};
 ghost use Rattle.sb_desk.specs.Desks.{IsOf, HasLegal};
+ghost use Rattle.sb_desk.specs.Spared.{Spares};
 ghost use Rattle.sb_server.specs.Waiting.{GoesBy, GoesByCall, Waits, is_empty};
 
 use sb_desk::{Desk, Pass, Served};
@@ -27,6 +28,7 @@ pub fn receive_waiting<V: Served, R: Wait, C: Clock>(
     requires order { IsActInOrder call.now.act }
     ensures waits { (made : List Entry) × GoesBy pass made result.0 × Waits (C.reads clock.now) pass.seat call.now limit made result.1 }
     ensures legal { HasLegal result.0 }
+    ensures spares { Spares V.spared result.0.start result.0.seen }
     ensures desk { IsOf desk.now result.0 }
 {
     let first = clock.now();
@@ -57,6 +59,7 @@ pub(crate) fn call_once<V: Served, R: Wait>(
     requires order { IsActInOrder call.now.act }
     ensures goes { GoesByCall pass reading call.now result.1 result.0 }
     ensures legal { HasLegal result.0 }
+    ensures spares { Spares V.spared result.0.start result.0.seen }
     ensures desk { IsOf desk.now result.0 }
 {
     desk.call(rt, pass, reading, call)

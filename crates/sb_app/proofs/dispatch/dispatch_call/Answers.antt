@@ -49,13 +49,13 @@ returns-in_ok-write_answer-in-Refused-clause-kept g c safe sound =
 
 pub returns-in-Failed-clause-cut : goal.returns-in-Failed-clause-cut
 returns-in-Failed-clause-cut g c =
-    let step = step_at (node_state c.args.node.now) _ (node_stopped c.args.node.now) (node_stopped c.step-answer.new.self) (node_ticked c.step-answer.new.self) c.args.asked.now c.args.form c.step-answer.result c.requires.running c.step-answer.ensures.ticked (c.step-answer.ensures.step 0) in
+    let step = step_at (node_state c.args.node.now) _ (node_stopped c.args.node.now) (node_stopped c.step-answer.new.self) (node_ticked c.step-answer.new.self) c.args.asked.now c.args.form c.step-answer.result c.requires.running c.step-answer.ensures.ticked (c.step-answer.ensures.step 0) c.step-answer.ensures.free in
     let failed = failed_answer c.step-answer.result (node_stopped c.args.node.now) c.requires.running c.step-answer.ensures.stopped (sym c.in-Failed.ensures) in
     disk_cut _ _ c.args.asked.now c.args.form (node_ticked c.step-answer.new.self) c.step-answer.result c.disk_fault_line.result.now (output_of g.K.Sink c.args.output.now) (output_of g.K.Sink c.write_final_line.new.output) failed c.disk_fault_line.ensures c.write_final_line.ensures step.0 step.1
 
 pub returns-in-Wanting-clause-cut : goal.returns-in-Wanting-clause-cut
 returns-in-Wanting-clause-cut g c =
-    let step = step_at (node_state c.args.node.now) _ (node_stopped c.args.node.now) (node_stopped c.step-answer.new.self) (node_ticked c.step-answer.new.self) c.args.asked.now c.args.form c.step-answer.result c.requires.running c.step-answer.ensures.ticked (c.step-answer.ensures.step 0) in
+    let step = step_at (node_state c.args.node.now) _ (node_stopped c.args.node.now) (node_stopped c.step-answer.new.self) (node_ticked c.step-answer.new.self) c.args.asked.now c.args.form c.step-answer.result c.requires.running c.step-answer.ensures.ticked (c.step-answer.ensures.step 0) c.step-answer.ensures.free in
     let wants = wanting_answer c.step-answer.result (sym c.in-Wanting.ensures) in
     memory_cut _ _ c.args.asked.now c.args.form (node_ticked c.step-answer.new.self) c.step-answer.result c.out_of_memory_line.result.now (output_of g.K.Sink c.args.output.now) (output_of g.K.Sink c.write_final_line-in-Wanting.new.output) wants c.out_of_memory_line.ensures c.write_final_line-in-Wanting.ensures step.0 step.1
 
@@ -67,7 +67,7 @@ returns-in-Wanting-clause-kept g c safe sound =
 pub returns-in_err-write_answer-in-Accepted-clause-cut : goal.returns-in_err-write_answer-in-Accepted-clause-cut
 returns-in_err-write_answer-in-Accepted-clause-cut g c =
     let kind = accepted_answer c.step-answer.result (sym c.in-Accepted.ensures) in
-    let step = step_at (node_state c.args.node.now) _ (node_stopped c.args.node.now) (node_stopped c.step-answer.new.self) (node_ticked c.step-answer.new.self) c.args.asked.now c.args.form c.step-answer.result c.requires.running c.step-answer.ensures.ticked (c.step-answer.ensures.step 0) in
+    let step = step_at (node_state c.args.node.now) _ (node_stopped c.args.node.now) (node_stopped c.step-answer.new.self) (node_ticked c.step-answer.new.self) c.args.asked.now c.args.form c.step-answer.result c.requires.running c.step-answer.ensures.ticked (c.step-answer.ensures.step 0) c.step-answer.ensures.free in
     passed_on _ c.in_err-write_answer-in-Accepted.field-0.0 c.from_residual.result c.from_residual.ensures
     (reply_cut_at _ _ (Request c.args.asked.now c.args.form) (node_ticked c.step-answer.new.self) c.step-answer.result (output_of g.K.Sink c.args.output.now) (output_of g.K.Sink c.write_answer.new.output) _ step.0 kind.0 step.1 c.in_err-write_answer-in-Accepted.ensures.err)
 
@@ -80,7 +80,7 @@ returns-in_err-write_answer-in-Accepted-clause-kept g c safe sound =
 pub returns-in_err-write_answer-in-Refused-clause-cut : goal.returns-in_err-write_answer-in-Refused-clause-cut
 returns-in_err-write_answer-in-Refused-clause-cut g c =
     let kind = refused_answer c.step-answer.result (sym c.in-Refused.ensures) in
-    let step = step_at (node_state c.args.node.now) _ (node_stopped c.args.node.now) (node_stopped c.step-answer.new.self) (node_ticked c.step-answer.new.self) c.args.asked.now c.args.form c.step-answer.result c.requires.running c.step-answer.ensures.ticked (c.step-answer.ensures.step 0) in
+    let step = step_at (node_state c.args.node.now) _ (node_stopped c.args.node.now) (node_stopped c.step-answer.new.self) (node_ticked c.step-answer.new.self) c.args.asked.now c.args.form c.step-answer.result c.requires.running c.step-answer.ensures.ticked (c.step-answer.ensures.step 0) c.step-answer.ensures.free in
     passed_on _ c.in_err-write_answer-in-Refused.field-0.0 c.from_residual-in_err-write_answer-in-Refused.result c.from_residual-in_err-write_answer-in-Refused.ensures
     (reply_cut_at _ _ (Request c.args.asked.now c.args.form) (node_ticked c.step-answer.new.self) c.step-answer.result (output_of g.K.Sink c.args.output.now) (output_of g.K.Sink c.write_answer-in-Refused.new.output) _ step.0 kind.0 step.1 c.in_err-write_answer-in-Refused.ensures.err)
 

@@ -6,6 +6,7 @@ pub loop-init : goal.loop-init
 loop-init g c = record {
   desk = c.call_once-current.ensures.desk;
   legal = c.call_once-current.ensures.legal;
+  spares = c.call_once-current.ensures.spares;
   waiting = waiting_first (g.C.Clock.reads c.args.clock.now) _ _ _ _ _ _ c.call_once-current.ensures.goes c.now-first.ensures;
 }
 
@@ -13,6 +14,7 @@ pub loop-preserved : goal.loop-preserved
 loop-preserved g c = record {
   desk = c.call_once-next.ensures.desk;
   legal = c.call_once-next.ensures.legal;
+  spares = c.call_once-next.ensures.spares;
   waiting = waiting_next (g.C.Clock.reads c.args.clock.now) _ _ _ _ _ _ _ _ _ _ c.loop.invariant.waiting (search rules) c.call_once-next.ensures.goes c.now-now.ensures;
 }
 

@@ -1,4 +1,5 @@
 use Rattle.sb_desk.specs.Desks.{IsOf, HasLegal}
+use Rattle.sb_desk.specs.Spared.{Spares}
 use Rattle.sb_server.specs.Waiting.{Waiting}
 use Rattle.sb_server.proofs.waiting.receive_waiting.Given as goal
 
@@ -6,5 +7,6 @@ abbrev pub invariant-loop : goal.invariant-loop
 invariant-loop g l = record {
   desk : IsOf l.desk l.current;
   legal : HasLegal l.current;
+  spares : Spares g.V.Served.spared l.current.start l.current.seen;
   waiting : Waiting (g.C.Clock.reads l.clock) l.fn.pass l.call l.limit l.first l.now l.answer l.current;
 }
