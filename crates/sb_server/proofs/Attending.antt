@@ -1,5 +1,5 @@
 -- A worker goes on.
-use Rattle.std.proofs.Common.{◌≡◌, ℕ, ◌+◌, ◌-◌, ◌≤◌, List, [], ◌∷◌, ◌++◌, length, length-append, sym, refl, ◌∙◌, subst, arith, Bool, true, Option, Some, None}
+use Rattle.std.proofs.Common.{◌≡◌, ℕ, ◌+◌, ◌-◌, ◌≤◌, List, [], ◌∷◌, ◌++◌, length, length-append, sym, refl, ap, ◌∙◌, subst, arith, Bool, true, Option, Some, None}
 use Rattle.sb_desk.specs.Desks.{Sitting}
 use Rattle.sb_desk.specs.Lists.{Each}
 use Rattle.sb_outside.specs.Causes.{RoseByOne}
@@ -20,12 +20,22 @@ use Rattle.sb_server.specs.declared.work.Stop.{Stop}
 use Rattle.sb_server.specs.declared.work.Stop.TheVariants.{Enough, Ended, Fault, OutOfMemory}
 use Rattle.sb_server.specs.Doings.{IsDoing}
 use Rattle.sb_server.specs.Reads.{Stand, stand_of}
-use Rattle.sb_server.specs.Stages.{start_of, here_of, IsWanting, IsServing, IsAt, stage_behind}
+use Rattle.sb_server.specs.Stages.{start_of, here_of, IsWanting, IsServing, IsAt, stage_behind, stop_at, is_over}
 use Rattle.sb_server.specs.Talks.{Start, Ends}
 use Rattle.sb_server.specs.Times.{IsSince}
 use Rattle.sb_server.specs.Works.{Visit, Works, ServesBy, GoesOn, MayStopBy, stop_of}
 use Rattle.sb_server.proofs.Turning.{talks_from, no_inbox}
 use Rattle.sb_server.proofs.Working.{works_none, works_on, works_one, works_failed, works_ended, each_both, may_end, may_fail, may_stop, stops_after, gone_more, gone_enough, GoneOn}
+
+-- a stage that serves has one connection
+pub serves_same : {X : Type 0} (left less : ℕ) (g h : Guest X) → ◌≡◌ {A = Stage X} (Serves left g) (Serves less h) → g ≡ h
+serves_same {X = X} left less g h e = ap (λ (s : Stage X). elim s [ Serves n z ↦ z | Wants n ↦ g | Over stop ↦ g ]) e
+
+-- a worker that is over is so for what it says
+pub over_at : {X : Type 0} (stage : Stage X) (stop other : Stop) → is_over stage ≡ true → stop ≡ stop_at stage other → stage ≡ Over stop
+over_at (Wants left) stop other e is = absurd cc
+over_at (Serves left guest) stop other e is = absurd cc
+over_at (Over s) stop other e is = ap Over (sym is)
 
 module _ {D X : Type 0} (IsReading : ℕ → Type 0) (access : Access) (limits : Limits) (there given : X → Option (List ℕ)) (reads writes : X → ℕ) (waiting taken : D → Option (List X)) (ended : D → Bool) (count out : D → ℕ) (most : ℕ) (p : Sitting) (d : D) where
   abbrev At : Sitting → D → Stage X → Type 0

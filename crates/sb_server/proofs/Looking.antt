@@ -5,12 +5,12 @@ use Rattle.sb_outside.specs.Streams.{Stays}
 use Rattle.sb_http.specs.Stages.{Left, whole, held}
 use Rattle.sb_server.specs.declared.doing.Doing.{Doing}
 use Rattle.sb_server.specs.declared.doing.Doing.TheVariants.{Reads, Asks, Calls, Says, Tells, Writes}
-use Rattle.sb_server.specs.declared.doing.Next.{Next}
+use Rattle.sb_server.specs.declared.doing.Went.{Went}
 use Rattle.sb_server.specs.declared.ending.Ending.TheVariants.{Slow}
 use Rattle.sb_server.specs.declared.limits.Limits.{Limits}
 use Rattle.sb_server.specs.declared.limits.Since.{Since}
 use Rattle.sb_server.specs.declared.limits.Since.TheVariants.{Never, Idle, Asking, Taking}
-use Rattle.sb_server.specs.Doings.{IsDoing, IsNext, IsNextInOrder}
+use Rattle.sb_server.specs.Doings.{IsDoing, IsNext}
 use Rattle.sb_server.specs.Talks.{Start, Here, ReadsOut, Parts, LeavesPart, IsUnasked, Ends}
 use Rattle.sb_server.specs.Times.{Passed, IsSince, IsLooked, with_bytes, idle_from, asking_from, taking_from, taken_of}
 use Rattle.sb_server.proofs.Stepping.{wrote_part}
@@ -57,15 +57,11 @@ unasked_begun IsReading s h limits left n limit same lefts count some is p = inr
     all = is ∙ (ap (λ (l : Limits). with_bytes l.request_ms n) (sym same) ∙ ap (λ (k : ℕ). with_bytes s.limits.request_ms k) here)
 
 -- it was looked at
-pub looked_next : (IsReading : ℕ → Type 0) (s : Start) (h : Here) (limit first later : ℕ) (next : Next) → IsLooked limit first later next → IsReading first → IsReading later → ReadsOut IsReading s h
-    → (Passed IsReading limit → IsUnasked IsReading s h) → IsNext IsReading s h next
-looked_next IsReading s h limit first later next (inl is) a b reads unasked = subst (λ (x : Next). IsNext IsReading s h x) (sym is) reads
-looked_next IsReading s h limit first later next (inr x) a b reads unasked =
-    subst (λ (x : Next). IsNext IsReading s h x) (sym x.0) (inl (reads, unasked (record { first = first; later = later; is_first = a; is_later = b; apart = x.1 })))
-
-pub looked_in_order : (limit first later : ℕ) (next : Next) → IsLooked limit first later next → IsNextInOrder next
-looked_in_order limit first later next (inl is) = subst IsNextInOrder (sym is) tt
-looked_in_order limit first later next (inr x) = subst IsNextInOrder (sym x.0) tt
+pub looked_next : (IsReading : ℕ → Type 0) (s : Start) (h : Here) (limit first later : ℕ) (went : Went) (doing : Doing) → IsLooked limit first later went → IsReading first → IsReading later → ReadsOut IsReading s h → doing ≡ Reads
+    → (Passed IsReading limit → IsUnasked IsReading s h) → IsNext IsReading s h went doing
+looked_next IsReading s h limit first later went doing (inl is) a b reads none unasked = subst (λ (x : Went). IsNext IsReading s h x doing) (sym is) (reads, none)
+looked_next IsReading s h limit first later went doing (inr x) a b reads none unasked =
+    subst (λ (x : Went). IsNext IsReading s h x doing) (sym x.0) (inl (reads, unasked (record { first = first; later = later; is_first = a; is_later = b; apart = x.1 })))
 
 -- ---- a response
 

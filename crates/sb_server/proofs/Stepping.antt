@@ -20,13 +20,15 @@ use Rattle.sb_server.specs.declared.body.LineAsk.{LineAsk}
 use Rattle.sb_server.specs.declared.script.Script.{Script}
 use Rattle.sb_server.specs.declared.doing.Begun.{Begun}
 use Rattle.sb_server.specs.declared.doing.Begun.TheVariants.{Done, Waits, Calls}
+use Rattle.sb_server.specs.declared.doing.Doing.{Doing}
+use Rattle.sb_server.specs.declared.doing.Doing.TheVariants.{Reads, Asks, Calls as Calling, Says as Saying, Tells, Writes}
 use Rattle.sb_server.specs.declared.doing.Outgoing.{Outgoing}
 use Rattle.sb_server.specs.declared.patience.Patience.{Patience}
 use Rattle.sb_server.specs.declared.telling.Telling.{Telling}
 use Rattle.sb_server.specs.declared.ending.Ending.{Ending}
 use Rattle.sb_server.specs.declared.ending.Ending.TheVariants.{WriteFault}
 use Rattle.sb_server.specs.Asks.{AsksFor, asks_close}
-use Rattle.sb_server.specs.Doings.{Says, Answers, IsPatient, IsFresh, HasCalled, Begins, IsAsking, IsDue, Owes, IsNext, IsNextInOrder, IsBegunInOrder, refusing, behind, next_of, said_of, farewell}
+use Rattle.sb_server.specs.Doings.{Says, Answers, IsPatient, IsFresh, HasCalled, Begins, IsAsking, IsDue, Owes, IsNext, IsDoingInOrder, IsBegunInOrder, refused_by, refusing, asks, behind, went_by, doing_by, said_of, farewell}
 use Rattle.sb_server.specs.Reads.{Takes, IsDone, IsGone}
 use Rattle.sb_server.specs.Responds.{AnswersWaiter, GivenUp, waiter_call}
 use Rattle.sb_server.specs.Talks.{Start, Here, Talks, Ends, TurnsTo, refusal_bytes, refusal_ending}
@@ -110,10 +112,10 @@ owes_refused IsReading s h n fault v is t x cause pass written writes = record {
 
 -- ---- what comes next
 
-pub refused_next : (IsReading : ℕ → Type 0) (s : Start) (h n : Here) (fault : HttpFault) (b : Result (Vec ℕ Global) AllocError) → IfOk b (λ v. v.items ≡ refusal_bytes fault)
-    → Talks IsReading s h Goes → Reaches h n [] → Refuses fault n.stand.left → n.pass ≡ h.pass → n.written ≡ h.written → h.writes ≤ n.writes → IsNext IsReading s n (refusing b (refusal_ending fault))
-refused_next IsReading s h n fault (Ok v) is t x cause pass written writes = owes_refused IsReading s h n fault v is t x cause pass written writes
-refused_next IsReading s h n fault (Err e) is t x cause pass written writes = refused_lost IsReading s h n t x pass written writes
+pub refused_next : (IsReading : ℕ → Type 0) (s : Start) (h n : Here) (fault : HttpFault) (b : Result (Vec ℕ Global) AllocError) (old : Doing) → IfOk b (λ v. v.items ≡ refusal_bytes fault)
+    → Talks IsReading s h Goes → Reaches h n [] → Refuses fault n.stand.left → n.pass ≡ h.pass → n.written ≡ h.written → h.writes ≤ n.writes → IsNext IsReading s n (refused_by b) (refusing b (refusal_ending fault) old)
+refused_next IsReading s h n fault (Ok v) old is t x cause pass written writes = owes_refused IsReading s h n fault v is t x cause pass written writes
+refused_next IsReading s h n fault (Err e) old is t x cause pass written writes = refused_lost IsReading s h n t x pass written writes
 
 -- none of several lines was called yet
 fresh_called : (IsReading : ℕ → Type 0) (pass : Sitting) (lines : List LineAsk) (script : Script) → script.left.items ≡ lines → script.text.items ≡ [] → script.stopped ≡ false → HasCalled IsReading pass lines script [] [] pass
@@ -121,7 +123,7 @@ fresh_called IsReading pass lines script left text stopped = record { made = [];
 
 pub begun_next : (IsReading : ℕ → Type 0) (s : Start) (h n : Here) (m : RequestMessage) (ask : Ask) (closes : Bool) (begun : Begun)
     → Talks IsReading s h Goes → Reaches h n (m ∷ []) → AsksFor s.access m ask → closes ≡ asks_close m → Begins IsReading h.pass ask closes n.pass begun → n.written ≡ h.written → h.writes ≤ n.writes
-    → IsNext IsReading s n (next_of begun)
+    → IsNext IsReading s n (went_by begun) (doing_by begun)
 begun_next IsReading s h n m ask closes (Done told) t x asks is begins same writes = due_asked IsReading s h n m ask closes told t x asks is begins same writes
 begun_next IsReading s h n m ask closes (Waits p) t x asks is begins same writes = record {
   old = h;
@@ -157,7 +159,7 @@ begun_next IsReading s h n m ask closes (Calls script) t x asks is begins same w
 -- what waits was asked again
 pub asking_next : (IsReading : ℕ → Type 0) (s : Start) (h n : Here) (p : Patience) (begun : Begun) → IsAsking IsReading s h p → Reaches h n []
     → ((old : Sitting) → IsPatient IsReading old p h.pass → Begins IsReading old (Patient p.waiter p.limit_ms) p.closes n.pass begun)
-    → n.written ≡ h.written → h.writes ≤ n.writes → IsNext IsReading s n (next_of begun)
+    → n.written ≡ h.written → h.writes ≤ n.writes → IsNext IsReading s n (went_by begun) (doing_by begun)
 asking_next IsReading s h n p begun a x begins written writes =
     begun_next IsReading s a.old n a.m (Patient p.waiter p.limit_ms) p.closes begun a.talks
     (record { takes = takes_on a.old.stand h.stand n.stand (a.m ∷ []) [] a.takes x.takes; reads = omega (arith, a.reads, x.reads) })
@@ -165,10 +167,10 @@ asking_next IsReading s h n p begun a x begins written writes =
 
 -- ---- writing
 
-pub wrote_all : (IsReading : ℕ → Type 0) (s : Start) (h : Here) (out : Outgoing) → Owes IsReading s h out → length out.bytes.items ≤ out.at → IsNext IsReading s h (behind out.after)
+pub wrote_all : (IsReading : ℕ → Type 0) (s : Start) (h : Here) (out : Outgoing) → Owes IsReading s h out → length out.bytes.items ≤ out.at → IsNext IsReading s h (behind out.after) Reads
 wrote_all IsReading s h out o all = by out.after (o.whole h.written h.writes (omega arith) (subst (Gains o.before h.written) (take_all out.at out.bytes.items all) o.wrote))
   where
-    by : (after : Option Ending) → TurnsTo IsReading s h after → IsNext IsReading s h (behind after)
+    by : (after : Option Ending) → TurnsTo IsReading s h after → IsNext IsReading s h (behind after) Reads
     by None t = t
     by (Some ending) t = t
 
@@ -204,18 +206,25 @@ wrote_part IsReading s h out w k o stays rose = o.part w k (omega (arith, rose))
 
 -- ---- the calls of what waits are in order
 
-pub refusing_in_order : (b : Result (Vec ℕ Global) AllocError) (ending : Ending) → IsNextInOrder (refusing b ending)
-refusing_in_order (Ok v) ending = tt
-refusing_in_order (Err e) ending = tt
+pub refusing_in_order : (b : Result (Vec ℕ Global) AllocError) (ending : Ending) (old : Doing) → IsDoingInOrder old → IsDoingInOrder (refusing b ending old)
+refusing_in_order (Ok v) ending old o = tt
+refusing_in_order (Err e) ending old o = o
 
-pub behind_in_order : (after : Option Ending) → IsNextInOrder (behind after)
-behind_in_order None = tt
-behind_in_order (Some ending) = tt
-
-pub next_in_order : (begun : Begun) → IsBegunInOrder begun → IsNextInOrder (next_of begun)
+pub next_in_order : (begun : Begun) → IsBegunInOrder begun → IsDoingInOrder (doing_by begun)
 next_in_order (Done told) o = tt
 next_in_order (Waits p) o = o
 next_in_order (Calls script) o = o
+
+-- ---- what waits
+
+-- whatever asks is a receive that waits, or a line
+pub only_waits : (d : Doing) → asks d ≡ true → ((p : Patience) → d ≡ Asks p → ⊥) → ⊥
+only_waits Reads is other = let bad : false ≡ true = is in absurd cc
+only_waits (Asks p) is other = other p refl
+only_waits (Calling script) is other = let bad : false ≡ true = is in absurd cc
+only_waits (Saying script form answer) is other = let bad : false ≡ true = is in absurd cc
+only_waits (Tells told) is other = let bad : false ≡ true = is in absurd cc
+only_waits (Writes out) is other = let bad : false ≡ true = is in absurd cc
 
 -- ---- what a write answered
 

@@ -29,8 +29,8 @@ use Rattle.sb_server.specs.declared.doing.Begun.{Begun}
 use Rattle.sb_server.specs.declared.doing.Begun.TheVariants.{Done, Waits, Calls as WillCall}
 use Rattle.sb_server.specs.declared.doing.Doing.{Doing}
 use Rattle.sb_server.specs.declared.doing.Doing.TheVariants.{Reads, Asks, Calls, Says as WillSay, Tells, Writes}
-use Rattle.sb_server.specs.declared.doing.Next.{Next}
-use Rattle.sb_server.specs.declared.doing.Next.TheVariants.{On, NothingYet, Blocked, Over}
+use Rattle.sb_server.specs.declared.doing.Went.{Went}
+use Rattle.sb_server.specs.declared.doing.Went.TheVariants.{On, NothingYet, Blocked, Over}
 use Rattle.sb_server.specs.declared.doing.Outgoing.{Outgoing}
 use Rattle.sb_server.specs.declared.patience.Patience.{Patience}
 use Rattle.sb_server.specs.declared.script.Script.{Script}
@@ -174,16 +174,21 @@ IsDoing IsReading s h (WillSay script form answer) = IsSaying IsReading s h scri
 IsDoing IsReading s h (Tells told) = IsDue IsReading s h told
 IsDoing IsReading s h (Writes out) = Owes IsReading s h out
 
--- it goes on, waits for more of a request, waits, or ends
-abbrev pub IsNext : (ℕ → Type 0) → Start → Here → Next → Type 0
-IsNext IsReading s h (On doing) = IsDoing IsReading s h doing
-IsNext IsReading s h NothingYet = ReadsOut IsReading s h
-IsNext IsReading s h (Blocked doing) = IsDoing IsReading s h doing
-IsNext IsReading s h (Over ending) = Ends IsReading s h ending
+-- it goes on with this, waits for more of a request, waits with this, or ends
+abbrev pub IsNext : (ℕ → Type 0) → Start → Here → Went → Doing → Type 0
+IsNext IsReading s h On doing = IsDoing IsReading s h doing
+IsNext IsReading s h NothingYet doing = ReadsOut IsReading s h × (doing ≡ Reads)
+IsNext IsReading s h Blocked doing = IsDoing IsReading s h doing
+IsNext IsReading s h (Over ending) doing = Ends IsReading s h ending
 
 -- one step, however a connection of this server began
-abbrev pub Steps : (ℕ → Type 0) → Access → Here → Doing → Here → Next → Type 0
-Steps IsReading access old doing new next = (s : Start) → s.access ≡ access → IsDoing IsReading s old doing → IsNext IsReading s new next
+abbrev pub Steps : (ℕ → Type 0) → Access → Here → Doing → Here → Went → Doing → Type 0
+Steps IsReading access old doing new went doing_now = (s : Start) → s.access ≡ access → IsDoing IsReading s old doing → IsNext IsReading s new went doing_now
+
+-- it goes on with this, or has ended
+abbrev pub GoesTo : (ℕ → Type 0) → Start → Here → Option Ending → Doing → Type 0
+GoesTo IsReading s h None doing = IsDoing IsReading s h doing
+GoesTo IsReading s h (Some ending) doing = Ends IsReading s h ending
 
 -- ---- the calls of what waits, and of lines, are in order
 
@@ -196,33 +201,66 @@ IsDoingInOrder (WillSay script form answer) = Each IsLineInOrder script.left.ite
 IsDoingInOrder (Tells told) = Unit {0}
 IsDoingInOrder (Writes out) = Unit {0}
 
--- that of what comes next
-abbrev pub IsNextInOrder : Next → Type 0
-IsNextInOrder (On doing) = IsDoingInOrder doing
-IsNextInOrder NothingYet = Unit {0}
-IsNextInOrder (Blocked doing) = IsDoingInOrder doing
-IsNextInOrder (Over ending) = Unit {0}
-
 -- that of what came of a request's calls
 abbrev pub IsBegunInOrder : Begun → Type 0
 IsBegunInOrder (Done told) = Unit {0}
 IsBegunInOrder (Waits p) = IsActInOrder (waiter_call p.waiter).act
 IsBegunInOrder (WillCall script) = Each IsLineInOrder script.left.items
 
+-- whether it is a receive that waits
+abbrev pub asks : Doing → Bool
+asks Reads = false
+asks (Asks p) = true
+asks (Calls script) = false
+asks (WillSay script form answer) = false
+asks (Tells told) = false
+asks (Writes out) = false
+
 -- ---- how it goes on
 
 -- a refusal is written, if there was memory for it
-abbrev pub refusing : Result (Vec ℕ Global) AllocError → Ending → Next
-refusing (Ok v) ending = On (Writes (record { bytes = v; at = 0; after = Some ending }))
-refusing (Err e) ending = Over OutOfMemory
+abbrev pub refused_by : Result (Vec ℕ Global) AllocError → Went
+refused_by (Ok v) = On
+refused_by (Err e) = Over OutOfMemory
+
+-- what it does then
+abbrev pub refusing : Result (Vec ℕ Global) AllocError → Ending → Doing → Doing
+refusing (Ok v) ending old = Writes (record { bytes = v; at = 0; after = Some ending })
+refusing (Err e) ending old = old
+
+-- a response is written, if there was memory for it
+abbrev pub told_by : Option Outgoing → Went
+told_by None = Blocked
+told_by (Some out) = On
+
+-- what it does then
+abbrev pub telling : Option Outgoing → Telling → Doing
+telling None told = Tells told
+telling (Some out) told = Writes out
+
+-- the reply to a line stands, if there was memory for it
+abbrev pub said_by : Bool → Went
+said_by false = Blocked
+said_by true = On
+
+-- what it does then
+abbrev pub saying : Bool → Script → Form → Result Answered Refusal → Doing
+saying false script form answer = WillSay script form answer
+saying true script form answer = Calls script
 
 -- behind a response
-abbrev pub behind : Option Ending → Next
-behind None = On Reads
+abbrev pub behind : Option Ending → Went
+behind None = On
 behind (Some ending) = Over ending
 
 -- behind a request's calls
-abbrev pub next_of : Begun → Next
-next_of (Done told) = On (Tells told)
-next_of (Waits p) = Blocked (Asks p)
-next_of (WillCall script) = On (Calls script)
+abbrev pub went_by : Begun → Went
+went_by (Done told) = On
+went_by (Waits p) = Blocked
+went_by (WillCall script) = On
+
+-- what it does then
+abbrev pub doing_by : Begun → Doing
+doing_by (Done told) = Tells told
+doing_by (Waits p) = Asks p
+doing_by (WillCall script) = Calls script

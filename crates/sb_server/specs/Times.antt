@@ -3,8 +3,8 @@
 use Rattle.std.specs.Prelude.{◌≡◌, ◌⊎◌, ℕ, ◌+◌, ◌-◌, ◌/◌, ◌^◌, ◌<◌, min, Option, Some, None}
 use Rattle.sb_server.specs.declared.doing.Doing.{Doing}
 use Rattle.sb_server.specs.declared.doing.Doing.TheVariants.{Reads, Asks, Calls, Says, Tells, Writes}
-use Rattle.sb_server.specs.declared.doing.Next.{Next}
-use Rattle.sb_server.specs.declared.doing.Next.TheVariants.{NothingYet, Over}
+use Rattle.sb_server.specs.declared.doing.Went.{Went}
+use Rattle.sb_server.specs.declared.doing.Went.TheVariants.{NothingYet, Over}
 use Rattle.sb_server.specs.declared.ending.Ending.TheVariants.{Slow}
 use Rattle.sb_server.specs.declared.limits.Since.{Since}
 use Rattle.sb_server.specs.declared.limits.Since.TheVariants.{Never, Idle, Asking, Taking}
@@ -63,6 +63,6 @@ taken_of (Calls script) = None
 taken_of (Says script form answer) = None
 taken_of (Tells told) = None
 
--- what comes next where nothing could be read yet: nothing, or the end where the limit has passed since a reading
-abbrev pub IsLooked : ℕ → ℕ → ℕ → Next → Type 0
-IsLooked limit from now next = (next ≡ NothingYet) ⊎ ((next ≡ Over Slow) × (from + limit < now))
+-- how it goes on where nothing could be read yet: not yet, or not at all where the limit has passed since a reading
+abbrev pub IsLooked : ℕ → ℕ → ℕ → Went → Type 0
+IsLooked limit from now went = (went ≡ NothingYet) ⊎ ((went ≡ Over Slow) × (from + limit < now))

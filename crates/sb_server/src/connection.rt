@@ -4,7 +4,7 @@ ghost use Rattle.sb_desk.specs.Desks.{IsOf};
 ghost use Rattle.sb_server.specs.Reads.{Stand};
 ghost use Rattle.sb_server.specs.Talks as talks;
 
-use crate::doing::{Doing, Next};
+use crate::doing::{Doing, Went};
 use crate::ending::Ending;
 use crate::inbox::Inbox;
 use crate::limits::{Limits, Since, look};
@@ -43,23 +43,19 @@ pub fn serve_connection<V: Served, R: Wait, C: Clock, N: Conn>(
     let mut doing = Doing::Reads;
     let mut since = Since::Never;
     for _ in rt.forever() {
-        let (went, next) = step(
-            rt, alloc, routes, access, desk, current, clock, conn, &mut inbox, doing,
+        let (next, went) = step(
+            rt, alloc, routes, access, desk, current, clock, conn, &mut inbox, &mut doing,
         );
-        current = went;
-        let (next, from, _) = look(clock, limits, &inbox, since, next);
+        current = next;
+        let (went, from, _) = look(clock, limits, &inbox, since, went, &doing);
         since = from;
-        match next {
-            Next::On(on) => doing = on,
-            Next::NothingYet => {
-                clock.pause();
-                doing = Doing::Reads;
+        match went {
+            Went::On => {}
+            Went::NothingYet | Went::Blocked => clock.pause(),
+            Went::Over(ending) => {
+                drop(doing);
+                return (current, ending);
             }
-            Next::Blocked(on) => {
-                clock.pause();
-                doing = on;
-            }
-            Next::Over(ending) => return (current, ending),
         }
     }
     unreachable!()

@@ -8,6 +8,7 @@ use crate::script::Script;
 use crate::telling::Telling;
 use sb_lines::Form;
 use sb_machine::Answer;
+use std::mem;
 
 /// A response that is being written: how many of its bytes were written, and how the connection ends
 /// behind it, if it does.
@@ -33,13 +34,13 @@ pub(crate) enum Doing {
     Writes(Outgoing),
 }
 
-/// What comes next: this at once, the rest of a request, of which nothing can be read yet, this once it
-/// may go on, or the end.
-#[derive(Drop)]
-pub(crate) enum Next {
-    On(Doing),
+/// How it goes on: at once, once more of a request has come, of which nothing can be read yet, once it may, or
+/// not at all.
+#[derive(Clone, Copy)]
+pub(crate) enum Went {
+    On,
     NothingYet,
-    Blocked(Doing),
+    Blocked,
     Over(Ending),
 }
 
@@ -52,23 +53,40 @@ pub(crate) enum Begun {
     Calls(Script),
 }
 
-/// What comes next behind a request's calls.
-pub(crate) fn next_of(begun: Begun) -> Next
-    ensures { result ≡ doings.next_of begun }
+/// Does this from now on.
+pub(crate) fn turn(doing: &mut Doing, new: Doing)
+    ensures { doing.new ≡ new }
+{
+    drop(mem::replace(doing, new));
+}
+
+/// Goes on behind a request's calls.
+pub(crate) fn begin(doing: &mut Doing, begun: Begun) -> Went
+    ensures went { result ≡ doings.went_by begun }
+    ensures doing { doing.new ≡ doings.doing_by begun }
 {
     match begun {
-        Begun::Done(telling) => Next::On(Doing::Tells(telling)),
-        Begun::Waits(patience) => Next::Blocked(Doing::Asks(patience)),
-        Begun::Calls(script) => Next::On(Doing::Calls(script)),
+        Begun::Done(telling) => {
+            turn(doing, Doing::Tells(telling));
+            Went::On
+        }
+        Begun::Waits(patience) => {
+            turn(doing, Doing::Asks(patience));
+            Went::Blocked
+        }
+        Begun::Calls(script) => {
+            turn(doing, Doing::Calls(script));
+            Went::On
+        }
     }
 }
 
-/// What comes next once all of a response is written.
-pub(crate) fn behind(after: Option<Ending>) -> Next
+/// How it goes on once all of a response is written.
+pub(crate) fn behind(after: Option<Ending>) -> Went
     ensures { result ≡ doings.behind after }
 {
     match after {
-        Some(ending) => Next::Over(ending),
-        None => Next::On(Doing::Reads),
+        Some(ending) => Went::Over(ending),
+        None => Went::On,
     }
 }

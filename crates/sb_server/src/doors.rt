@@ -5,20 +5,19 @@ ghost use Rattle.sb_desk.specs.Lists.{Each};
 ghost use Rattle.sb_server.specs.declared.doors.Round.TheVariants.{AllOver};
 ghost use Rattle.sb_server.specs.Works.{ServesBy};
 ghost use Rattle.sb_server.specs.Serves.{HasPass, Did, IsAtWork, HasCome, Working, Serving, are_over};
-ghost use Rattle.sb_server.specs.Stages.{is_over, stop_at};
+ghost use Rattle.sb_server.specs.Stages.{is_over};
 
 use crate::arrivals::tell;
 use crate::ending::ServeEnding;
 use crate::job::{Job, ending_of, pair_up, put_back};
 use crate::limits::Limits;
-use crate::stage::{Stage, let_go};
-use crate::work::{Stop, go_on};
+use crate::stage::{is_over, stop_at};
+use crate::work::go_on;
 use sb_desk::{Desk, Pass, Served};
 use sb_outside::{Clock, Door, Lobby};
 use sb_rest::Access;
 use sb_routes::Routes;
 use std::alloc::Global;
-use std::mem;
 use std::sync::Wait;
 use std::thread::{Threads, for_each_chunk_mut};
 
@@ -492,9 +491,7 @@ fn go_once<V: Served, R: Wait, C: Clock, D: Door>(
     let Some(pass) = job.pass.take() else {
         unreachable!()
     };
-    let stop = job.stop;
-    let stage = mem::replace(&mut job.stage, Stage::Over(stop));
-    let (pass, stage, again) = go_on(
+    let (pass, again) = go_on(
         rt,
         alloc,
         routes,
@@ -504,28 +501,11 @@ fn go_once<V: Served, R: Wait, C: Clock, D: Door>(
         pass,
         clock,
         &mut job.door,
-        stage,
+        &mut job.stage,
     );
     job.pass = Some(pass);
-    job.stop = stop_at(&stage, stop);
-    let_go(mem::replace(&mut job.stage, stage));
+    job.stop = stop_at(&job.stage, job.stop);
     again
-}
-
-// Why a worker ended, where it is over.
-fn stop_at<N>(stage: &Stage<N>, other: Stop) -> Stop
-    ensures { result ≡ stop_at stage.now other }
-{
-    match stage {
-        Stage::Over(stop) => *stop,
-        Stage::Wants(_) | Stage::Serves(_, _) => other,
-    }
-}
-
-fn is_over<N>(stage: &Stage<N>) -> bool
-    ensures { result ≡ is_over stage.now }
-{
-    matches!(stage, Stage::Over(_))
 }
 
 fn are_over<D, N>(jobs: &[Job<D, N>]) -> bool

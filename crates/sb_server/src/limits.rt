@@ -1,13 +1,16 @@
 // Limits of time, for whoever keeps a connection and says too little.
 ghost use Rattle.std.specs.Prelude.{◌≡◌, ◌⊎◌, ◌+◌, ◌≤◌, ◌<◌};
 ghost use Rattle.std.specs.Bool.{OnTrue};
+ghost use Rattle.sb_server.specs.declared.doing.Doing.{Doing};
+ghost use Rattle.sb_server.specs.declared.doing.Doing.TheVariants.{Reads};
+ghost use Rattle.sb_server.specs.declared.doing.Went.TheVariants.{Blocked};
 ghost use Rattle.sb_server.specs.declared.limits.Since.TheVariants.{Never};
-ghost use Rattle.sb_server.specs.Doings.{IsNext, IsNextInOrder};
+ghost use Rattle.sb_server.specs.Doings.{IsNext};
 ghost use Rattle.sb_server.specs.Talks.{Start, Here, ReadsOut};
 ghost use Rattle.sb_server.specs.Times.{IsSince, IsLooked};
 ghost use Rattle.sb_server.specs.Times as times;
 
-use crate::doing::{Doing, Next};
+use crate::doing::{Doing, Went};
 use crate::ending::Ending;
 use crate::inbox::Inbox;
 use sb_outside::Clock;
@@ -43,20 +46,17 @@ pub(crate) fn look<C: Clock>(
     limits: Limits,
     inbox: &Inbox,
     since: Since,
-    next: Next,
-) -> (Next, Since, u64)
-    ensures next { (s : Start) (h : Here) → s.limits ≡ limits → h.stand.left ≡ inbox.now.incoming.left → IsSince (C.reads clock.now) since → IsNext (C.reads clock.now) s h next → IsNext (C.reads clock.now) s h result.0 }
+    went: Went,
+    doing: &Doing,
+) -> (Went, Since, u64)
+    ensures next { (s : Start) (h : Here) → s.limits ≡ limits → h.stand.left ≡ inbox.now.incoming.left → IsSince (C.reads clock.now) since → IsNext (C.reads clock.now) s h went doing.now → IsNext (C.reads clock.now) s h result.0 doing.now }
     ensures since { IsSince (C.reads clock.now) since → IsSince (C.reads clock.now) result.1 }
-    ensures order { IsNextInOrder next → IsNextInOrder result.0 }
 {
-    match next {
-        Next::On(doing) => {
-            let since = since_on(since, &doing);
-            (Next::On(doing), since, 0)
-        }
-        Next::NothingYet => look_at_request(clock, limits, inbox, since),
-        Next::Blocked(doing) => look_at_response(clock, limits, since, doing),
-        Next::Over(ending) => (Next::Over(ending), Since::Never, u64::MAX),
+    match went {
+        Went::On => (Went::On, since_on(since, doing), 0),
+        Went::NothingYet => look_at_request(clock, limits, inbox, since),
+        Went::Blocked => look_at_response(clock, limits, since, doing),
+        Went::Over(ending) => (Went::Over(ending), Since::Never, u64::MAX),
     }
 }
 
@@ -66,10 +66,9 @@ fn look_at_request<C: Clock>(
     limits: Limits,
     inbox: &Inbox,
     since: Since,
-) -> (Next, Since, u64)
-    ensures next { (s : Start) (h : Here) → s.limits ≡ limits → h.stand.left ≡ inbox.now.incoming.left → IsSince (C.reads clock.now) since → ReadsOut (C.reads clock.now) s h → IsNext (C.reads clock.now) s h result.0 }
+) -> (Went, Since, u64)
+    ensures next { (s : Start) (h : Here) (d : Doing) → s.limits ≡ limits → h.stand.left ≡ inbox.now.incoming.left → IsSince (C.reads clock.now) since → ReadsOut (C.reads clock.now) s h → d ≡ Reads → IsNext (C.reads clock.now) s h result.0 d }
     ensures since { IsSince (C.reads clock.now) since → IsSince (C.reads clock.now) result.1 }
-    ensures order { IsNextInOrder result.0 }
 {
     let held = inbox.incoming.left();
     let now = clock.now();
@@ -96,37 +95,31 @@ fn look_at_response<C: Clock>(
     clock: &C,
     limits: Limits,
     since: Since,
-    doing: Doing,
-) -> (Next, Since, u64)
-    ensures next { (s : Start) (h : Here) → s.limits ≡ limits → IsSince (C.reads clock.now) since → IsNext (C.reads clock.now) s h (Next.Blocked doing) → IsNext (C.reads clock.now) s h result.0 }
+    doing: &Doing,
+) -> (Went, Since, u64)
+    ensures next { (s : Start) (h : Here) → s.limits ≡ limits → IsSince (C.reads clock.now) since → IsNext (C.reads clock.now) s h Blocked doing.now → IsNext (C.reads clock.now) s h result.0 doing.now }
     ensures since { IsSince (C.reads clock.now) since → IsSince (C.reads clock.now) result.1 }
-    ensures order { IsNextInOrder (Next.Blocked doing) → IsNextInOrder result.0 }
 {
-    let Some(taken) = taken_of(&doing) else {
-        return (Next::Blocked(doing), Since::Never, u64::MAX);
+    let Some(taken) = taken_of(doing) else {
+        return (Went::Blocked, Since::Never, u64::MAX);
     };
     let now = clock.now();
     let from = taking_from(since, now);
     let limit = with_bytes(limits.request_ms, taken);
     if is_over(limit, from, now) {
-        drop(doing);
-        return (Next::Over(Ending::Slow), Since::Never, u64::MAX);
+        return (Went::Over(Ending::Slow), Since::Never, u64::MAX);
     }
-    (
-        Next::Blocked(doing),
-        Since::Taking(from),
-        end_of(from, limit),
-    )
+    (Went::Blocked, Since::Taking(from), end_of(from, limit))
 }
 
-// What comes next where nothing could be read.
-fn looked(limit: u64, from: u64, now: u64) -> Next
+// How it goes on where nothing could be read.
+fn looked(limit: u64, from: u64, now: u64) -> Went
     ensures { IsLooked limit from now result }
 {
     if is_over(limit, from, now) {
-        return Next::Over(Ending::Slow);
+        return Went::Over(Ending::Slow);
     }
-    Next::NothingYet
+    Went::NothingYet
 }
 
 // Whether more than the limit has passed.

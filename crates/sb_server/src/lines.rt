@@ -5,14 +5,15 @@ ghost use Rattle.sb_desk.specs.Lists.{Each};
 ghost use Rattle.sb_machine.specs.History.{stops};
 ghost use Rattle.sb_lines.specs.Replies.{answer_line};
 ghost use Rattle.sb_server.specs.declared.doing.Doing.TheVariants.{Calls, Says};
+ghost use Rattle.sb_server.specs.declared.doing.Went.TheVariants.{On};
 ghost use Rattle.sb_server.specs.Bodies.{IsLineInOrder};
 ghost use Rattle.sb_server.specs.declared.telling.Said.TheVariants.{Lines as OfLines};
 ghost use Rattle.sb_server.specs.Doings as doings;
-ghost use Rattle.sb_server.specs.Doings.{IsNextInOrder, Steps};
+ghost use Rattle.sb_server.specs.Doings.{IsDoingInOrder, Steps};
 ghost use Rattle.sb_server.specs.Reads.{Stand};
 
 use crate::body::LineAsk;
-use crate::doing::{Doing, Next};
+use crate::doing::{Doing, turn};
 use crate::script::Script;
 use crate::telling::{Said, Telling, stops, telling_of};
 use crate::waiting::call_once;
@@ -24,6 +25,7 @@ use sb_outside::Clock;
 use sb_rest::Access;
 use std::alloc::{AllocError, Global};
 use std::collections::VecDeque;
+use std::mem;
 use std::sync::Wait;
 
 /// None of these lines was called yet.
@@ -41,6 +43,19 @@ pub(crate) fn script_of(alloc: Global, lines: Rows<LineAsk>, closes: bool) -> Sc
     }
 }
 
+/// Takes what there is of a script, and leaves an empty one.
+pub(crate) fn take_script(alloc: Global, script: &mut Script) -> Script
+    ensures { result ≡ script.old }
+{
+    let none = Script {
+        left: VecDeque::new(alloc),
+        text: Vec::new(alloc),
+        stopped: false,
+        closes: false,
+    };
+    mem::replace(script, none)
+}
+
 /// Calls the next line at this pass, at a reading of the clock of its own, or tells the replies where all
 /// were called. A line that is no call is answered as it says.
 pub(crate) fn call_on<V: Served, R: Wait, C: Clock>(
@@ -50,13 +65,14 @@ pub(crate) fn call_on<V: Served, R: Wait, C: Clock>(
     pass: Pass,
     clock: &C,
     script: Script,
-) -> (Pass, Next)
+    doing: &mut Doing,
+) -> Pass
     requires desk { IsOf desk.now pass }
     requires order { Each IsLineInOrder script.left.items }
     ensures steps { (stand : Stand) (written : Option (List ℕ)) (reads writes : ℕ) → Steps (C.reads clock.now) access.now (record { pass = pass; stand = stand; written = written; reads = reads; writes = writes }) (Calls script)
-        (record { pass = result.0; stand = stand; written = written; reads = reads; writes = writes }) result.1 }
-    ensures desk { IsOf desk.now result.0 }
-    ensures order { IsNextInOrder result.1 }
+        (record { pass = result; stand = stand; written = written; reads = reads; writes = writes }) On doing.new }
+    ensures desk { IsOf desk.now result }
+    ensures order { IsDoingInOrder doing.new }
 {
     let _ = access;
     let mut script = script;
@@ -65,38 +81,41 @@ pub(crate) fn call_on<V: Served, R: Wait, C: Clock>(
             let (pass, answer) = call_once(rt, desk, pass, clock.now(), &line.timed.call);
             let form = line.form;
             drop(line);
-            (pass, Next::On(Doing::Says(script, form, answer)))
+            turn(doing, Doing::Says(script, form, answer));
+            pass
         }
         Some(LineAsk::NoCall { answer }) => {
-            (pass, Next::On(Doing::Says(script, Form::Plain, answer)))
+            turn(doing, Doing::Says(script, Form::Plain, answer));
+            pass
         }
-        None => (pass, Next::On(Doing::Tells(telling_of_all(script)))),
+        None => {
+            turn(doing, Doing::Tells(telling_of_all(script)));
+            pass
+        }
     }
 }
 
-/// Adds the reply to the line that was called last, or tries again later where there is no memory for it.
+/// Adds the reply to the line that was called last, if there is memory for it.
 pub(crate) fn say_on<C: Clock>(
     alloc: Global,
     access: &Access,
     clock: &C,
-    script: Script,
+    script: &mut Script,
     form: Form,
-    answer: Answer,
-) -> Next
-    requires order { Each IsLineInOrder script.left.items }
-    ensures steps { (pass : Sitting) (stand : Stand) (written : Option (List ℕ)) (reads writes : ℕ) → Steps (C.reads clock.now) access.now (record { pass = pass; stand = stand; written = written; reads = reads; writes = writes }) (Says script form answer)
-        (record { pass = pass; stand = stand; written = written; reads = reads; writes = writes }) result }
-    ensures order { IsNextInOrder result }
+    answer: &Answer,
+) -> bool
+    requires order { Each IsLineInOrder script.old.left.items }
+    ensures steps { (pass : Sitting) (stand : Stand) (written : Option (List ℕ)) (reads writes : ℕ) → Steps (C.reads clock.now) access.now (record { pass = pass; stand = stand; written = written; reads = reads; writes = writes }) (Says script.old form answer.now)
+        (record { pass = pass; stand = stand; written = written; reads = reads; writes = writes }) (doings.said_by result) (doings.saying result script.new form answer.now) }
+    ensures order { Each IsLineInOrder script.new.left.items }
 {
     let _ = access;
     let _ = clock;
-    let mut script = script;
-    let Ok(()) = push_reply(alloc, &mut script.text, form, &answer) else {
-        return Next::Blocked(Doing::Says(script, form, answer));
+    let Ok(()) = push_reply(alloc, &mut script.text, form, answer) else {
+        return false;
     };
-    script.stopped = stops_by_now(script.stopped, &answer);
-    drop(answer);
-    Next::On(Doing::Calls(script))
+    script.stopped = stops_by_now(script.stopped, answer);
+    true
 }
 
 // Whether the namespace acts no more, as was told or is told now.

@@ -1,5 +1,5 @@
 // Where a worker stands.
-ghost use Rattle.std.specs.Prelude.{◌≡◌, true};
+ghost use Rattle.std.specs.Prelude.{◌≡◌, true, false};
 ghost use Rattle.sb_server.specs.Stages as stages;
 ghost use Rattle.sb_server.specs.Works.{stop_of};
 
@@ -8,6 +8,7 @@ use crate::ending::Ending;
 use crate::inbox::Inbox;
 use crate::limits::Since;
 use crate::work::Stop;
+use std::mem;
 
 /// A connection that is being served: what came of it and isn't answered yet, what it does now, and since
 /// when it waits for the other side.
@@ -66,4 +67,32 @@ pub(crate) fn let_go<N>(stage: Stage<N>)
     let Stage::Over(_) = stage else {
         unreachable!()
     };
+}
+
+/// Has a worker that has no connection stand there.
+pub(crate) fn stand_at<N>(stage: &mut Stage<N>, new: Stage<N>)
+    requires { stages.has_conn stage.old ≡ false }
+    ensures { stage.new ≡ new }
+{
+    let old = mem::replace(stage, new);
+    let (Stage::Wants(_) | Stage::Over(_)) = old else {
+        unreachable!()
+    };
+}
+
+/// Why a worker ended, where it is over.
+pub(crate) fn stop_at<N>(stage: &Stage<N>, other: Stop) -> Stop
+    ensures { result ≡ stages.stop_at stage.now other }
+{
+    match stage {
+        Stage::Over(stop) => *stop,
+        Stage::Wants(_) | Stage::Serves(_, _) => other,
+    }
+}
+
+/// Whether it is over.
+pub(crate) fn is_over<N>(stage: &Stage<N>) -> bool
+    ensures { result ≡ stages.is_over stage.now }
+{
+    matches!(stage, Stage::Over(_))
 }

@@ -1,22 +1,18 @@
 // One step of a connection.
-ghost use Rattle.std.specs.Prelude.{◌≡◌, ◌≤◌, ℕ, IfOk};
-ghost use Rattle.std.specs.Bool.{OnFalse};
+ghost use Rattle.std.specs.Prelude.{◌≡◌, ◌<◌, ℕ, IfOk, length, true};
 ghost use Rattle.sb_desk.specs.Desks.{Sitting, IsOf};
-ghost use Rattle.sb_machine.specs.Ordered.{IsActInOrder};
-ghost use Rattle.sb_server.specs.declared.doing.Doing.TheVariants.{Reads, Asks, Tells, Writes};
+ghost use Rattle.sb_server.specs.declared.doing.Doing.TheVariants.{Reads, Tells, Writes};
 ghost use Rattle.sb_server.specs.Doings as doings;
-ghost use Rattle.sb_server.specs.Doings.{IsDoingInOrder, IsNextInOrder, Steps};
+ghost use Rattle.sb_server.specs.Doings.{IsDoingInOrder, Steps};
 ghost use Rattle.sb_server.specs.Reads.{Stand, stand_of};
-ghost use Rattle.sb_server.specs.Responds.{waiter_call};
 ghost use Rattle.sb_server.specs.Talks as talks;
 
 use crate::answer::{answer, ask_again};
 use crate::came::Came;
-use crate::doing::{Doing, Next, Outgoing, behind, next_of};
+use crate::doing::{Doing, Outgoing, Went, begin, behind, turn};
 use crate::ending::Ending;
 use crate::inbox::Inbox;
-use crate::lines::{call_on, say_on};
-use crate::patience::Patience;
+use crate::lines::{call_on, say_on, take_script};
 use crate::telling::{Telling, farewell, response_to};
 use sb_desk::{Desk, Pass, Served};
 use sb_http::{HttpFault, Response, Status, write_response};
@@ -24,6 +20,7 @@ use sb_outside::{Clock, Conn};
 use sb_rest::Access;
 use sb_routes::Routes;
 use std::alloc::{AllocError, Global};
+use std::mem;
 use std::sync::Wait;
 
 /// Goes on with what a connection does, as far as the next place where it may have to wait.
@@ -37,30 +34,49 @@ pub(crate) fn step<V: Served, R: Wait, C: Clock, N: Conn>(
     clock: &C,
     conn: &mut N,
     inbox: &mut Inbox,
-    doing: Doing,
-) -> (Pass, Next)
+    doing: &mut Doing,
+) -> (Pass, Went)
     requires desk { IsOf desk.now pass }
-    requires order { IsDoingInOrder doing }
-    ensures steps { Steps (C.reads clock.now) access.now (record { pass = pass; stand = stand_of inbox.old (N.left conn.old); written = N.given conn.old; reads = N.reads conn.old; writes = N.writes conn.old }) doing
-        (record { pass = result.0; stand = stand_of inbox.new (N.left conn.new); written = N.given conn.new; reads = N.reads conn.new; writes = N.writes conn.new }) result.1 }
+    requires order { IsDoingInOrder doing.old }
+    ensures steps { Steps (C.reads clock.now) access.now (record { pass = pass; stand = stand_of inbox.old (N.left conn.old); written = N.given conn.old; reads = N.reads conn.old; writes = N.writes conn.old }) doing.old
+        (record { pass = result.0; stand = stand_of inbox.new (N.left conn.new); written = N.given conn.new; reads = N.reads conn.new; writes = N.writes conn.new }) result.1 doing.new }
     ensures desk { IsOf desk.now result.0 }
-    ensures order { IsNextInOrder result.1 }
+    ensures order { IsDoingInOrder doing.new }
 {
     match doing {
-        Doing::Reads => read_on(rt, alloc, routes, access, desk, pass, clock, conn, inbox),
-        Doing::Asks(patience) => wait_on(rt, access, desk, pass, clock, conn, inbox, patience),
-        Doing::Calls(script) => call_on(rt, access, desk, pass, clock, script),
+        Doing::Reads => read_on(
+            rt, alloc, routes, access, desk, pass, clock, conn, inbox, doing,
+        ),
+        Doing::Asks(_) => wait_on(rt, access, desk, pass, clock, conn, inbox, doing),
+        Doing::Calls(script) => {
+            let script = take_script(alloc, script);
+            (
+                call_on(rt, access, desk, pass, clock, script, doing),
+                Went::On,
+            )
+        }
         Doing::Says(script, form, answer) => {
-            let next = say_on(alloc, access, clock, script, form, answer);
-            (pass, next)
+            if !say_on(alloc, access, clock, script, *form, answer) {
+                return (pass, Went::Blocked);
+            }
+            let script = take_script(alloc, script);
+            turn(doing, Doing::Calls(script));
+            (pass, Went::On)
         }
-        Doing::Tells(telling) => {
-            let next = tell_on(alloc, access, clock, conn, telling);
-            (pass, next)
-        }
+        Doing::Tells(telling) => match tell_on(alloc, access, clock, conn, telling) {
+            Some(outgoing) => {
+                turn(doing, Doing::Writes(outgoing));
+                (pass, Went::On)
+            }
+            None => (pass, Went::Blocked),
+        },
         Doing::Writes(outgoing) => {
-            let next = write_on(access, clock, conn, outgoing);
-            (pass, next)
+            if outgoing.at < outgoing.bytes.len() {
+                return (pass, write_on(access, clock, conn, outgoing));
+            }
+            let after = outgoing.after;
+            turn(doing, Doing::Reads);
+            (pass, behind(after))
         }
     }
 }
@@ -76,24 +92,26 @@ fn read_on<V: Served, R: Wait, C: Clock, N: Conn>(
     clock: &C,
     conn: &mut N,
     inbox: &mut Inbox,
-) -> (Pass, Next)
-    requires { IsOf desk.now pass }
+    doing: &mut Doing,
+) -> (Pass, Went)
+    requires desk { IsOf desk.now pass }
+    requires reads { doing.old ≡ Reads }
     ensures steps { Steps (C.reads clock.now) access.now (record { pass = pass; stand = stand_of inbox.old (N.left conn.old); written = N.given conn.old; reads = N.reads conn.old; writes = N.writes conn.old }) Reads
-        (record { pass = result.0; stand = stand_of inbox.new (N.left conn.new); written = N.given conn.new; reads = N.reads conn.new; writes = N.writes conn.new }) result.1 }
+        (record { pass = result.0; stand = stand_of inbox.new (N.left conn.new); written = N.given conn.new; reads = N.reads conn.new; writes = N.writes conn.new }) result.1 doing.new }
     ensures desk { IsOf desk.now result.0 }
-    ensures order { IsNextInOrder result.1 }
+    ensures order { IsDoingInOrder doing.new }
 {
     match inbox.next(rt, alloc, routes, access, conn) {
         Came::Asked(ask, closes) => {
             let (pass, begun) = answer(rt, alloc, desk, pass, clock, ask, closes);
-            (pass, next_of(begun))
+            (pass, begin(doing, begun))
         }
-        Came::NothingYet => (pass, Next::NothingYet),
+        Came::NothingYet => (pass, Went::NothingYet),
         Came::Refused(fault) => {
             let bytes = refusal_bytes(alloc, fault);
-            (pass, refusing(bytes, refusal_ending(fault)))
+            (pass, refusing(doing, bytes, refusal_ending(fault)))
         }
-        Came::Over(ending) => (pass, Next::Over(ending)),
+        Came::Over(ending) => (pass, Went::Over(ending)),
     }
 }
 
@@ -106,91 +124,94 @@ fn wait_on<V: Served, R: Wait, C: Clock, N: Conn>(
     clock: &C,
     conn: &mut N,
     inbox: &mut Inbox,
-    patience: Patience,
-) -> (Pass, Next)
+    doing: &mut Doing,
+) -> (Pass, Went)
     requires desk { IsOf desk.now pass }
-    requires order { IsActInOrder (waiter_call patience.waiter).act }
-    ensures steps { Steps (C.reads clock.now) access.now (record { pass = pass; stand = stand_of inbox.old (N.left conn.old); written = N.given conn.old; reads = N.reads conn.old; writes = N.writes conn.old }) (Asks patience)
-        (record { pass = result.0; stand = stand_of inbox.new (N.left conn.new); written = N.given conn.new; reads = N.reads conn.new; writes = N.writes conn.new }) result.1 }
+    requires order { IsDoingInOrder doing.old }
+    requires asks { doings.asks doing.old ≡ true }
+    ensures steps { Steps (C.reads clock.now) access.now (record { pass = pass; stand = stand_of inbox.old (N.left conn.old); written = N.given conn.old; reads = N.reads conn.old; writes = N.writes conn.old }) doing.old
+        (record { pass = result.0; stand = stand_of inbox.new (N.left conn.new); written = N.given conn.new; reads = N.reads conn.new; writes = N.writes conn.new }) result.1 doing.new }
     ensures desk { IsOf desk.now result.0 }
-    ensures order { IsNextInOrder result.1 }
+    ensures order { IsDoingInOrder doing.new }
 {
     let _ = access;
+    let Doing::Asks(patience) = mem::replace(doing, Doing::Reads) else {
+        unreachable!()
+    };
     if inbox.watch(conn) {
-        return (pass, Next::On(Doing::Tells(farewell(patience))));
+        turn(doing, Doing::Tells(farewell(patience)));
+        return (pass, Went::On);
     }
     let (pass, begun) = ask_again(rt, desk, pass, clock, patience);
-    (pass, next_of(begun))
+    (pass, begin(doing, begun))
 }
 
-// Begins to write a response, or tries again later where there is no memory for it.
+// Begins to write a response, if there is memory for it.
 fn tell_on<C: Clock, N: Conn>(
     alloc: Global,
     access: &Access,
     clock: &C,
     conn: &mut N,
-    telling: Telling,
-) -> Next
-    ensures order { IsNextInOrder result }
-    ensures steps { (pass : Sitting) (stand : Stand) (reads : ℕ) → Steps (C.reads clock.now) access.now (record { pass = pass; stand = stand; written = N.given conn.old; reads = reads; writes = N.writes conn.old }) (Tells telling)
-        (record { pass = pass; stand = stand; written = N.given conn.new; reads = reads; writes = N.writes conn.new }) result }
+    telling: &Telling,
+) -> Option<Outgoing>
+    ensures steps { (pass : Sitting) (stand : Stand) (reads : ℕ) → Steps (C.reads clock.now) access.now (record { pass = pass; stand = stand; written = N.given conn.old; reads = reads; writes = N.writes conn.old }) (Tells telling.now)
+        (record { pass = pass; stand = stand; written = N.given conn.new; reads = reads; writes = N.writes conn.new }) (doings.told_by result) (doings.telling result telling.now) }
     ensures left { N.left conn.new ≡ N.left conn.old }
     ensures reads { N.reads conn.new ≡ N.reads conn.old }
 {
     let _ = access;
     let _ = clock;
-    let Ok(bytes) = response_to(alloc, &telling) else {
-        return Next::Blocked(Doing::Tells(telling));
+    let Ok(bytes) = response_to(alloc, telling) else {
+        return None;
     };
     conn.answered(&bytes);
-    let after = telling.after;
-    drop(telling);
-    Next::On(Doing::Writes(Outgoing {
+    Some(Outgoing {
         bytes,
         at: 0,
-        after,
-    }))
+        after: telling.after,
+    })
 }
 
 // Writes some more of a response.
-fn write_on<C: Clock, N: Conn>(access: &Access, clock: &C, conn: &mut N, outgoing: Outgoing) -> Next
-    ensures order { IsNextInOrder result }
-    ensures steps { (pass : Sitting) (stand : Stand) (reads : ℕ) → Steps (C.reads clock.now) access.now (record { pass = pass; stand = stand; written = N.given conn.old; reads = reads; writes = N.writes conn.old }) (Writes outgoing)
-        (record { pass = pass; stand = stand; written = N.given conn.new; reads = reads; writes = N.writes conn.new }) result }
+fn write_on<C: Clock, N: Conn>(
+    access: &Access,
+    clock: &C,
+    conn: &mut N,
+    outgoing: &mut Outgoing,
+) -> Went
+    requires { outgoing.old.at < length outgoing.old.bytes.items }
+    ensures steps { (pass : Sitting) (stand : Stand) (reads : ℕ) → Steps (C.reads clock.now) access.now (record { pass = pass; stand = stand; written = N.given conn.old; reads = reads; writes = N.writes conn.old }) (Writes outgoing.old)
+        (record { pass = pass; stand = stand; written = N.given conn.new; reads = reads; writes = N.writes conn.new }) result (Writes outgoing.new) }
     ensures left { N.left conn.new ≡ N.left conn.old }
     ensures reads { N.reads conn.new ≡ N.reads conn.old }
 {
     let _ = access;
     let _ = clock;
-    let Outgoing { bytes, at, after } = outgoing;
-    if at >= bytes.len() {
-        return behind(after);
-    }
-    let Ok(wrote) = conn.write(&bytes[at..]) else {
-        return Next::Over(Ending::WriteFault);
+    let Ok(wrote) = conn.write(&outgoing.bytes[outgoing.at..]) else {
+        return Went::Over(Ending::WriteFault);
     };
     let Some(count) = wrote else {
-        return Next::Blocked(Doing::Writes(Outgoing { bytes, at, after }));
+        return Went::Blocked;
     };
-    Next::On(Doing::Writes(Outgoing {
-        bytes,
-        at: at + count,
-        after,
-    }))
+    outgoing.at += count;
+    Went::On
 }
 
 // A refusal is written, if there is memory for it: no request was taken.
-fn refusing(bytes: Result<Vec<u8>, AllocError>, ending: Ending) -> Next
-    ensures { result ≡ doings.refusing bytes ending }
+fn refusing(doing: &mut Doing, bytes: Result<Vec<u8>, AllocError>, ending: Ending) -> Went
+    ensures went { result ≡ doings.refused_by bytes }
+    ensures doing { doing.new ≡ doings.refusing bytes ending doing.old }
 {
-    match bytes {
-        Ok(bytes) => Next::On(Doing::Writes(Outgoing {
-            bytes,
-            at: 0,
-            after: Some(ending),
-        })),
-        Err(_) => Next::Over(Ending::OutOfMemory),
-    }
+    let Ok(bytes) = bytes else {
+        return Went::Over(Ending::OutOfMemory);
+    };
+    let outgoing = Outgoing {
+        bytes,
+        at: 0,
+        after: Some(ending),
+    };
+    turn(doing, Doing::Writes(outgoing));
+    Went::On
 }
 
 fn refusal_status(fault: HttpFault) -> Status

@@ -1,21 +1,27 @@
 // A worker: the connections of one door, one after the other.
-ghost use Rattle.std.specs.Prelude.{◌≡◌, ◌≤◌, ℕ, List};
+ghost use Rattle.std.specs.Prelude.{◌≡◌, ◌-◌, ◌≤◌, ◌∷◌, [], ℕ, List};
 ghost use Rattle.sb_desk.specs.Desks.{Sitting, IsOf};
+ghost use Rattle.sb_outside.specs.Streams.{Gains, Stays};
+ghost use Rattle.sb_server.specs.declared.stage.Guest.{Guest};
 ghost use Rattle.sb_server.specs.declared.stage.Stage.TheVariants.{Wants, Serves};
-ghost use Rattle.sb_server.specs.Doings.{IsDoingInOrder};
-ghost use Rattle.sb_server.specs.Stages.{IsAt, IsSound};
-ghost use Rattle.sb_server.specs.Works.{Visit, Works, ServesBy, StopsBy};
+ghost use Rattle.sb_server.specs.Doings.{GoesTo, IsDoing, IsDoingInOrder};
+ghost use Rattle.sb_server.specs.Stages.{IsAt, IsSound, here_of, stage_behind};
+ghost use Rattle.sb_server.specs.Talks.{Start};
+ghost use Rattle.sb_server.specs.Times.{IsSince};
+ghost use Rattle.sb_server.specs.Works.{Visit, Works, ServesBy, StopsBy, stop_of};
 
-use crate::doing::{Doing, Next};
+use crate::doing::{Doing, Went};
+use crate::ending::Ending;
 use crate::inbox::Inbox;
 use crate::limits::{Limits, Since, look};
-use crate::stage::{Guest, Stage, stage_behind};
+use crate::stage::{Guest, Stage, is_over, let_go, stage_behind, stand_at, stop_at};
 use crate::step::step;
 use sb_desk::{Desk, Pass, Served};
-use sb_outside::{Clock, Door, Given};
+use sb_outside::{Clock, Conn, Door, Given};
 use sb_rest::Access;
 use sb_routes::Routes;
 use std::alloc::Global;
+use std::mem;
 use std::sync::Wait;
 
 // A receive that waits is asked again behind so many ms, if nothing wakes it before.
@@ -64,15 +70,16 @@ pub fn serve_door<V: Served, R: Wait, C: Clock, D: Door>(
     let mut current = pass;
     let mut stage = Stage::Wants(most);
     for _ in rt.forever() {
-        let (next, went, again) = go_on(
-            rt, alloc, routes, access, limits, desk, current, clock, door, stage,
+        let (next, again) = go_on(
+            rt, alloc, routes, access, limits, desk, current, clock, door, &mut stage,
         );
         current = next;
-        if let Stage::Over(stop) = went {
+        if is_over(&stage) {
+            let stop = stop_at(&stage, Stop::Enough);
+            let_go(stage);
             return (current, stop);
         }
         pause_if(clock, again > 0);
-        stage = went;
     }
     unreachable!()
 }
@@ -95,27 +102,34 @@ pub(crate) fn go_on<V: Served, R: Wait, C: Clock, D: Door>(
     pass: Pass,
     clock: &C,
     door: &mut D,
-    stage: Stage<D::Conn>,
-) -> (Pass, Stage<D::Conn>, u64)
+    stage: &mut Stage<D::Conn>,
+) -> (Pass, u64)
     requires desk { IsOf desk.now pass }
-    requires sound { IsSound stage (D.out door.old) }
-    ensures goes { (most : ℕ) (p : Sitting) (d : D) → IsAt (C.reads clock.now) access.now limits D.Conn.left D.Conn.given D.Conn.reads D.Conn.writes D.left D.taken D.ended D.count D.out most p d pass door.old stage
-        → IsAt (C.reads clock.now) access.now limits D.Conn.left D.Conn.given D.Conn.reads D.Conn.writes D.left D.taken D.ended D.count D.out most p d result.0 door.new result.1 }
+    requires sound { IsSound stage.old (D.out door.old) }
+    ensures goes { (most : ℕ) (p : Sitting) (d : D) → IsAt (C.reads clock.now) access.now limits D.Conn.left D.Conn.given D.Conn.reads D.Conn.writes D.left D.taken D.ended D.count D.out most p d pass door.old stage.old
+        → IsAt (C.reads clock.now) access.now limits D.Conn.left D.Conn.given D.Conn.reads D.Conn.writes D.left D.taken D.ended D.count D.out most p d result.0 door.new stage.new }
     ensures desk { IsOf desk.now result.0 }
-    ensures sound { IsSound result.1 (D.out door.new) }
+    ensures sound { IsSound stage.new (D.out door.new) }
 {
     match stage {
         Stage::Wants(left) => {
-            let stage = want(alloc, access, limits, clock, door, left);
-            let again = again_at(&stage);
-            (pass, stage, again)
+            let next = want(alloc, access, limits, clock, door, *left);
+            let again = again_at(&next);
+            stand_at(stage, next);
+            (pass, again)
         }
         Stage::Serves(left, guest) => {
-            attend(
-                rt, alloc, routes, access, limits, desk, pass, clock, door, left, guest,
-            )
+            let left = *left;
+            let (pass, over, again) = attend(
+                rt, alloc, routes, access, limits, desk, pass, clock, guest,
+            );
+            if let Some(ending) = over {
+                give_back(door, stage, left, ending);
+                return (pass, 0);
+            }
+            (pass, again)
         }
-        Stage::Over(stop) => (pass, Stage::Over(stop), u64::MAX),
+        Stage::Over(_) => (pass, u64::MAX),
     }
 }
 
@@ -193,8 +207,8 @@ fn want<C: Clock, D: Door>(
     }
 }
 
-// Goes on with a connection, and gives it back once it is over.
-fn attend<V: Served, R: Wait, C: Clock, D: Door>(
+// Goes on with a connection. Whether it ended, and how, and at which reading the next step is to be made.
+fn attend<V: Served, R: Wait, C: Clock, N: Conn>(
     rt: &R,
     alloc: Global,
     routes: &Routes,
@@ -203,53 +217,62 @@ fn attend<V: Served, R: Wait, C: Clock, D: Door>(
     desk: &Desk<V>,
     pass: Pass,
     clock: &C,
-    door: &mut D,
-    left: u64,
-    guest: Guest<D::Conn>,
-) -> (Pass, Stage<D::Conn>, u64)
+    guest: &mut Guest<N>,
+) -> (Pass, Option<Ending>, u64)
     requires desk { IsOf desk.now pass }
-    requires out { 1 ≤ D.out door.old }
-    requires order { IsDoingInOrder guest.doing }
-    ensures goes { (most : ℕ) (p : Sitting) (d : D) → IsAt (C.reads clock.now) access.now limits D.Conn.left D.Conn.given D.Conn.reads D.Conn.writes D.left D.taken D.ended D.count D.out most p d pass door.old (Serves left guest)
-        → IsAt (C.reads clock.now) access.now limits D.Conn.left D.Conn.given D.Conn.reads D.Conn.writes D.left D.taken D.ended D.count D.out most p d result.0 door.new result.1 }
+    requires order { IsDoingInOrder guest.old.doing }
+    ensures goes { (s : Start) → s.access ≡ access.now → s.limits ≡ limits → IsSince (C.reads clock.now) guest.old.since → IsDoing (C.reads clock.now) s (here_of N.left N.given N.reads N.writes pass guest.old) guest.old.doing
+        → GoesTo (C.reads clock.now) s (here_of N.left N.given N.reads N.writes result.0 guest.new) result.1 guest.new.doing }
+    ensures since { IsSince (C.reads clock.now) guest.old.since → IsSince (C.reads clock.now) guest.new.since }
     ensures desk { IsOf desk.now result.0 }
-    ensures sound { IsSound result.1 (D.out door.new) }
+    ensures order { IsDoingInOrder guest.new.doing }
 {
+    let (pass, went) = step(
+        rt,
+        alloc,
+        routes,
+        access,
+        desk,
+        pass,
+        clock,
+        &mut guest.conn,
+        &mut guest.inbox,
+        &mut guest.doing,
+    );
+    let (went, since, until) = look(clock, limits, &guest.inbox, guest.since, went, &guest.doing);
+    guest.since = since;
+    match went {
+        Went::On => (pass, None, 0),
+        Went::NothingYet => (pass, None, until),
+        Went::Blocked => {
+            let again = asks_at(clock, desk, &guest.doing).min(until);
+            (pass, None, again)
+        }
+        Went::Over(ending) => (pass, Some(ending), 0),
+    }
+}
+
+// Gives a connection back that ended so; the worker may serve so many more.
+fn give_back<D: Door>(door: &mut D, stage: &mut Stage<D::Conn>, left: u64, ending: Ending)
+    requires serves { (guest : Guest D.Conn) × (stage.old ≡ Serves left guest) }
+    requires out { 1 ≤ D.out door.old }
+    ensures stage { stage.new ≡ stage_behind (stop_of ending) left }
+    ensures taken { (guest : Guest D.Conn) → stage.old ≡ Serves left guest → Gains (D.taken door.old) (D.taken door.new) (guest.conn ∷ []) }
+    ensures left { Stays (D.left door.old) (D.left door.new) }
+    ensures count { D.count door.new ≡ D.count door.old }
+    ensures out { D.out door.new ≡ D.out door.old - 1 }
+{
+    let old = mem::replace(stage, stage_behind(ending, left));
+    let Stage::Serves(_, guest) = old else {
+        unreachable!()
+    };
     let Guest {
         conn,
         inbox,
         doing,
-        since,
+        since: _,
     } = guest;
-    let mut conn = conn;
-    let mut inbox = inbox;
-    let (pass, next) = step(
-        rt, alloc, routes, access, desk, pass, clock, &mut conn, &mut inbox, doing,
-    );
-    let (next, since, until) = look(clock, limits, &inbox, since, next);
-    match next {
-        Next::On(doing) => (pass, serving(left, conn, inbox, doing, since), 0),
-        Next::NothingYet => (pass, serving(left, conn, inbox, Doing::Reads, since), until),
-        Next::Blocked(doing) => {
-            let again = asks_at(clock, desk, &doing).min(until);
-            (pass, serving(left, conn, inbox, doing, since), again)
-        }
-        Next::Over(ending) => {
-            door.done(conn);
-            (pass, stage_behind(ending, left), 0)
-        }
-    }
-}
-
-// It goes on to serve a connection.
-fn serving<N>(left: u64, conn: N, inbox: Inbox, doing: Doing, since: Since) -> Stage<N>
-    ensures { result ≡ Serves left (record { conn = conn; inbox = inbox; doing = doing; since = since }) }
-{
-    let guest = Guest {
-        conn,
-        inbox,
-        doing,
-        since,
-    };
-    Stage::Serves(left, guest)
+    drop(inbox);
+    drop(doing);
+    door.done(conn);
 }

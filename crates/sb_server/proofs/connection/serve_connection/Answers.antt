@@ -1,10 +1,20 @@
-use Rattle.std.proofs.Common.{subst, refl}
-use Rattle.sb_server.specs.declared.doing.Next.{Next}
-use Rattle.sb_server.specs.Doings.{IsNext, IsNextInOrder}
+use Rattle.std.proofs.Common.{◌≡◌, ◌⊎◌, ℕ, subst, sym, refl, inl, inr}
+use Rattle.sb_server.specs.declared.doing.Doing.{Doing}
+use Rattle.sb_server.specs.declared.doing.Doing.TheVariants.{Reads}
+use Rattle.sb_server.specs.declared.doing.Went.{Went}
+use Rattle.sb_server.specs.declared.doing.Went.TheVariants.{NothingYet, Blocked}
+use Rattle.sb_server.specs.Doings.{IsDoing, IsNext}
 use Rattle.sb_server.specs.Reads.{stand_of}
-use Rattle.sb_server.specs.Talks.{Start, Here}
+use Rattle.sb_server.specs.Talks.{Start, Here, ReadsOut}
 use Rattle.sb_server.proofs.Turning.{talks_from, no_inbox}
 use Rattle.sb_server.proofs.connection.serve_connection.Goals as goal
+
+-- Where nothing could be read, and where it is blocked, it goes on with what it did.
+behind_pause : (IsReading : ℕ → Type 0) (s : Start) (n : Here) (went : Went) (doing : Doing) → (went ≡ NothingYet) ⊎ (went ≡ Blocked) → IsNext IsReading s n went doing → IsDoing IsReading s n doing
+behind_pause IsReading s n went doing (inl is) next =
+    let here : ReadsOut IsReading s n × (doing ≡ Reads) = subst (λ (w : Went). IsNext IsReading s n w doing) is next in
+    subst (λ (d : Doing). IsDoing IsReading s n d) (sym here.1) here.0.0
+behind_pause IsReading s n went doing (inr is) next = subst (λ (w : Went). IsNext IsReading s n w doing) is next
 
 pub returns-in_default-clause-ends : goal.returns-in_default-clause-ends
 returns-in_default-clause-ends g c = (_, no_inbox (g.C.Clock.reads c.args.clock.now) _)
@@ -15,38 +25,32 @@ loop-init g c = record { desk = c.requires; order = tt; since = tt; doing = talk
 pub loop-preserved-in-On : goal.loop-preserved-in-On
 loop-preserved-in-On g c =
     let s : Start = record { access = c.args.access.now; limits = c.args.limits; pass = c.args.pass; there = g.N.Conn.left c.args.conn.now; given = g.N.Conn.given c.args.conn.now; reads = g.N.Conn.reads c.args.conn.now; writes = g.N.Conn.writes c.args.conn.now } in
-    let n : Here = record { pass = c.step-went.result.0; stand = stand_of c.step-went.new.inbox (g.N.Conn.left c.step-went.new.conn); written = g.N.Conn.given c.step-went.new.conn; reads = g.N.Conn.reads c.step-went.new.conn; writes = g.N.Conn.writes c.step-went.new.conn } in
+    let n : Here = record { pass = c.step-next.result.0; stand = stand_of c.step-next.new.inbox (g.N.Conn.left c.step-next.new.conn); written = g.N.Conn.given c.step-next.new.conn; reads = g.N.Conn.reads c.step-next.new.conn; writes = g.N.Conn.writes c.step-next.new.conn } in
+    let next : IsNext (g.C.Clock.reads c.args.clock.now) s n c.look-went.result.0 c.step-next.new.doing = c.look-went.ensures.next s n refl refl c.loop.invariant.since (c.step-next.ensures.steps s refl c.loop.invariant.doing) in
+    let here = subst (λ (w : Went). IsNext (g.C.Clock.reads c.args.clock.now) s n w c.step-next.new.doing) c.in-On.is next in
     record {
-      desk = c.step-went.ensures.desk;
-      order = subst IsNextInOrder c.in-On.is (c.look-next.ensures.order c.step-went.ensures.order);
-      since = c.look-next.ensures.since c.loop.invariant.since;
-      doing = subst (λ (x : Next). IsNext (g.C.Clock.reads c.args.clock.now) s n x) c.in-On.is (c.look-next.ensures.next s n refl refl c.loop.invariant.since (c.step-went.ensures.steps s refl c.loop.invariant.doing));
-    }
-
-pub loop-preserved-in-NothingYet : goal.loop-preserved-in-NothingYet
-loop-preserved-in-NothingYet g c =
-    let s : Start = record { access = c.args.access.now; limits = c.args.limits; pass = c.args.pass; there = g.N.Conn.left c.args.conn.now; given = g.N.Conn.given c.args.conn.now; reads = g.N.Conn.reads c.args.conn.now; writes = g.N.Conn.writes c.args.conn.now } in
-    let n : Here = record { pass = c.step-went.result.0; stand = stand_of c.step-went.new.inbox (g.N.Conn.left c.step-went.new.conn); written = g.N.Conn.given c.step-went.new.conn; reads = g.N.Conn.reads c.step-went.new.conn; writes = g.N.Conn.writes c.step-went.new.conn } in
-    record {
-      desk = c.step-went.ensures.desk;
-      order = tt;
-      since = c.look-next.ensures.since c.loop.invariant.since;
-      doing = (subst (λ (x : Next). IsNext (g.C.Clock.reads c.args.clock.now) s n x) c.in-NothingYet.is (c.look-next.ensures.next s n refl refl c.loop.invariant.since (c.step-went.ensures.steps s refl c.loop.invariant.doing))).0;
+      desk = c.step-next.ensures.desk;
+      order = c.step-next.ensures.order;
+      since = c.look-went.ensures.since c.loop.invariant.since;
+      doing = here;
     }
 
 pub loop-preserved : goal.loop-preserved
 loop-preserved g c =
     let s : Start = record { access = c.args.access.now; limits = c.args.limits; pass = c.args.pass; there = g.N.Conn.left c.args.conn.now; given = g.N.Conn.given c.args.conn.now; reads = g.N.Conn.reads c.args.conn.now; writes = g.N.Conn.writes c.args.conn.now } in
-    let n : Here = record { pass = c.step-went.result.0; stand = stand_of c.step-went.new.inbox (g.N.Conn.left c.step-went.new.conn); written = g.N.Conn.given c.step-went.new.conn; reads = g.N.Conn.reads c.step-went.new.conn; writes = g.N.Conn.writes c.step-went.new.conn } in
+    let n : Here = record { pass = c.step-next.result.0; stand = stand_of c.step-next.new.inbox (g.N.Conn.left c.step-next.new.conn); written = g.N.Conn.given c.step-next.new.conn; reads = g.N.Conn.reads c.step-next.new.conn; writes = g.N.Conn.writes c.step-next.new.conn } in
+    let next : IsNext (g.C.Clock.reads c.args.clock.now) s n c.look-went.result.0 c.step-next.new.doing = c.look-went.ensures.next s n refl refl c.loop.invariant.since (c.step-next.ensures.steps s refl c.loop.invariant.doing) in
     record {
-      desk = c.step-went.ensures.desk;
-      order = subst IsNextInOrder c.in-Blocked.is (c.look-next.ensures.order c.step-went.ensures.order);
-      since = c.look-next.ensures.since c.loop.invariant.since;
-      doing = subst (λ (x : Next). IsNext (g.C.Clock.reads c.args.clock.now) s n x) c.in-Blocked.is (c.look-next.ensures.next s n refl refl c.loop.invariant.since (c.step-went.ensures.steps s refl c.loop.invariant.doing));
+      desk = c.step-next.ensures.desk;
+      order = c.step-next.ensures.order;
+      since = c.look-went.ensures.since c.loop.invariant.since;
+      doing = behind_pause (g.C.Clock.reads c.args.clock.now) s n c.look-went.result.0 c.step-next.new.doing c.in-NothingYet.is next;
     }
 
 pub returns-in-Over-clause-ends : goal.returns-in-Over-clause-ends
 returns-in-Over-clause-ends g c =
     let s : Start = record { access = c.args.access.now; limits = c.args.limits; pass = c.args.pass; there = g.N.Conn.left c.args.conn.now; given = g.N.Conn.given c.args.conn.now; reads = g.N.Conn.reads c.args.conn.now; writes = g.N.Conn.writes c.args.conn.now } in
-    let n : Here = record { pass = c.step-went.result.0; stand = stand_of c.step-went.new.inbox (g.N.Conn.left c.step-went.new.conn); written = g.N.Conn.given c.step-went.new.conn; reads = g.N.Conn.reads c.step-went.new.conn; writes = g.N.Conn.writes c.step-went.new.conn } in
-    (n.stand, subst (λ (x : Next). IsNext (g.C.Clock.reads c.args.clock.now) s n x) c.in-Over.is (c.look-next.ensures.next s n refl refl c.loop.invariant.since (c.step-went.ensures.steps s refl c.loop.invariant.doing)))
+    let n : Here = record { pass = c.step-next.result.0; stand = stand_of c.step-next.new.inbox (g.N.Conn.left c.step-next.new.conn); written = g.N.Conn.given c.step-next.new.conn; reads = g.N.Conn.reads c.step-next.new.conn; writes = g.N.Conn.writes c.step-next.new.conn } in
+    let next : IsNext (g.C.Clock.reads c.args.clock.now) s n c.look-went.result.0 c.step-next.new.doing = c.look-went.ensures.next s n refl refl c.loop.invariant.since (c.step-next.ensures.steps s refl c.loop.invariant.doing) in
+    let here = subst (λ (w : Went). IsNext (g.C.Clock.reads c.args.clock.now) s n w c.step-next.new.doing) c.in-Over.is next in
+    (n.stand, here)

@@ -1,8 +1,10 @@
-use Rattle.std.proofs.Common.{[], ◌∷◌, refl, ap, ◌∙◌}
+use Rattle.std.proofs.Common.{[], ◌∷◌, refl, ap, ◌∙◌, sym, subst}
 use Rattle.sb_desk.specs.Entries.{made_by}
 use Rattle.sb_server.specs.declared.body.LineAsk.{LineAsk}
 use Rattle.sb_server.specs.declared.body.LineAsk.TheVariants.{Call, NoCall}
+use Rattle.sb_server.specs.declared.doing.Doing.{Doing}
 use Rattle.sb_server.specs.declared.script.Script.{Script}
+use Rattle.sb_server.specs.Doings.{IsDoing}
 use Rattle.sb_server.specs.Responds.{LineCalled}
 use Rattle.sb_server.specs.Talks.{Here}
 use Rattle.sb_server.proofs.Calling.{called_next, all_called, none_left}
@@ -15,16 +17,20 @@ returns-in-Some-Call-clause-steps g c = λ stand written reads writes s same a.
     let goes = c.call_once-pass.ensures.goes in
     let new : Script = record { left = c.pop_front.new.self; text = c.args.script.text; stopped = c.args.script.stopped; closes = c.args.script.closes } in
     let call : LineCalled = record { line = Call c.in-Some-Call.line; made = made_by c.args.pass.seat goes.0 c.now.result c.in-Some-Call.line.timed.call c.call_once-pass.result.1; answer = c.call_once-pass.result.1 } in
-    called_next (g.C.Clock.reads c.args.clock.now) s h c.call_once-pass.result.0 c.args.script new call c.in-Some-Call.line.form a (c.in-Some-Call.ensures.items ∙ ap (λ (x : LineAsk). x ∷ c.pop_front.new.self.items) c.in-Some-Call.field-0-is) refl refl refl goes.1 (goes.0, c.now.result, c.now.ensures, refl) refl
+    let n : Here = record { pass = c.call_once-pass.result.0; stand = stand; written = written; reads = reads; writes = writes } in
+    subst (λ (d : Doing). IsDoing (g.C.Clock.reads c.args.clock.now) s n d) (sym c.turn.ensures)
+    (called_next (g.C.Clock.reads c.args.clock.now) s h c.call_once-pass.result.0 c.args.script new call c.in-Some-Call.line.form a (c.in-Some-Call.ensures.items ∙ ap (λ (x : LineAsk). x ∷ c.pop_front.new.self.items) c.in-Some-Call.field-0-is) refl refl refl goes.1 (goes.0, c.now.result, c.now.ensures, refl) refl)
 
 pub returns-in-Some-NoCall-clause-steps : goal.returns-in-Some-NoCall-clause-steps
 returns-in-Some-NoCall-clause-steps g c = λ stand written reads writes s same a.
     let h : Here = record { pass = c.args.pass; stand = stand; written = written; reads = reads; writes = writes } in
     let new : Script = record { left = c.pop_front.new.self; text = c.args.script.text; stopped = c.args.script.stopped; closes = c.args.script.closes } in
     let call : LineCalled = record { line = NoCall c.in-Some-NoCall.answer; made = []; answer = c.in-Some-NoCall.answer } in
-    called_next (g.C.Clock.reads c.args.clock.now) s h c.args.pass c.args.script new call _ a (c.in-Some-NoCall.ensures.items ∙ ap (λ (x : LineAsk). x ∷ c.pop_front.new.self.items) c.in-Some-NoCall.field-0-is) refl refl refl (goes_by_none c.args.pass) (refl, refl) refl
+    subst (λ (d : Doing). IsDoing (g.C.Clock.reads c.args.clock.now) s h d) (sym c.turn-in-Some-NoCall.ensures)
+    (called_next (g.C.Clock.reads c.args.clock.now) s h c.args.pass c.args.script new call _ a (c.in-Some-NoCall.ensures.items ∙ ap (λ (x : LineAsk). x ∷ c.pop_front.new.self.items) c.in-Some-NoCall.field-0-is) refl refl refl (goes_by_none c.args.pass) (refl, refl) refl)
 
 pub returns-in-None-clause-steps : goal.returns-in-None-clause-steps
 returns-in-None-clause-steps g c = λ stand written reads writes s same a.
     let h : Here = record { pass = c.args.pass; stand = stand; written = written; reads = reads; writes = writes } in
-    all_called (g.C.Clock.reads c.args.clock.now) s h c.args.script c.telling_of_all.result a (none_left c.args.script.left.items c.pop_front.new.self.items c.in-None.ensures.items c.in-None.ensures.rest) c.telling_of_all.ensures
+    subst (λ (d : Doing). IsDoing (g.C.Clock.reads c.args.clock.now) s h d) (sym c.turn-in-None.ensures)
+    (all_called (g.C.Clock.reads c.args.clock.now) s h c.args.script c.telling_of_all.result a (none_left c.args.script.left.items c.pop_front.new.self.items c.in-None.ensures.items c.in-None.ensures.rest) c.telling_of_all.ensures)
