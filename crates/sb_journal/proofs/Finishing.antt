@@ -10,12 +10,13 @@ use Rattle.sb_journal.specs.Moments.{EachMoment, FromSync, IsUnwritten}
 use Rattle.sb_journal.specs.Opened.{Stands, opened_alone, stand_file, is_shut, IsStand, IsWholeStand, IsRead}
 use Rattle.sb_journal.specs.declared.found.Side.{Side}
 use Rattle.sb_journal.specs.declared.found.Side.TheVariants.{A}
+use Rattle.sb_journal.specs.declared.judge.Judge.{Ghosts}
 use Rattle.sb_journal.specs.declared.reading.Ending.{Ending}
 use Rattle.sb_journal.specs.declared.reading.Stand.{Stand}
 use Rattle.sb_journal.proofs.Moments.{started, from_start, weaker_moments}
 use Rattle.sb_journal.proofs.Images.{rest_image}
 use Rattle.sb_journal.proofs.Heads.{length-file_text, new_rests, reads_closed}
-use Rattle.sb_journal.proofs.Texts.{has_text, spells_text}
+use Rattle.sb_journal.proofs.Texts.{has_text}
 use Rattle.sb_journal.proofs.Wholes.{is_free}
 
 read_is_created : (bytes : List ℕ) (r : Result (List (List ℕ)) ℕ) → whole_or_damaged bytes r ≡ Uncreated → ⊥
@@ -111,27 +112,13 @@ read_file bytes e f whole spells made closed end next = record {
 }
 
 -- where a whole file was read of it
-pub read_stand : (bytes : List ℕ) (s : Stand) (e : Ending) → IsWholeStand s bytes → IsStand s → e.made ≡ true → e.closed ≡ s.closed → e.end ≡ s.end → e.next ≡ s.next → IsRead (at_rest bytes) e
-read_stand bytes s e read stand made closed end next =
-    read_file bytes e (stand_file s) read.whole read.spells made (closed ∙ read.closed ∙ ap (λ n. is_shut n bytes) (sym end)) (end ∙ stand.end_is) (next ∙ stand.next_is)
+pub read_stand : {J : Type 0} (G : Ghosts J) (bytes : List ℕ) (s : Stand J) (ps : List (List ℕ)) (e : Ending) → IsWholeStand s ps bytes → IsStand G s ps → e.made ≡ true → e.closed ≡ s.closed → e.end ≡ s.end → e.next ≡ s.next → IsRead (at_rest bytes) e
+read_stand G bytes s ps e read stand made closed end next =
+    read_file bytes e (stand_file s ps) read.whole read.spells made (closed ∙ read.closed ∙ ap (λ n. is_shut n bytes) (sym end)) (end ∙ stand.end_is) (next ∙ stand.next_is)
 
 -- a disk that was synced and then only read is as its bytes rest
 pub rests_synced : (p0 p1 : List Held) (h0 h1 h2 : Held) → Moves p0 h0 p1 h1 (at_rest h0.seen) → h2 ≡ h1 → at_rest h1.seen ≡ h2
 rests_synced p0 p1 h0 h1 h2 synced same = ap (λ m. at_rest m.seen) synced.now_is ∙ sym (same ∙ synced.now_is)
-
--- the file that counts is one that can be written and read back
-pub found_within : (salt : ℕ) (h : Held) (e : Ending) (file : File) → salt < 2 ^ 64 → IsRead h e → opened_alone salt (framing h.seen) ≡ Stands A file → IsWithin file
-found_within salt h e file fits read stands = by_framing (framing h.seen) refl
-  where
-    by_framing : (r : Framing) → framing h.seen ≡ r → IsWithin file
-    by_framing Uncreated is =
-        let same = new_file_is salt (framing h.seen) file is stands in
-        subst IsWithin (sym same) (new_rests (at_rest (new_bytes salt 1 1 [])) salt 1 1 fits (omega arith) (omega arith) (omega arith) (omega arith) refl).within
-    by_framing Occupied is = let no_file : opened_alone salt Occupied ≡ Stands A file = ap (opened_alone salt) (sym is) ∙ stands in absurd cc
-    by_framing (Whole f) is =
-        let same = same_file_is salt (framing h.seen) f file is stands in
-        (spells_text file h.seen (read.text file (is ∙ ap Whole (sym same)))).within
-    by_framing (Damaged place) is = let no_file : opened_alone salt (Damaged place) ≡ Stands A file = ap (opened_alone salt) (sym is) ∙ stands in absurd cc
 
 -- nothing was written
 pub unwritten_same : (p q : List Held) (h k : Held) → q ≡ p → k ≡ h → IsUnwritten p h q k

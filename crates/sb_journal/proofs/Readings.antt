@@ -1,25 +1,28 @@
 -- What the bytes of a disk stand for, by what was read of them.
-use Rattle.std.proofs.Common.{◌≡◌, inl, inr, length-append, ℕ, ◌+◌, ◌^◌, ◌≤◌, List, ◌++◌, length, drop, true, false, sym, ◌∙◌, ap, subst, arith}
+use Rattle.std.proofs.Common.{◌≡◌, inl, inr, length-append, ℕ, ◌^◌, ◌≤◌, List, ◌++◌, length, drop, true, false, sym, ◌∙◌, ap, subst, arith}
 use Rattle.std.specs.Prelude.{Some, Err}
 use Rattle.sb_journal.specs.Text.{records, file_text, AreBytes, Spelled, Spells}
 use Rattle.sb_journal.specs.Framing.{Uncreated, Occupied, Whole, Damaged, framing, read}
-use Rattle.sb_journal.specs.Opened.{stand_file, is_shut, IsHead, IsNoHead, IsStand, IsWholeStand}
+use Rattle.sb_journal.specs.Opened.{stand_file, is_shut, IsHead, IsNoHead, IsStand, IsWholeStand, IsRefusedIn, AreRecords, HasRefused}
 use Rattle.sb_journal.specs.Pieces.{BeginsWith}
 use Rattle.sb_journal.specs.declared.reading.Head.{Head}
 use Rattle.sb_journal.specs.declared.reading.HeadFault.TheVariants.{NoHead, OtherHead, BadHead}
+use Rattle.sb_journal.specs.declared.judge.Judge.{Ghosts}
+use Rattle.sb_journal.specs.declared.reading.Records.{Records}
 use Rattle.sb_journal.specs.declared.reading.Stand.{Stand}
 use Rattle.sb_journal.proofs.Frames.{length-records}
 use Rattle.sb_journal.proofs.Heads.{length-file_text, reads_whole}
 use Rattle.sb_journal.proofs.Wholes.{file_of, created_by, fault_by, head_by, spells_by, is_free, is_occupied, head_damaged, with_records}
 
--- a stand with this head and these payloads
-pub record HasParts (s : Stand) (h : Head) (ps : List (List ℕ)) (end next : ℕ) : Type 0 where
+-- a stand with this head and these records
+pub record HasParts {J : Type 0} (s : Stand J) (h : Head) (r : Records J) : Type 0 where
   pub salt : s.salt ≡ h.salt
   pub generation : s.generation ≡ h.generation
   pub first : s.first ≡ h.first
-  pub payloads : s.payloads.items ≡ ps
-  pub end_is : s.end ≡ end
-  pub next_is : s.next ≡ next
+  pub judge : s.judge ≡ r.judge
+  pub end_is : s.end ≡ r.end
+  pub closed_is : s.closed ≡ r.closed
+  pub next_is : s.next ≡ r.next
 
 module _ (part bytes : List ℕ) (starts : BeginsWith part bytes) where
   pub no_file : IsNoHead NoHead part → framing bytes ≡ Uncreated
@@ -39,28 +42,55 @@ module _ (part bytes : List ℕ) (starts : BeginsWith part bytes) where
       let whole = head_by part bytes starts h is in
       with_records bytes h.first (Err place) whole.created whole.sound whole.first_is broken
 
-  pub whole_stand : (s : Stand) (h : Head) (ps : List (List ℕ)) (end next : ℕ) → HasParts s h ps end next → IsHead h part → AreBytes part → length bytes ≤ 2 ^ 62 → Spelled h.first ps (drop 42 bytes) → s.closed ≡ is_shut end bytes → IsWholeStand s bytes
-  whole_stand s h ps end next parts is are fits found closed =
-      let spells = spells_by part bytes starts h ps is are fits found in
-      let same : stand_file s ≡ file_of h ps = let a = parts.salt in let b = parts.generation in let c = parts.first in let d = parts.payloads in cc in
+  whole_file : (h : Head) (ps : List (List ℕ)) → IsHead h part → Spells (file_of h ps) bytes → framing bytes ≡ Whole (file_of h ps)
+  whole_file h ps is spells =
       let long : 43 ≤ length (file_text (file_of h ps) ++ spells.rest) = omega (arith, (head_by part bytes starts h is).long, ap length spells.is) in
-      let whole : framing bytes ≡ Whole (file_of h ps) = ap framing spells.is ∙ reads_whole (file_of h ps) spells.rest spells.within spells.ends long in
+      ap framing spells.is ∙ reads_whole (file_of h ps) spells.rest spells.within spells.ends long
+
+  -- all of its payloads were taken
+  pub whole_stand : {J : Type 0} (G : Ghosts J) (s : Stand J) (h : Head) (r : Records J) (honest : Type 0) → HasParts s h r → IsHead h part → AreBytes part → length bytes ≤ 2 ^ 62 → honest → r.closed ≡ is_shut r.end bytes → (are : AreRecords G honest bytes h.salt h.first r) → IsWholeStand s are.payloads bytes
+  whole_stand {J} G s h r honest parts is bytes_are fits so closed are =
+      let ps = are.payloads in
+      let spells = spells_by part bytes starts h ps is bytes_are fits (are.spelled so) in
+      let same : stand_file s ps ≡ file_of h ps = let a = parts.salt in let b = parts.generation in let c = parts.first in cc in
       record {
-        whole = whole ∙ ap Whole (sym same);
+        whole = whole_file h ps is spells ∙ ap Whole (sym same);
         spells = subst (λ f. Spells f bytes) (sym same) spells;
-        closed = closed ∙ ap (λ n. is_shut n bytes) (sym parts.end_is);
+        closed = parts.closed_is ∙ closed ∙ ap (λ n. is_shut n bytes) (sym parts.end_is);
       }
 
-pub counted : (s : Stand) (h : Head) (ps : List (List ℕ)) (end next : ℕ) → HasParts s h ps end next → h.first ≤ 2 ^ 62 → end ≡ 42 + length (records h.first ps) → end ≤ 2 ^ 62 → next ≡ h.first + length ps → IsStand s
-counted s h ps end next parts low end_is fits next_is =
-    let text = ap length (ap (records s.first) parts.payloads ∙ ap (λ n. records n ps) parts.first) in
-    let count = ap length parts.payloads in
+  -- one of them was refused
+  pub refused_file : {J : Type 0} (G : Ghosts J) (h : Head) (place : ℕ) → IsHead h part → AreBytes part → length bytes ≤ 2 ^ 62 → HasRefused G bytes h.salt h.first place → IsRefusedIn G bytes place
+  refused_file {J} G h place is bytes_are fits refused =
+      let ps = refused.0 in
+      (file_of h ps, whole_file h ps is (spells_by part bytes starts h ps is bytes_are fits refused.1), refused.2)
+
+-- whatever the bytes are
+pub counted : {J : Type 0} (G : Ghosts J) (s : Stand J) (h : Head) (r : Records J) (honest : Type 0) (bytes : List ℕ) → HasParts s h r → h.first ≤ 2 ^ 62 → (are : AreRecords G honest bytes h.salt h.first r) → IsStand G s are.payloads
+counted {J} G s h r honest bytes parts low are =
+    let ps = are.payloads in
+    let text = ap (λ n. length (records n ps)) parts.first in
     let parts_end = parts.end_is in
     let parts_next = parts.next_is in
     let parts_first = parts.first in
+    let end_is = are.end_is in
+    let next_is = are.next_is in
+    let fits = are.end_fits in
     record {
-      end_is = omega (arith, parts_end, end_is, text, length-file_text (stand_file s));
+      taken = subst (λ (j : J). G.taken j s.salt ps) (sym parts.judge) (subst (λ (n : ℕ). G.taken r.judge n ps) (sym parts.salt) are.taken);
+      end_is = omega (arith, parts_end, end_is, text, length-file_text (stand_file s ps));
       end_fits = omega (arith, parts_end, fits);
-      next_is = omega (arith, parts_next, next_is, parts_first, count);
+      next_is = omega (arith, parts_next, next_is, parts_first);
       next_fits = omega (arith, parts_next, next_is, low, parts_end, end_is, length-records ps h.first);
     }
+
+-- what is said where the disk is honest, of what it holds then
+pub records_when : {J : Type 0} (G : Ghosts J) (was now : Type 0) (bytes read_then : List ℕ) (salt first : ℕ) (r : Records J) → (was → now) → (was → read_then ≡ bytes) → AreRecords G now read_then salt first r → AreRecords G was bytes salt first r
+records_when G was now bytes read_then salt first r honest same are = record {
+  payloads = are.payloads;
+  taken = are.taken;
+  spelled = λ h. subst (λ (s : List ℕ). Spelled first are.payloads (drop 42 s)) (same h) (are.spelled (honest h));
+  end_is = are.end_is;
+  end_fits = are.end_fits;
+  next_is = are.next_is;
+}

@@ -7,8 +7,9 @@
 //! with all of them. That is what `add` and `seal` say, and `append` of one record; `open` says that
 //! it reads exactly what the bytes stand for, and names the place of damage where they can't be
 //! read. Who judges the payloads too before anything is written opens in two parts:
-//! `Unopened::read`, and then `finish`. `look` says what an opening would find, and does nothing to the
-//! disks.
+//! `Unopened::read_by`, which has each payload judged by a `Judge` as it is read and keeps none, and
+//! then `finish`. `look_by` says what such an opening would find, and does nothing to the disks. `read`,
+//! `open` and `look` do the same with a judge that takes and keeps all.
 //!
 //! ```text
 //! let (mut journal, found) = Journal::open(alloc, disk_a, disk_b, salt)?;
@@ -21,9 +22,11 @@
 #![tactic(auto)]
 
 mod append;
+mod collecting;
 mod creating;
 mod found;
 mod journal;
+mod judge;
 pub mod laws;
 mod looking;
 mod opening;
@@ -32,9 +35,11 @@ mod reading;
 mod unopened;
 
 pub use append::next_gate;
+pub use collecting::Collecting;
 pub use creating::create;
 pub use found::{Found, OpenFault, OpenWhy, Side, first_gate};
 pub use journal::Journal;
-pub use looking::look;
+pub use judge::{Judge, Judged};
+pub use looking::{look, look_by};
 pub use sb_outside::Bytes;
 pub use unopened::Unopened;

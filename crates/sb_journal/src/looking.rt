@@ -1,18 +1,48 @@
 // What an opening would find, with nothing done to the disks.
 ghost use Rattle.std.specs.Prelude.{◌≡◌, ◌≢◌, ◌≤◌, ◌^◌, ℕ, [], IfOk, IfErr, OnOk};
 ghost use Rattle.sb_journal.specs.Text.{IsWithin, first_gate, gate_after};
-ghost use Rattle.sb_journal.specs.Opened.{Stands, Damage, found_file};
+ghost use Rattle.sb_journal.specs.Opened.{Stands, Damage, found_file, IsJudged, IsDamagedFor};
 ghost use Rattle.sb_journal.specs.Disks.{disks_of, opened_on, AreHonest, AreStill, AreQuiet, HaveFailed, NoneFell, SameHonesty};
 ghost use Rattle.sb_journal.specs.declared.found.Side.{Side};
+ghost use Rattle.sb_journal.specs.declared.found.Side.TheVariants.{A};
 
 use crate::opening::look_at;
 use crate::unopened::found_in;
-use crate::{Bytes, Found, OpenWhy};
+use crate::{Bytes, Found, Judge, Judged, OpenWhy};
 use sb_outside::Disk;
 use std::alloc::Global;
 
-/// What an opening of these disks would find: the file that counts, and the payloads in it; where disk
-/// a has none, the new file of this salt that an opening makes. `Damaged` where an opening says so,
+/// What an opening of these disks would find, with all payloads of the file that counts judged one after
+/// another: one piece of the file is in memory, and else what the judge keeps. Where disk a has none,
+/// that is the new file of this salt that an opening makes. `Damaged` where an opening says so, with
+/// that judge; `DiskFault` only where a call of a disk failed. The disks are read alone: nothing is
+/// written and nothing made, and what isn't safe yet stays so. Disk b isn't touched.
+pub fn look_by<D: Disk, J: Judge>(
+    alloc: Global,
+    disk_a: &mut D,
+    disk_b: &mut D,
+    salt: u64,
+) -> Result<Judged<J>, OpenWhy>
+    ensures ok { IfOk result (λ j. IsJudged J.Judge (AreHonest (disks_of D.Disk disk_a.old disk_b.old)) (opened_on (disks_of D.Disk disk_a.old disk_b.old) salt) j) }
+    ensures side { IfOk result (λ j. j.disk ≡ A) }
+    ensures damaged { IfErr result (λ e. AreHonest (disks_of D.Disk disk_a.old disk_b.old) → (side : Side) (place : ℕ) → e ≡ OpenWhy.Damaged side place
+        → IsDamagedFor J.Judge (opened_on (disks_of D.Disk disk_a.old disk_b.old) salt) side place) }
+    ensures still { AreHonest (disks_of D.Disk disk_a.old disk_b.old) → AreStill (disks_of D.Disk disk_a.old disk_b.old) (disks_of D.Disk disk_a.new disk_b.new) }
+    ensures cause { IfErr result (λ e. e ≡ OpenWhy.DiskFault → HaveFailed (disks_of D.Disk disk_a.old disk_b.old) (disks_of D.Disk disk_a.new disk_b.new)) }
+    ensures quiet { OnOk result (AreQuiet (disks_of D.Disk disk_a.old disk_b.old) (disks_of D.Disk disk_a.new disk_b.new)) }
+    ensures memory { IfErr result (λ e. e ≢ OpenWhy.DiskFault → AreQuiet (disks_of D.Disk disk_a.old disk_b.old) (disks_of D.Disk disk_a.new disk_b.new)) }
+    ensures later { NoneFell (disks_of D.Disk disk_a.old disk_b.old) (disks_of D.Disk disk_a.new disk_b.new) }
+    ensures honesty { SameHonesty (disks_of D.Disk disk_a.old disk_b.old) (disks_of D.Disk disk_a.new disk_b.new) }
+    ensures disk_b { disk_b.new ≡ disk_b.old }
+{
+    match look_at(alloc, disk_a, salt) {
+        Ok(looked) => Ok(looked.judged),
+        Err(why) => Err(why),
+    }
+}
+
+/// What an opening of these disks would find: the file that counts, and the payloads in it, all of them
+/// in memory; where disk a has none, the new file of this salt that an opening makes. `Damaged` where an opening says so,
 /// `DiskFault` only where a call of a disk failed. The disks are read alone: nothing is written and
 /// nothing made, and what isn't safe yet stays so. Disk b isn't touched.
 pub fn look<D: Disk>(
@@ -39,8 +69,8 @@ pub fn look<D: Disk>(
     let Ok(base) = Bytes::of(alloc, &[]) else {
         return Err(OpenWhy::OutOfMemory);
     };
-    match look_at(alloc, disk_a, salt) {
-        Ok(looked) => Ok(found_in(looked.stand, base)),
+    match look_by(alloc, disk_a, disk_b, salt) {
+        Ok(judged) => Ok(found_in(judged, base)),
         Err(why) => Err(why),
     }
 }

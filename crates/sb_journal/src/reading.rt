@@ -1,17 +1,16 @@
 // What the bytes of a disk stand for: they are read a piece at a time, and each record once.
-ghost use Rattle.std.specs.Prelude.{◌≡◌, ◌≢◌, ◌≤◌, ◌+◌, ◌++◌, ◌∷◌, [], ◌^◌, ℕ, IsTrue, length, take, drop, slice_index, true, false, Err, IfOk, IfErr, IfSome, IfNone, OnOk};
+ghost use Rattle.std.specs.Prelude.{◌≡◌, ◌≢◌, ◌≤◌, ◌+◌, ◌++◌, ◌∷◌, [], ◌^◌, List, ℕ, IsTrue, length, take, drop, slice_index, true, false, Err, IfOk, IfErr, IfSome, IfNone, OnOk};
 ghost use Rattle.std.specs.Int.{w32, w64, from_be_bytes};
 ghost use Rattle.std.specs.Str.{bytes_eq};
 ghost use Rattle.sb_outside.specs.Causes.{RoseByOne};
-ghost use Rattle.sb_journal.specs.Text.{max_payload, magic, records, AreBytes, Spelled};
+ghost use Rattle.sb_journal.specs.Text.{max_payload, magic, gate_after, AreBytes};
 ghost use Rattle.sb_journal.specs.Framing.{is_count, head_fault, payload_length, is_record, read};
-ghost use Rattle.sb_journal.specs.Opened.{IsReading, IsStand, IsHead, IsNoHead, is_shut};
+ghost use Rattle.sb_journal.specs.Judges.{IsVerdict};
+ghost use Rattle.sb_journal.specs.Opened.{IsReading, IsHead, IsNoHead, AreRecords, HasRefused, is_shut};
 ghost use Rattle.sb_journal.specs.Pieces.{HasPlace, IsPiece};
-ghost use Rattle.sb_journal.specs.declared.reading.Stand.{Stand};
-ghost use Rattle.sb_journal.specs.declared.reading.RecordsFault.TheVariants.{Broken, Unread};
-ghost use Rattle.sb_journal.specs.declared.reading.Reading.TheVariants.{AFile};
+ghost use Rattle.sb_journal.specs.declared.reading.RecordsFault.TheVariants.{Broken, Refused, Unread};
 
-use crate::Bytes;
+use crate::Judge;
 use crate::piece::{BytesFault, Piece};
 use sb_outside::Disk;
 use std::alloc::{AllocError, Global};
@@ -176,22 +175,34 @@ fn record_behind(rest: &[u8], number: u64) -> Option<&[u8]>
     Some(&rest[12..12 + len])
 }
 
-// One payload more.
-fn keep(alloc: Global, payloads: &mut Vec<Bytes>, payload: &[u8]) -> Result<(), AllocError>
-    ensures { OnOk result (payloads.new.items ≡ payloads.old.items ++ payload.now ∷ []) }
+// What is made of the payload whose gate is at this place: the judge is asked, unless it has refused one
+// before. The place of the first that it refuses, once there is one.
+fn judge_one<J: Judge>(
+    alloc: Global,
+    judge: &mut J,
+    refused: Option<u64>,
+    place: u64,
+    payload: &[u8],
+) -> Result<Option<u64>, AllocError>
+    requires { (salt : ℕ) × (start : ℕ) × (before : List (List ℕ)) × IsVerdict J.Judge judge.old refused salt start before }
+    ensures { (salt start : ℕ) (before : List (List ℕ)) → place ≡ gate_after start before → IsVerdict J.Judge judge.old refused salt start before
+        → IfOk result (λ r. IsVerdict J.Judge judge.new r salt start (before ++ payload.now ∷ [])) }
 {
-    let kept = Bytes::of(alloc, payload)?;
-    match payloads.push(kept) {
-        Ok(()) => Ok(()),
-        Err(_) => Err(AllocError),
+    if let Some(first) = refused {
+        return Ok(Some(first));
+    }
+    match judge.take(alloc, payload) {
+        Ok(true) => Ok(None),
+        Ok(false) => Ok(Some(place)),
+        Err(fault) => Err(fault),
     }
 }
 
-// The records of a file, the place of its end gate, whether that is closed, and the number that
-// comes next.
+// The records of a file, all of whose payloads a judge has taken: the place of its end gate, whether that is
+// closed, and the number that comes next.
 #[derive(Drop)]
-pub(crate) struct Records {
-    pub(crate) payloads: Vec<Bytes>,
+pub(crate) struct Records<J> {
+    pub(crate) judge: J,
     pub(crate) end: usize,
     pub(crate) closed: bool,
     pub(crate) next: u64,
@@ -201,27 +212,30 @@ pub(crate) struct Records {
 pub(crate) enum RecordsFault {
     // The place of the gate of a record that can't be.
     Broken(u64),
+    // All can be, and this is the place of the gate of the first that the judge refuses.
+    Refused(u64),
     Unread(BytesFault),
 }
 
-// The records behind the head, of which this is the first piece.
-fn records_of<D: Disk>(
+// The records behind the head, of which this is the first piece; each payload goes to a judge and is kept by
+// nobody else. A record that can't be is told also behind one that is refused.
+fn records_of<D: Disk, J: Judge>(
     alloc: Global,
     disk: &mut D,
     piece: Piece,
+    salt: u64,
     first: u64,
-) -> Result<Records, RecordsFault>
+) -> Result<Records<J>, RecordsFault>
     requires first { first ≤ 2 ^ 62 }
     requires place { HasPlace piece 42 }
     requires piece { IsTrue (D.honest disk.old) → IsPiece piece (D.held disk.old).seen }
     ensures honesty { D.honest disk.new ≡ D.honest disk.old }
-    ensures records { IsTrue (D.honest disk.old) → IfOk result (λ r. Spelled first r.payloads.items (drop 42 (D.held disk.old).seen)) }
+    ensures records { IfOk result (λ r. AreRecords J.Judge (IsTrue (D.honest disk.old)) (D.held disk.old).seen salt first r) }
     ensures closed { IsTrue (D.honest disk.old) → IfOk result (λ r. r.closed ≡ is_shut r.end (D.held disk.old).seen) }
-    ensures end { IfOk result (λ r. r.end ≡ 42 + length (records first r.payloads.items)) }
-    ensures end_fits { IfOk result (λ r. r.end ≤ 2 ^ 62) }
-    ensures next { IfOk result (λ r. r.next ≡ first + length r.payloads.items) }
     ensures broken { IsTrue (D.honest disk.old) → IfErr result (λ e. (place : ℕ) → e ≡ Broken place
         → read (length (D.held disk.old).seen) 42 first (drop 42 (D.held disk.old).seen) ≡ Err place) }
+    ensures refused { IsTrue (D.honest disk.old) → IfErr result (λ e. (place : ℕ) → e ≡ Refused place
+        → HasRefused J.Judge (D.held disk.old).seen salt first place) }
     ensures same { IsTrue (D.honest disk.old) → (D.held disk.new ≡ D.held disk.old) × (D.past disk.new ≡ D.past disk.old) }
     ensures later { D.count disk.old ≤ D.count disk.new }
     ensures passed { OnOk result (D.count disk.new ≡ D.count disk.old) }
@@ -229,7 +243,8 @@ fn records_of<D: Disk>(
     ensures others { IfErr result (λ e. e ≢ Unread BytesFault.Disk → D.count disk.new ≡ D.count disk.old) }
 {
     let mut piece = piece;
-    let mut payloads = Vec::new(alloc);
+    let mut judge = J::begin(alloc, salt);
+    let mut refused = None;
     let mut place = HEAD_BYTES;
     let mut number = first;
     let Ok(()) = piece.look_on(disk, place) else {
@@ -239,31 +254,35 @@ fn records_of<D: Disk>(
         let Some(payload) = record_behind(behind(piece.rest(place)), number) else {
             return Err(RecordsFault::Broken(place as u64));
         };
-        let Ok(()) = keep(alloc, &mut payloads, payload) else {
-            return Err(RecordsFault::Unread(BytesFault::Memory));
-        };
+        match judge_one(alloc, &mut judge, refused, place as u64, payload) {
+            Ok(verdict) => refused = verdict,
+            Err(_) => return Err(RecordsFault::Unread(BytesFault::Memory)),
+        }
         place += 13 + payload.len();
         number += 1;
         let Ok(()) = piece.look_on(disk, place) else {
             return Err(RecordsFault::Unread(BytesFault::Disk));
         };
     }
+    if let Some(place) = refused {
+        return Err(RecordsFault::Refused(place));
+    }
     let closed = is_closed(piece.rest(place));
     Ok(Records {
-        payloads,
+        judge,
         end: place,
         closed,
         next: number,
     })
 }
 
-// A file that can be read.
+// A file that can be read, all of whose payloads a judge has taken.
 #[derive(Drop)]
-pub(crate) struct Stand {
+pub(crate) struct Stand<J> {
     pub(crate) salt: u64,
     pub(crate) generation: u64,
     pub(crate) first: u64,
-    pub(crate) payloads: Vec<Bytes>,
+    pub(crate) judge: J,
     // The place of the end gate.
     pub(crate) end: u64,
     // Whether the end gate is closed.
@@ -285,21 +304,23 @@ pub(crate) struct Ending {
 }
 
 #[derive(Drop)]
-pub(crate) enum Reading {
+pub(crate) enum Reading<J> {
     NoFile,
     // More stands there than a new file has, and none was made of it.
     OtherFile,
-    AFile(Stand),
+    AFile(Stand<J>),
     // The place of the damage.
     BadFile(u64),
+    // It can be read, and this is the place of the gate of the first record that the judge refuses.
+    RefusedFile(u64),
 }
 
 // The file with this head and these records.
-fn stand_of(head: Head, records: Records) -> Stand
+fn stand_of<J>(head: Head, records: Records<J>) -> Stand<J>
     ensures salt { result.salt ≡ head.salt }
     ensures generation { result.generation ≡ head.generation }
     ensures first { result.first ≡ head.first }
-    ensures payloads { result.payloads.items ≡ records.payloads.items }
+    ensures judge { result.judge ≡ records.judge }
     ensures end { result.end ≡ records.end }
     ensures closed { result.closed ≡ records.closed }
     ensures next { result.next ≡ records.next }
@@ -308,7 +329,7 @@ fn stand_of(head: Head, records: Records) -> Stand
         salt: head.salt,
         generation: head.generation,
         first: head.first,
-        payloads: records.payloads,
+        judge: records.judge,
         end: records.end as u64,
         closed: records.closed,
         next: records.next,
@@ -316,12 +337,12 @@ fn stand_of(head: Head, records: Records) -> Stand
 }
 
 // What the bytes of a disk stand for.
-pub(crate) fn reading_of<D: Disk>(alloc: Global, disk: &mut D) -> Result<Reading, BytesFault>
+pub(crate) fn reading_of<D: Disk, J: Judge>(
+    alloc: Global,
+    disk: &mut D,
+) -> Result<Reading<J>, BytesFault>
     ensures honesty { D.honest disk.new ≡ D.honest disk.old }
-    ensures reading { IsTrue (D.honest disk.old) → IfOk result (λ r. IsReading r (D.held disk.old).seen) }
-
-    // Whatever the disk is.
-    ensures stand { IfOk result (λ r. (s : Stand) → r ≡ AFile s → IsStand s) }
+    ensures reading { IfOk result (λ r. IsReading J.Judge (IsTrue (D.honest disk.old)) (D.held disk.old).seen r) }
     ensures same { IsTrue (D.honest disk.old) → (D.held disk.new ≡ D.held disk.old) × (D.past disk.new ≡ D.past disk.old) }
     ensures later { D.count disk.old ≤ D.count disk.new }
     ensures passed { OnOk result (D.count disk.new ≡ D.count disk.old) }
@@ -338,9 +359,10 @@ pub(crate) fn reading_of<D: Disk>(alloc: Global, disk: &mut D) -> Result<Reading
         Err(HeadFault::OtherHead) => return Ok(Reading::OtherFile),
         Err(HeadFault::BadHead(place)) => return Ok(Reading::BadFile(place)),
     };
-    match records_of(alloc, disk, piece, head.first) {
+    match records_of(alloc, disk, piece, head.salt, head.first) {
         Ok(records) => Ok(Reading::AFile(stand_of(head, records))),
         Err(RecordsFault::Broken(place)) => Ok(Reading::BadFile(place)),
+        Err(RecordsFault::Refused(place)) => Ok(Reading::RefusedFile(place)),
         Err(RecordsFault::Unread(fault)) => Err(fault),
     }
 }

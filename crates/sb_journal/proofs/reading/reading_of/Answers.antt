@@ -1,8 +1,7 @@
 use Rattle.std.proofs.Common.{◌≡◌, ℕ, List, length, drop, ap, sym, ◌∙◌, subst}
 use Rattle.std.specs.Prelude.{IsTrue, Err}
-use Rattle.sb_journal.specs.Text.{Spelled}
 use Rattle.sb_journal.specs.Framing.{read}
-use Rattle.sb_journal.specs.Opened.{is_shut, IsNoHead, IsStand}
+use Rattle.sb_journal.specs.Opened.{is_shut, IsNoHead, IsRefusedIn, AreRecords, HasRefused}
 use Rattle.sb_journal.specs.Pieces.{BeginsWith}
 use Rattle.sb_journal.proofs.Readings as readings
 use Rattle.sb_journal.proofs.reading.reading_of.Goals as goal
@@ -44,30 +43,32 @@ returns-in-Err-Broken-clause-reading g c honest =
     let place_is = c.in-Err-Broken.place-is in
     cc
 
-pub returns-in-Ok-records_of-clause-reading : goal.returns-in-Ok-records_of-clause-reading
-returns-in-Ok-records_of-clause-reading g c honest =
+pub returns-in-Err-Refused-clause-reading : goal.returns-in-Err-Refused-clause-reading
+returns-in-Err-Refused-clause-reading g c honest =
     let bytes = (g.D.Disk.held c.args.disk.now).seen in
     let part = c.rest.result.now in
     let starts : BeginsWith part bytes = subst (λ (l : List ℕ). BeginsWith l bytes) (sym c.rest.ensures) (c.in-Ok.ensures.piece honest).1 in
     let head = c.in-Ok-head_of.head in
-    let ps = c.in-Ok-records_of.records.payloads.items in
-    let end = c.in-Ok-records_of.records.end in
-    let next = c.in-Ok-records_of.records.next in
-    let e = c.stand_of.ensures in
-    let parts : readings.HasParts c.stand_of.result head ps end next = record { salt = e.salt; generation = e.generation; first = e.first; payloads = e.payloads; end_is = e.end; next_is = e.next } in
+    let place = c.in-Err-Refused.place in
     let same : (g.D.Disk.held c.first.new.disk).seen ≡ bytes = ap (λ h. h.seen) (c.first.ensures.same honest).0 in
-    let honest_1 = subst IsTrue (sym c.first.ensures.honesty) honest in
-    let found = subst (λ (s : List ℕ). Spelled head.first ps (drop 42 s)) same (c.in-Ok-records_of.ensures.records honest_1) in
-    let closed = subst (λ (s : List ℕ). c.in-Ok-records_of.records.closed ≡ is_shut end s) same (c.in-Ok-records_of.ensures.closed honest_1) in
-    readings.whole_stand part bytes starts c.stand_of.result head ps end next parts c.in-Ok-head_of.ensures.ok c.in-Ok-head_of.ensures.bytes (c.in-Ok.ensures.small honest) found (e.closed ∙ closed)
+    let refused = subst (λ (s : List ℕ). HasRefused g.J.Judge s head.salt head.first place) same (c.in-Err-Refused.ensures.refused (subst IsTrue (sym c.first.ensures.honesty) honest) place c.in-Err-Refused.field-0-is) in
+    subst (λ n. IsRefusedIn g.J.Judge bytes n) (sym c.in-Err-Refused.place-is) (readings.refused_file part bytes starts g.J.Judge head place c.in-Ok-head_of.ensures.ok c.in-Ok-head_of.ensures.bytes (c.in-Ok.ensures.small honest) refused)
 
-pub returns-in-Ok-records_of-clause-stand : goal.returns-in-Ok-records_of-clause-stand
-returns-in-Ok-records_of-clause-stand g c s is =
+pub returns-in-Ok-records_of-clause-reading : goal.returns-in-Ok-records_of-clause-reading
+returns-in-Ok-records_of-clause-reading g c =
+    let bytes = (g.D.Disk.held c.args.disk.now).seen in
+    let was = (g.D.Disk.held c.first.new.disk).seen in
+    let part = c.rest.result.now in
     let head = c.in-Ok-head_of.head in
-    let ps = c.in-Ok-records_of.records.payloads.items in
-    let end = c.in-Ok-records_of.records.end in
-    let next = c.in-Ok-records_of.records.next in
+    let records = c.in-Ok-records_of.records in
+    let honest = IsTrue (g.D.Disk.honest c.args.disk.now) in
     let e = c.stand_of.ensures in
-    let parts : readings.HasParts c.stand_of.result head ps end next = record { salt = e.salt; generation = e.generation; first = e.first; payloads = e.payloads; end_is = e.end; next_is = e.next } in
-    let same : c.stand_of.result ≡ s = cc in
-    subst IsStand same (readings.counted c.stand_of.result head ps end next parts c.in-Ok-head_of.ensures.ok.first_fits c.in-Ok-records_of.ensures.end c.in-Ok-records_of.ensures.end_fits c.in-Ok-records_of.ensures.next)
+    let parts : readings.HasParts c.stand_of.result head records = record { salt = e.salt; generation = e.generation; first = e.first; judge = e.judge; end_is = e.end; closed_is = e.closed; next_is = e.next } in
+    let are : AreRecords g.J.Judge honest bytes head.salt head.first records = readings.records_when g.J.Judge honest _ bytes was head.salt head.first records (λ h. subst IsTrue (sym c.first.ensures.honesty) h) (λ h. ap (λ m. m.seen) (c.first.ensures.same h).0) c.in-Ok-records_of.ensures.records in (
+      are.payloads,
+      readings.counted g.J.Judge c.stand_of.result head records honest bytes parts c.in-Ok-head_of.ensures.ok.first_fits are,
+      λ h.
+          let starts : BeginsWith part bytes = subst (λ (l : List ℕ). BeginsWith l bytes) (sym c.rest.ensures) (c.in-Ok.ensures.piece h).1 in
+          let closed : records.closed ≡ is_shut records.end bytes = c.in-Ok-records_of.ensures.closed (subst IsTrue (sym c.first.ensures.honesty) h) ∙ ap (λ m. is_shut records.end m.seen) (c.first.ensures.same h).0 in
+          readings.whole_stand part bytes starts g.J.Judge c.stand_of.result head records honest parts c.in-Ok-head_of.ensures.ok c.in-Ok-head_of.ensures.bytes (c.in-Ok.ensures.small h) h closed are,
+    )

@@ -1,22 +1,12 @@
-use Rattle.std.proofs.Common.{arith, ap, refl, sym, ◌∙◌, subst}
-use Rattle.sb_outside.specs.Causes.{RoseByOne}
-use Rattle.sb_journal.specs.Disks.{disks_of}
-use Rattle.sb_journal.specs.Journals.{fault_disks}
-use Rattle.sb_journal.proofs.Pairs.{one_fault}
-use Rattle.sb_journal.specs.Opened.{stand_file}
-use Rattle.sb_journal.specs.Text.{first_gate, gate_after}
-use Rattle.sb_journal.proofs.Heads.{gate_after_file}
+use Rattle.std.proofs.Common.{inl, inr}
 use Rattle.sb_journal.proofs.unopened.Unopened.read.Goals as goal
 
-pub returns-in-Ok-look_synced-clause-gates : goal.returns-in-Ok-look_synced-clause-gates
-returns-in-Ok-look_synced-clause-gates g c =
-    let file = c.found_in.ensures.file in
-    let s = stand_file c.in-Ok-look_synced.looked.stand in
-    let last = gate_after_file s refl in
-    (ap (λ f. f.base) file, omega (arith, ap (λ f. gate_after (first_gate f) f.payloads) file, last, c.in-Ok-look_synced.ensures.stand.end_is, c.in-Ok-look_synced.ensures.stand.end_fits))
-
-pub returns-in-Err-clause-cause : goal.returns-in-Err-clause-cause
-returns-in-Err-clause-cause g c failed =
-    let given = c.given_back-in-Err.ensures in
-    let rose = subst (λ (d : g.row.D.Denot). RoseByOne (g.D.Disk.count c.args.disk_a) (g.D.Disk.count d)) (sym given.disk_a) (c.in-Err.ensures.cause (sym given.why ∙ failed)) in
-    one_fault (disks_of g.D.Disk c.args.disk_a c.args.disk_b) (fault_disks g.D.Disk c.given_back-in-Err.result) rose (ap g.D.Disk.count given.disk_b)
+pub returns-in-Err-clause-damaged : goal.returns-in-Err-clause-damaged
+returns-in-Err-clause-damaged g c honest side place is =
+    let damaged = c.in-Err.ensures.damaged honest side place is in (
+      elim damaged.0 [
+        | inl framed ↦ framed
+        | inr refused ↦ absurd refused.2.refused
+      ],
+      damaged.1,
+    )
