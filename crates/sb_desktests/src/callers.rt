@@ -6,35 +6,49 @@ ghost use Rattle.sb_desk.specs.Desks.{IsOf, IsNew};
 ghost use Rattle.sb_desk.specs.Entries.{made_by};
 ghost use Rattle.sb_desk.specs.Lists.{Each, IsEnd};
 
-use crate::OneQueue;
+use crate::one_queue::OneQueue;
 use sb_desk::{Desk, Pass, Report, Served};
-use sb_machine::{Answer, Call};
+use sb_machine::{Answer, Answered, Call, Refusal, Reply};
 use std::alloc::{AllocError, Global};
 use std::sync::Wait;
 use std::thread;
 use std::thread::Threads;
 
-/// The same call at two passes on one thread: the answers, and the numbers of the history. `None`
-/// is want of memory.
-pub fn on_one_thread<R: Wait>(
+/// The same creation at two passes on one thread: whether the first call is carried out, whether the second
+/// is refused since the queue is there, and the numbers of the history. `None` is want of memory.
+pub(crate) fn on_one_thread<R: Wait>(
     rt: &R,
     alloc: Global,
     reading: u64,
     call: &Call,
-) -> Option<(Answer, Answer, Report)>
+) -> Option<(bool, bool, Report)>
     requires { IsActInOrder call.now.act }
 {
     let (desk, passes) = Desk::new(alloc, OneQueue::new(), 2).ok()?;
     let (one, other) = pair_of(&desk, passes);
     let (one, other, first, second) = one_then_other(rt, &desk, one, other, reading, call);
-    let passes = list_of(alloc, &desk, one, other)?;
-    let (_, report) = desk.close(passes).ok()?;
-    Some((first, second, report))
+    let (is_done, is_there) = (is_done(first), is_there(second));
+    let report = numbers_of_two(alloc, desk, one, other)?;
+    Some((is_done, is_there, report))
+}
+
+// Whether a call was carried out.
+fn is_done(answer: Answer) -> bool {
+    let is_done = matches!(answer, Ok(Answered::New(Reply::Done)));
+    drop(answer);
+    is_done
+}
+
+// Whether a call was refused since its entity is there.
+fn is_there(answer: Answer) -> bool {
+    let is_there = matches!(answer, Err(Refusal::EntityExists));
+    drop(answer);
+    is_there
 }
 
 /// So many calls at each of eight passes, on as many threads: the numbers of their one history.
 /// `None` is want of memory.
-pub fn on_eight_threads<R: Threads + Wait + Sync>(
+pub(crate) fn on_eight_threads<R: Threads + Wait + Sync>(
     rt: &R,
     alloc: Global,
     times: u64,
@@ -43,9 +57,35 @@ pub fn on_eight_threads<R: Threads + Wait + Sync>(
     requires { IsActInOrder call.now.act }
 {
     let (desk, passes) = Desk::new(alloc, OneQueue::new(), 8).ok()?;
-    let passes = on_threads(rt, &desk, passes, times, call).ok()?;
-    let (_, report) = desk.close(passes).ok()?;
+    match on_threads(rt, &desk, passes, times, call) {
+        Ok(passes) => numbers_of(desk, passes),
+        Err(_) => {
+            drop(desk);
+            None
+        }
+    }
+}
+
+// The numbers of a desk, which is closed.
+fn numbers_of(desk: Desk<OneQueue>, passes: Vec<Pass>) -> Option<Report>
+    requires { (length passes.items ≡ desk.passes) × Each (IsOf desk) passes.items }
+{
+    let (value, report) = desk.close(passes).ok()?;
+    drop(value);
     Some(report)
+}
+
+// The numbers of a desk with these two passes, which is closed.
+fn numbers_of_two(alloc: Global, desk: Desk<OneQueue>, one: Pass, other: Pass) -> Option<Report>
+    requires passes { (desk.passes ≡ 2) × IsOf desk one × IsOf desk other }
+{
+    match list_of(alloc, &desk, one, other) {
+        Some(passes) => numbers_of(desk, passes),
+        None => {
+            drop(desk);
+            None
+        }
+    }
 }
 
 fn pair_of<V: Served>(desk: &Desk<V>, passes: Vec<Pass>) -> (Pass, Pass)
@@ -69,7 +109,7 @@ fn list_of<V: Served>(alloc: Global, desk: &Desk<V>, one: Pass, other: Pass) -> 
 }
 
 /// The first calls, the two tell each other, and then the other calls: it has seen both calls.
-pub fn one_then_other<V: Served, R: Wait>(
+pub(crate) fn one_then_other<V: Served, R: Wait>(
     rt: &R,
     desk: &Desk<V>,
     one: Pass,
@@ -97,14 +137,15 @@ fn repeat<V: Served, R: Wait>(rt: &R, desk: &Desk<V>, pass: Pass, times: u64, ca
 {
     let mut pass = pass;
     for _ in 0..times {
-        let (next, _) = desk.call(rt, pass, 0, call);
+        let (next, answer) = desk.call(rt, pass, 0, call);
+        drop(answer);
         pass = next;
     }
     pass
 }
 
 /// So many calls at each of these new passes, each on a thread of its own where one can be had.
-pub fn on_threads<V: Served + Send, R: Threads + Wait + Sync>(
+pub(crate) fn on_threads<V: Served + Send, R: Threads + Wait + Sync>(
     rt: &R,
     desk: &Desk<V>,
     passes: Vec<Pass>,

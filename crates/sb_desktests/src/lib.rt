@@ -2,12 +2,12 @@
 //! that memory is there and that somebody is served.
 #![tactic(auto)]
 
+#[cfg(test)]
 mod callers;
+#[cfg(test)]
 mod one_queue;
 #[cfg(test)]
 mod tests;
 mod worked;
 
-pub use callers::{on_eight_threads, on_one_thread, on_threads, one_then_other};
-pub use one_queue::OneQueue;
 pub use worked::worked_rows;

@@ -12,7 +12,7 @@ const MAX_MOMENT: u64 = 253_402_214_400_000;
 /// A namespace that is empty at first, and makes one queue `q` of the default description. It
 /// answers all other calls with want of memory.
 #[derive(Drop)]
-pub struct OneQueue {
+pub(crate) struct OneQueue {
     /// When the queue was made.
     made: Option<u64>,
     numbers: Report,
@@ -20,7 +20,7 @@ pub struct OneQueue {
 
 impl OneQueue {
     /// It takes no memory.
-    pub fn new() -> OneQueue
+    pub(crate) fn new() -> OneQueue
         ensures { StandsFor result.made result.numbers (state_at result.made) [] }
     {
         OneQueue {

@@ -1,9 +1,9 @@
 ghost use Rattle.std.specs.Prelude.{IfOk};
 ghost use Rattle.sb_machine.specs.Ordered.{IsActInOrder};
 
-use crate::{on_eight_threads, on_one_thread};
+use crate::callers::{on_eight_threads, on_one_thread};
 use sb_desk::Report;
-use sb_machine::{Act, Answered, Call, Description, Refusal, Reply};
+use sb_machine::{Act, Call, Description};
 use sb_model::Text;
 use std::alloc::{AllocError, Global};
 use std::test::Fail;
@@ -11,10 +11,11 @@ use std::test::Fail;
 fn creation(alloc: Global) -> Result<Call, AllocError>
     ensures { IfOk result (λ c. IsActInOrder c.act) }
 {
+    let name = Text::of(alloc, "q")?;
     Ok(Call {
         by: None,
         act: Act::CreateQueue {
-            name: Text::of(alloc, "q")?,
+            name,
             description: Description {
                 lock: 60,
                 ttl: None,
@@ -32,20 +33,28 @@ fn creation(alloc: Global) -> Result<Call, AllocError>
 
 #[test]
 fn passes_tell_each_other(rt: HostRuntime) -> Result<(), Fail> {
-    let call = creation(rt.alloc())?;
-    let Some((first, second, report)) = on_one_thread(&rt, rt.alloc(), 5, &call) else {
+    let Ok(call) = creation(rt.alloc()) else {
         panic!(rt; "no memory")
     };
-    assert!(rt; matches!(first, Ok(Answered::New(Reply::Done))));
-    assert!(rt; matches!(second, Err(Refusal::EntityExists)));
+    let ended = on_one_thread(&rt, rt.alloc(), 5, &call);
+    drop(call);
+    let Some((is_done, is_there, report)) = ended else {
+        panic!(rt; "no memory")
+    };
+    assert!(rt; is_done);
+    assert!(rt; is_there);
     assert_eq!(rt; numbers_of(report), (2, 1, 1));
     Ok(())
 }
 
 #[test]
 fn threads_share_one_history(rt: HostRuntime) -> Result<(), Fail> {
-    let call = creation(rt.alloc())?;
-    let Some(report) = on_eight_threads(&rt, rt.alloc(), 10000, &call) else {
+    let Ok(call) = creation(rt.alloc()) else {
+        panic!(rt; "no memory")
+    };
+    let ended = on_eight_threads(&rt, rt.alloc(), 10000, &call);
+    drop(call);
+    let Some(report) = ended else {
         panic!(rt; "no memory")
     };
     assert_eq!(rt; numbers_of(report), (80000, 1, 79999));
