@@ -17,8 +17,10 @@ the largest body is received and deleted: each response is the one that is due, 
 which nothing has changed and the same request passes; or the server ends before a call of that request. What stands
 behind it are the changes that were acknowledged, each journaled once. Then, of the completion and the deletion, each
 call for memory is refused in turn with the 40 behind it: a response that is due is tried again until there is memory
-for it, and some have to come so. How many completions found no memory before their call is told. The exit status is 1
-where something ends otherwise.
+for it, and some have to come so. How many completions found no memory before their call is told. Last, the buffer of a
+connection's first request is refused its memory 41 times, and that of a request behind a rest, which wants one again
+since a connection that rests gives its buffer back: each response has to come, and be the one that is due. The exit
+status is 1 where something ends otherwise.
 """
 import collections
 import json
@@ -39,14 +41,16 @@ SHIM = r"""
 #include <fcntl.h>
 #include <stdlib.h>
 #include <unistd.h>
-static long calls, refused, behind;
+static long calls, refused, behind, size;
 static int told = -1;
-static int refuse(void) {
+static int refuse(size_t n) {
     if (told < 0) {
         told = open(getenv("CALLS_TO"), O_WRONLY | O_CREAT | O_TRUNC | O_CLOEXEC, 0600);
         refused = atol(getenv("REFUSE_AT"));
         behind = atol(getenv("AND_BEHIND"));
+        size = atol(getenv("OF_SIZE"));
     }
+    if (size && n != (size_t)size) return 0;
     long call = __atomic_add_fetch(&calls, 1, __ATOMIC_SEQ_CST);
     if (pwrite(told, &call, sizeof call, 0) != sizeof call) abort();
     return refused <= call && call <= refused + behind;
@@ -54,13 +58,13 @@ static int refuse(void) {
 void *malloc(size_t n) {
     static void *(*next)(size_t);
     if (!next) next = dlsym(RTLD_NEXT, "malloc");
-    if (refuse()) { errno = ENOMEM; return 0; }
+    if (refuse(n)) { errno = ENOMEM; return 0; }
     return next(n);
 }
 void *realloc(void *p, size_t n) {
     static void *(*next)(void *, size_t);
     if (!next) next = dlsym(RTLD_NEXT, "realloc");
-    if (refuse()) { errno = ENOMEM; return 0; }
+    if (refuse(n)) { errno = ENOMEM; return 0; }
     return next(p, n);
 }
 """
@@ -117,12 +121,13 @@ class Trial:
             source.write(SHIM)
         subprocess.run(["cc", "-shared", "-fPIC", "-o", self.library, source.name, "-ldl"], check=True)
 
-    def refusing(self, refused, behind=0):
-        """What the library reads: that this call is refused, and so many behind it."""
-        return dict(LD_PRELOAD=self.library, REFUSE_AT=str(refused), AND_BEHIND=str(behind), CALLS_TO=self.calls)
+    def refusing(self, refused, behind=0, size=0):
+        """What the library reads: that this call is refused, and so many behind it, among those of this size or all."""
+        numbers = dict(REFUSE_AT=str(refused), AND_BEHIND=str(behind), OF_SIZE=str(size))
+        return dict(LD_PRELOAD=self.library, CALLS_TO=self.calls, **numbers)
 
     def called(self):
-        """How many calls the program has made."""
+        """How many calls the program has made, of those that are counted."""
         with open(self.calls, "rb") as calls:
             return int.from_bytes(calls.read(), sys.byteorder)
 
@@ -182,11 +187,11 @@ class Trial:
             print(f"{name}: {runs:4} runs with status {status}, {count} replies, {line}")
         return wrong
 
-    def served(self, base, refused, behind, count=None):
+    def served(self, base, refused, behind, count=None, size=0, rest=None):
         """The answers of a server over a copy of the base, with this call refused and so many behind it, to the first
-        requests; and whether it goes on behind them."""
+        requests, where the caller rests before one of them if that is said; and whether it goes on behind them."""
         path, port = self.folder(base), lib.free_port()
-        env = dict(os.environ, **self.refusing(refused, behind))
+        env = dict(os.environ, **self.refusing(refused, behind, size))
         words = [self.program, "serve", "--data", path, "--port", str(port), "--workers", "1"]
         server = subprocess.Popen(words, env=env, stdout=subprocess.DEVNULL, stderr=subprocess.DEVNULL)
         came = []
@@ -195,7 +200,7 @@ class Trial:
                 time.sleep(0.01)
             if server.poll() is None:
                 with lib.Caller(port) as caller:
-                    for answer in self.asked(caller, REQUESTS[:count]):
+                    for answer in self.asked(caller, REQUESTS[:count], rest):
                         came.append(answer)
             return came, server.poll() is None
         except OSError:
@@ -204,10 +209,12 @@ class Trial:
             server.kill()
             server.wait()
 
-    def asked(self, caller, requests):
+    def asked(self, caller, requests, rest):
         """Asks in order, again where the answer is OutOfMemory, and gives each answer."""
         location, place = "", 0
         while place < len(requests):
+            if place == rest:
+                time.sleep(REST_S)
             method, target, fields, body = requests[place]
             status, head, told = caller.ask(method, target or location, body, fields)
             is_wanting = status == 503 and b"OutOfMemory" in told
@@ -268,6 +275,17 @@ class Trial:
             wrong += late == 0
         return wrong
 
+    def buffer_sweep(self, base, due):
+        """Refuses the buffer of the first request its memory, and one behind a rest its; how many ended otherwise."""
+        wrong = 0
+        for refused, which in ((1, "the first request"), (2, "one behind a rest")):
+            came, is_up = self.served(base, refused, BEHIND, size=BUFFER, rest=COMPLETION)
+            sound = is_up and [answer.shape for answer in came] == due.shapes and self.called() >= BEHIND + 3
+            ended = "as is due" if sound else "OTHERWISE"
+            print(f"a server: {self.called()} buffers wanted, where that of {which} was refused; answered {ended}")
+            wrong += not sound
+        return wrong
+
     def state(self, path):
         """How many events were journaled, what stands in the queue, and whether it may be received."""
         check = subprocess.run([self.program, "check", "--data", path], capture_output=True, check=False)
@@ -296,6 +314,8 @@ REQUESTS = [
 COMPLETION, DELETION = 2, 4
 NEVER = 1 << 60  # a call that no run comes to
 BEHIND = 40
+BUFFER = 1_082_368  # the bytes of a connection's buffer of requests
+REST_S = 2  # behind a rest of so many seconds a connection has given its buffer back
 
 
 def behind_head(folder):
@@ -316,7 +336,7 @@ def main():
         trial.run(base, FIRST)
         wrong += trial.sweep("later run", base, SECOND)
         due = trial.due(base)
-        wrong += trial.serve_sweep(base, due) + trial.late_sweep(base, due)
+        wrong += trial.serve_sweep(base, due) + trial.late_sweep(base, due) + trial.buffer_sweep(base, due)
         wrong += trial.sweep("setup", None, SETUP)
         made = f"{work}/made"
         os.mkdir(made)

@@ -3,6 +3,7 @@ pub mod Texts
 pub mod Bodies
 pub mod Responding
 pub mod Reading
+pub mod Emptied
 pub mod Turning
 pub mod Stepping
 pub mod Looking

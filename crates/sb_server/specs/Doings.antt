@@ -207,7 +207,7 @@ IsBegunInOrder (Done told) = Unit {0}
 IsBegunInOrder (Waits p) = IsActInOrder (waiter_call p.waiter).act
 IsBegunInOrder (WillCall script) = Each IsLineInOrder script.left.items
 
--- whether it is a receive that waits
+-- whether a call waits
 abbrev pub asks : Doing → Bool
 asks Reads = false
 asks (Asks p) = true

@@ -1,9 +1,10 @@
--- A server over connections, in the order to read it: Bodies, Asks (what a request asks for), Waiting, Responds (its calls and its response), Reads,
+-- A server over connections, in the order to read it: Bodies, Asks (what a request asks for), Waiting, Responds (its calls and its response), Readers, Reads,
 -- Times (its limits), Talks (one connection), Works (one after the other), Serves (several workers).
 pub mod Bodies
 pub mod Waiting
 pub mod Asks
 pub mod Responds
+pub mod Readers
 pub mod Reads
 pub mod Times
 pub mod Talks

@@ -7,7 +7,7 @@ use Rattle.sb_http.specs.Stages.{Left, whole, held}
 use Rattle.sb_http.specs.Streams.{Requests}
 use Rattle.sb_http.specs.Causes.{HasNone, Waits as IsUnderWay, Refuses}
 use Rattle.sb_server.specs.declared.came.Came.{Came}
-use Rattle.sb_server.specs.declared.came.Came.TheVariants.{Asked, NothingYet, Refused, Over}
+use Rattle.sb_server.specs.declared.came.Came.TheVariants.{Asked, NothingYet, Refused, Over, NoMemory}
 use Rattle.sb_server.specs.declared.came.Filled.{Filled}
 use Rattle.sb_server.specs.declared.came.Filled.TheVariants.{Full, NotYet, Over as Done}
 use Rattle.sb_server.specs.declared.came.Took.{Took}
@@ -100,12 +100,13 @@ IfOver Full P = Unit {0}
 IfOver NotYet P = Unit {0}
 IfOver (Done ending) P = P ending
 
--- a request, none yet, a fault, or an end
+-- a request, none yet, a fault, an end, or no memory for what has come
 abbrev pub Comes : Access → Stand → Came → Stand → ℕ → ℕ → Type 0
 Comes access old (Asked ask closes) new count_before count = (m : RequestMessage) × AsksFor access m ask × (closes ≡ asks_close m) × Takes old (m ∷ []) new
 Comes access old NothingYet new count_before count = Takes old [] new × WaitsForMore new.left
 Comes access old (Refused fault) new count_before count = Takes old [] new × Refuses fault new.left
 Comes access old (Over ending) new count_before count = Takes old [] new × EndsWith ending old.there new count_before count × WaitsForMore new.left
+Comes access old NoMemory new count_before count = Takes old [] new
 
 -- whether one read found that the other side has ended, or failed
 abbrev pub has_ended : Filled → Bool

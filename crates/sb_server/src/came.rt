@@ -6,6 +6,7 @@ ghost use Rattle.sb_server.specs.Reads as reads;
 use crate::ask::{Ask, ask_of};
 use crate::ending::Ending;
 use crate::head::closes;
+use crate::reader::Reader;
 use sb_http::{HttpFault, Incoming};
 use sb_outside::Conn;
 use sb_rest::Access;
@@ -21,13 +22,14 @@ pub(crate) enum Took {
     Fault(HttpFault),
 }
 
-/// What came of a connection: the same, or how it ended.
+/// What came of a connection: the same, or how it ended, or that there was no memory for what has come.
 #[derive(Drop)]
 pub(crate) enum Came {
     Asked(Ask, bool),
     NothingYet,
     Refused(HttpFault),
     Over(Ending),
+    NoMemory,
 }
 
 /// What came of one read: bytes or nothing new, nothing yet, or how the connection ended.
@@ -52,6 +54,26 @@ pub(crate) fn has_ended(filled: Filled) -> bool
 
 /// Takes the next request, where it is whole, of which its connection hears.
 pub(crate) fn take_one<N: Conn>(
+    alloc: Global,
+    routes: &Routes,
+    access: &Access,
+    conn: &mut N,
+    reader: &mut Reader,
+) -> Took
+    ensures took { TookOf access.now reader.old.left result reader.new.left }
+    ensures left { N.left conn.new ≡ N.left conn.old }
+    ensures given { N.given conn.new ≡ N.given conn.old }
+    ensures reads { N.reads conn.new ≡ N.reads conn.old }
+    ensures writes { N.writes conn.new ≡ N.writes conn.old }
+{
+    let Some(incoming) = &mut reader.incoming else {
+        return Took::NoneYet;
+    };
+    take_from(alloc, routes, access, conn, incoming)
+}
+
+// Takes the next request of what came, where it is whole.
+fn take_from<N: Conn>(
     alloc: Global,
     routes: &Routes,
     access: &Access,

@@ -18,8 +18,8 @@ use std::sync::Wait;
 
 /// Takes the requests of a connection, one after the other, makes their calls at this pass, and writes
 /// their responses, until it ends, or the other side was slower than the limits. Where nothing can be read
-/// or written yet, and where a receive waits, it goes on behind a pause of the clock. It holds one buffer
-/// of requests and one piece of 4,096 bytes.
+/// or written yet, where a call waits, and where there is no memory for what has come, it goes on behind a
+/// pause of the clock. It holds one piece of 4,096 bytes, and from the first byte on one buffer of requests.
 pub fn serve_connection<V: Served, R: Wait, C: Clock, N: Conn>(
     rt: &R,
     alloc: Global,

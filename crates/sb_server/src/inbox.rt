@@ -3,7 +3,7 @@ ghost use Rattle.std.specs.Prelude.{◌≡◌, ◌≤◌, ◌-◌, [], Option, L
 
 use crate::came::{Came, Filled, Took, has_ended, take_one};
 use crate::ending::Ending;
-use sb_http::Incoming;
+use crate::reader::Reader;
 use sb_outside::Conn;
 use sb_rest::Access;
 use sb_routes::Routes;
@@ -17,10 +17,11 @@ const MAX_PIECE: usize = 4096;
 const MAX_TAKEN: u64 = 1 << 32;
 
 /// What came of a connection and isn't answered yet: a reader of requests, and a piece of which
-/// `at..end` wasn't fed to it. Its memory is taken as it is made.
+/// `at..end` wasn't fed to it. The piece is taken as it is made; the reader's memory once something
+/// has come, and it may be given back where nothing is left in it.
 #[derive(Drop)]
 pub(crate) struct Inbox {
-    pub(crate) incoming: Incoming,
+    pub(crate) incoming: Reader,
     piece: Vec<u8>,
     at: usize,
     end: usize,
@@ -51,7 +52,7 @@ impl Inbox {
         ensures stand { IfOk result (λ i. (left : Option (List ℕ)) → stand_of i left ≡ record { left = i.incoming.left; fed = 0; there = left }) }
     {
         Ok(Inbox {
-            incoming: Incoming::new(alloc)?,
+            incoming: Reader::new(),
             piece: vec![in alloc; 0; MAX_PIECE]?,
             at: 0,
             end: 0,
@@ -59,7 +60,8 @@ impl Inbox {
         })
     }
 
-    /// The next request, none yet, or how the connection ends.
+    /// The next request, none yet, or how the connection ends. Where there is no memory for what has
+    /// come, it may be asked for again.
     pub(crate) fn next<N: Conn, R: Wait>(
         &mut self,
         rt: &R,
@@ -80,7 +82,9 @@ impl Inbox {
                 Took::NoneYet => {}
             }
             if self.at < self.end {
-                self.feed_piece();
+                if !self.feed_piece(alloc) {
+                    return Came::NoMemory;
+                }
                 continue;
             }
             match self.fill(conn) {
@@ -92,17 +96,33 @@ impl Inbox {
         unreachable!()
     }
 
-    // Feeds the reader some of the piece.
-    fn feed_piece(&mut self)
+    // Feeds the reader some of the piece, if there is memory for it.
+    fn feed_piece(&mut self, alloc: Global) -> bool
         ensures { (left : Option (List ℕ)) → Takes (stand_of self.old left) [] (stand_of self.new left) }
     {
-        let count = self.incoming.feed(part_of(&self.piece, self.at, self.end));
+        let piece = part_of(&self.piece, self.at, self.end);
+        let Some(count) = self.incoming.feed(alloc, piece) else {
+            return false;
+        };
         self.at += count;
+        true
     }
 
-    /// Reads on while a receive waits: whether the other side has ended, or a read has failed. What comes
-    /// is kept, as far as there is room.
-    pub(crate) fn watch<N: Conn>(&mut self, conn: &mut N) -> bool
+    /// Whether the reader has memory.
+    pub(crate) fn has_reader(&self) -> bool {
+        self.incoming.has_memory()
+    }
+
+    /// Gives the reader's memory back, where nothing is left in it.
+    pub(crate) fn give_back(&mut self)
+        ensures { (left : Option (List ℕ)) → stand_of self.new left ≡ stand_of self.old left }
+    {
+        self.incoming.give_back();
+    }
+
+    /// Reads on while a call waits: whether the other side has ended, or a read has failed. What comes
+    /// is kept, as far as there is room and memory.
+    pub(crate) fn watch<N: Conn>(&mut self, alloc: Global, conn: &mut N) -> bool
         ensures takes { Takes (stand_of self.old (N.left conn.old)) [] (stand_of self.new (N.left conn.new)) }
         ensures gone { result ≡ true → IsGone (stand_of self.old (N.left conn.old)).there (stand_of self.new (N.left conn.new)).there (N.reads conn.old) (N.reads conn.new) }
         ensures given { N.given conn.new ≡ N.given conn.old }
@@ -110,7 +130,7 @@ impl Inbox {
         ensures writes { N.writes conn.new ≡ N.writes conn.old }
     {
         if self.at < self.end {
-            self.feed_piece();
+            self.feed_piece(alloc);
             return false;
         }
         let filled = self.fill(conn);

@@ -3,7 +3,7 @@
 //! [`serve_connection`] takes the requests of one connection, makes their calls at one pass of a desk,
 //! and writes their responses, until it ends; `specs/Talks` says what was written and why it ended.
 //! [`serve`] gives each door a worker, which serves its connections one after the other.
-//! [`receive_waiting`] is a receive that waits for a message. It stands on `sb_desk` for calls,
+//! [`receive_waiting`] is a call that waits: a receive, or the accept of a session. It stands on `sb_desk` for calls,
 //! `sb_http` for the bytes of requests and responses, `sb_rest` and `sb_lines` for what they ask for,
 //! and `sb_outside` for connections and the clock. A connection whose other side is slower than its
 //! [`Limits`] is ended; nothing is said of how long a worker waits.
@@ -33,6 +33,7 @@ mod laws;
 mod limits;
 mod lines;
 mod patience;
+mod reader;
 mod script;
 mod stage;
 mod step;

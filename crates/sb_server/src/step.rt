@@ -47,7 +47,7 @@ pub(crate) fn step<V: Served, R: Wait, C: Clock, N: Conn>(
         Doing::Reads => read_on(
             rt, alloc, routes, access, desk, pass, clock, conn, inbox, doing,
         ),
-        Doing::Asks(_) => wait_on(rt, access, desk, pass, clock, conn, inbox, doing),
+        Doing::Asks(_) => wait_on(rt, alloc, access, desk, pass, clock, conn, inbox, doing),
         Doing::Calls(script) => {
             let script = take_script(alloc, script);
             (
@@ -81,7 +81,8 @@ pub(crate) fn step<V: Served, R: Wait, C: Clock, N: Conn>(
     }
 }
 
-// Takes the next request, where it is whole, and makes its calls, or refuses it.
+// Takes the next request, where it is whole, and makes its calls, or refuses it. Where there is no memory
+// for what has come, that is tried again.
 fn read_on<V: Served, R: Wait, C: Clock, N: Conn>(
     rt: &R,
     alloc: Global,
@@ -112,12 +113,14 @@ fn read_on<V: Served, R: Wait, C: Clock, N: Conn>(
             (pass, refusing(doing, bytes, refusal_ending(fault)))
         }
         Came::Over(ending) => (pass, Went::Over(ending)),
+        Came::NoMemory => (pass, Went::Blocked),
     }
 }
 
 // Makes the next call of what waits, or gives it up where its caller has gone.
 fn wait_on<V: Served, R: Wait, C: Clock, N: Conn>(
     rt: &R,
+    alloc: Global,
     access: &Access,
     desk: &Desk<V>,
     pass: Pass,
@@ -135,10 +138,11 @@ fn wait_on<V: Served, R: Wait, C: Clock, N: Conn>(
     ensures order { IsDoingInOrder doing.new }
 {
     let _ = access;
-    let Doing::Asks(patience) = mem::replace(doing, Doing::Reads) else {
+    let old = mem::replace(doing, Doing::Reads);
+    let Doing::Asks(patience) = old else {
         unreachable!()
     };
-    if inbox.watch(conn) {
+    if inbox.watch(alloc, conn) {
         turn(doing, Doing::Tells(farewell(patience)));
         return (pass, Went::On);
     }

@@ -1,10 +1,11 @@
 // A worker: the connections of one door, one after the other.
-ghost use Rattle.std.specs.Prelude.{◌≡◌, ◌-◌, ◌≤◌, ◌∷◌, [], ℕ, List};
+ghost use Rattle.std.specs.Prelude.{◌≡◌, ◌-◌, ◌≤◌, ◌∷◌, [], ℕ, List, Option};
 ghost use Rattle.sb_desk.specs.Desks.{Sitting, IsOf};
 ghost use Rattle.sb_outside.specs.Streams.{Gains, Stays};
 ghost use Rattle.sb_server.specs.declared.stage.Guest.{Guest};
 ghost use Rattle.sb_server.specs.declared.stage.Stage.TheVariants.{Wants, Serves};
 ghost use Rattle.sb_server.specs.Doings.{GoesTo, IsDoing, IsDoingInOrder};
+ghost use Rattle.sb_server.specs.Reads.{stand_of};
 ghost use Rattle.sb_server.specs.Stages.{IsAt, IsSound, here_of, stage_behind};
 ghost use Rattle.sb_server.specs.Talks.{Start};
 ghost use Rattle.sb_server.specs.Times.{IsSince};
@@ -24,14 +25,21 @@ use std::alloc::Global;
 use std::mem;
 use std::sync::Wait;
 
-// A receive that waits is asked again behind so many ms, if nothing wakes it before.
+// A call that waits is asked again behind so many ms, if nothing wakes it before.
 const ASKS_EACH_MS: u64 = 1000;
 
 // It is asked again where something comes due in the namespace, at the next multiple of so many ms.
 const DUE_EACH_MS: u64 = 100;
 
-// A response for which there was no memory is tried again behind so many ms.
+// What there was no memory for, a response or what has come, is tried again behind so many ms.
 const TELLS_EACH_MS: u64 = 10;
+
+// A connection gives its reader's memory back once it has rested so many ms, between two requests or in a
+// call that waits.
+const RESTS_MS: u64 = 1000;
+
+// Between two requests it does so at the next multiple of so many ms, at which others of its thread may as well.
+const RESTS_EACH_MS: u64 = 250;
 
 /// Why a worker ended.
 #[derive(Clone, Copy, PartialEq, Eq)]
@@ -141,8 +149,8 @@ fn again_at<N>(stage: &Stage<N>) -> u64 {
     0
 }
 
-// When a receive that waits asks again, and what there was no memory to tell is tried again; what
-// reads or writes goes on once it can.
+// When a call that waits is asked again, and what there was no memory to tell, or to read, is tried again;
+// what writes goes on once it can.
 fn asks_at<V: Served, C: Clock>(clock: &C, desk: &Desk<V>, doing: &Doing) -> u64 {
     match doing {
         Doing::Asks(patience) => {
@@ -151,9 +159,11 @@ fn asks_at<V: Served, C: Clock>(clock: &C, desk: &Desk<V>, doing: &Doing) -> u64
             let due = due_at(desk.soonest(), patience.asked_ms);
             next.min(due).min(end)
         }
-        Doing::Says(_, _, _) | Doing::Tells(_) => clock.now().saturating_add(TELLS_EACH_MS),
+        Doing::Reads | Doing::Says(_, _, _) | Doing::Tells(_) => clock
+            .now()
+            .saturating_add(TELLS_EACH_MS),
         Doing::Calls(_) => 0,
-        Doing::Reads | Doing::Writes(_) => u64::MAX,
+        Doing::Writes(_) => u64::MAX,
     }
 }
 
@@ -243,12 +253,54 @@ fn attend<V: Served, R: Wait, C: Clock, N: Conn>(
     guest.since = since;
     match went {
         Went::On => (pass, None, 0),
-        Went::NothingYet => (pass, None, until),
+        Went::NothingYet => {
+            let again = rest(clock, &mut guest.inbox, since, until);
+            (pass, None, again)
+        }
         Went::Blocked => {
+            rest_asking(&mut guest.inbox, &guest.doing);
             let again = asks_at(clock, desk, &guest.doing).min(until);
             (pass, None, again)
         }
         Went::Over(ending) => (pass, Some(ending), 0),
+    }
+}
+
+// A connection that waits for a request gives its reader's memory back once it has rested. It says at which
+// reading it is to be looked at again, if nothing else happens.
+fn rest<C: Clock>(clock: &C, inbox: &mut Inbox, since: Since, until: u64) -> u64
+    ensures { (left : Option (List ℕ)) → stand_of inbox.new left ≡ stand_of inbox.old left }
+{
+    let Since::Idle(from) = since else {
+        return until;
+    };
+    if !inbox.has_reader() {
+        return until;
+    }
+    let due = rested_at(from);
+    if clock.now() < due {
+        return due.min(until);
+    }
+    inbox.give_back();
+    until
+}
+
+// When a connection has rested that waits for a request since this reading.
+fn rested_at(from: u64) -> u64 {
+    from.saturating_add(RESTS_MS)
+        .div_ceil(RESTS_EACH_MS)
+        .saturating_mul(RESTS_EACH_MS)
+}
+
+// A connection whose call waits gives its reader's memory back once the call has waited so long.
+fn rest_asking(inbox: &mut Inbox, doing: &Doing)
+    ensures { (left : Option (List ℕ)) → stand_of inbox.new left ≡ stand_of inbox.old left }
+{
+    let Doing::Asks(patience) = doing else {
+        return;
+    };
+    if patience.asked_ms.saturating_sub(patience.first_ms) >= RESTS_MS {
+        inbox.give_back();
     }
 }
 

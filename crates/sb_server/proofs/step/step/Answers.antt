@@ -1,6 +1,6 @@
 use Rattle.std.proofs.Common.{sym, subst, ℕ, ◌≤◌, length, rules}
 use Rattle.sb_server.specs.declared.doing.Doing.{Doing}
-use Rattle.sb_server.specs.declared.doing.Doing.TheVariants.{Reads, Calls, Writes}
+use Rattle.sb_server.specs.declared.doing.Doing.TheVariants.{Calls, Writes}
 use Rattle.sb_server.specs.declared.doing.Went.{Went}
 use Rattle.sb_server.specs.declared.script.Script.{Script}
 use Rattle.sb_server.specs.Doings.{IsDoing, IsNext, behind}

@@ -12,7 +12,7 @@ use Rattle.sb_server.proofs.Turning.{Reaches}
 use Rattle.sb_server.proofs.step.wait_on.Goals as goal
 
 pub unreachable-requires : goal.unreachable-requires
-unreachable-requires g c = only_waits c.args.doing.now c.requires.asks (λ p is. c.in_default.not-Asks p (c.replace.ensures.value ∙ is))
+unreachable-requires g c = only_waits c.args.doing.now c.requires.asks (λ p is. c.in_default.not-Asks p (c.replace-old.ensures.value ∙ is))
 
 pub returns-then-watch-clause-steps : goal.returns-then-watch-clause-steps
 returns-then-watch-clause-steps g c = λ s same a.
@@ -21,7 +21,7 @@ returns-then-watch-clause-steps g c = λ s same a.
     let reaches : Reaches h n [] = record { takes = c.watch.ensures.takes; reads = c.watch.ensures.later } in
     subst (λ (d : Doing). IsNext (g.C.Clock.reads c.args.clock.now) s n On d) (sym c.turn.ensures)
     (subst (λ (t : Telling). IsNext (g.C.Clock.reads c.args.clock.now) s n On (Tells t)) (sym c.farewell.ensures)
-    (due_gone (g.C.Clock.reads c.args.clock.now) s h n c.in-Asks.patience (subst (λ (d : Doing). IsDoing (g.C.Clock.reads c.args.clock.now) s h d) (sym c.replace.ensures.value ∙ c.in-Asks.is) a) reaches (c.watch.ensures.gone c.if-watch.true) refl c.watch.ensures.given (omega (arith, c.watch.ensures.writes))))
+    (due_gone (g.C.Clock.reads c.args.clock.now) s h n c.in-Asks.patience (subst (λ (d : Doing). IsDoing (g.C.Clock.reads c.args.clock.now) s h d) (sym c.replace-old.ensures.value ∙ c.in-Asks.is) a) reaches (c.watch.ensures.gone c.if-watch.true) refl c.watch.ensures.given (omega (arith, c.watch.ensures.writes))))
 
 pub returns-clause-steps : goal.returns-clause-steps
 returns-clause-steps g c = λ s same a.
@@ -30,7 +30,7 @@ returns-clause-steps g c = λ s same a.
     let reaches : Reaches h n [] = record { takes = c.watch.ensures.takes; reads = c.watch.ensures.later } in
     subst (λ (w : Went). IsNext (g.C.Clock.reads c.args.clock.now) s n w c.begin.new.doing) (sym c.begin.ensures.went)
     (subst (λ (d : Doing). IsNext (g.C.Clock.reads c.args.clock.now) s n (went_by c.ask_again-pass.result.1) d) (sym c.begin.ensures.doing)
-    (asking_next (g.C.Clock.reads c.args.clock.now) s h n c.in-Asks.patience c.ask_again-pass.result.1 (subst (λ (d : Doing). IsDoing (g.C.Clock.reads c.args.clock.now) s h d) (sym c.replace.ensures.value ∙ c.in-Asks.is) a) reaches c.ask_again-pass.ensures.begins c.watch.ensures.given (omega (arith, c.watch.ensures.writes))))
+    (asking_next (g.C.Clock.reads c.args.clock.now) s h n c.in-Asks.patience c.ask_again-pass.result.1 (subst (λ (d : Doing). IsDoing (g.C.Clock.reads c.args.clock.now) s h d) (sym c.replace-old.ensures.value ∙ c.in-Asks.is) a) reaches c.ask_again-pass.ensures.begins c.watch.ensures.given (omega (arith, c.watch.ensures.writes))))
 
 pub returns-clause-order : goal.returns-clause-order
 returns-clause-order g c = subst IsDoingInOrder (sym c.begin.ensures.doing) (next_in_order c.ask_again-pass.result.1 c.ask_again-pass.ensures.in_order)

@@ -3,6 +3,7 @@ use Rattle.sb_server.specs.declared.doing.Doing.{Doing}
 use Rattle.sb_server.specs.declared.doing.Went.{Went}
 use Rattle.sb_server.specs.declared.stage.Guest.{Guest}
 use Rattle.sb_server.specs.Doings.{IsDoing, IsNext}
+use Rattle.sb_server.specs.Reads.{Stand}
 use Rattle.sb_server.specs.Stages.{here_of}
 use Rattle.sb_server.specs.Talks.{Here}
 use Rattle.sb_server.proofs.work.attend.Goals as goal
@@ -21,7 +22,8 @@ returns-in-NothingYet-clause-goes g c = λ s same limits since i.
     let n : Here = here_of g.N.Conn.left g.N.Conn.given g.N.Conn.reads g.N.Conn.writes c.step-pass.result.0 new in
     let next : IsNext (g.C.Clock.reads c.args.clock.now) s n c.look-went.result.0 c.step-pass.new.doing = c.look-went.ensures.next s n limits refl since (c.step-pass.ensures.steps s same i) in
     let here = subst (λ (w : Went). IsNext (g.C.Clock.reads c.args.clock.now) s n w c.step-pass.new.doing) c.in-NothingYet.is next in
-    subst (λ (d : Doing). IsDoing (g.C.Clock.reads c.args.clock.now) s n d) (sym here.1) here.0.0
+    let talks : IsDoing (g.C.Clock.reads c.args.clock.now) s n c.step-pass.new.doing = subst (λ (d : Doing). IsDoing (g.C.Clock.reads c.args.clock.now) s n d) (sym here.1) here.0.0 in
+    subst (λ (stand : Stand). IsDoing (g.C.Clock.reads c.args.clock.now) s (record n { stand = stand }) c.step-pass.new.doing) (sym (c.rest-again.ensures (g.N.Conn.left c.step-pass.new.conn))) talks
 
 pub returns-in-Blocked-clause-goes : goal.returns-in-Blocked-clause-goes
 returns-in-Blocked-clause-goes g c = λ s same limits since i.
@@ -29,7 +31,7 @@ returns-in-Blocked-clause-goes g c = λ s same limits since i.
     let n : Here = here_of g.N.Conn.left g.N.Conn.given g.N.Conn.reads g.N.Conn.writes c.step-pass.result.0 new in
     let next : IsNext (g.C.Clock.reads c.args.clock.now) s n c.look-went.result.0 c.step-pass.new.doing = c.look-went.ensures.next s n limits refl since (c.step-pass.ensures.steps s same i) in
     let here = subst (λ (w : Went). IsNext (g.C.Clock.reads c.args.clock.now) s n w c.step-pass.new.doing) c.in-Blocked.is next in
-    here
+    subst (λ (stand : Stand). IsDoing (g.C.Clock.reads c.args.clock.now) s (record n { stand = stand }) c.step-pass.new.doing) (sym (c.rest_asking.ensures (g.N.Conn.left c.step-pass.new.conn))) here
 
 pub returns-in-Over-clause-goes : goal.returns-in-Over-clause-goes
 returns-in-Over-clause-goes g c = λ s same limits since i.

@@ -18,3 +18,6 @@ loop-preserved-then-self g c = record {
   later = search rules;
   writes = c.take_one.ensures.writes ∙ c.loop.invariant.writes;
 }
+
+pub returns-then-not-feed_piece-clause-comes : goal.returns-then-not-feed_piece-clause-comes
+returns-then-not-feed_piece-clause-comes g c = takes_to (stand_of c.args.self.now (g.N.Conn.left c.args.conn.now)) [] c.feed_piece.new.self (g.N.Conn.left c.loop.conn) (g.N.Conn.left c.take_one.new.conn) c.take_one.ensures.left (takes_on _ _ _ [] [] (takes_on _ _ _ [] [] c.loop.invariant.takes (takes_of _ _ _ _ [] c.in-NoneYet.ensures.took.0)) (c.feed_piece.ensures (g.N.Conn.left c.loop.conn)))
