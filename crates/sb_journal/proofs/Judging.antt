@@ -1,19 +1,17 @@
 -- Payloads judged one after another, as they are read.
-use Rattle.std.proofs.Common.{◌≡◌, inl, inr, ℕ, ◌+◌, ◌≤◌, ◌<◌, ◌^◌, List, [], ◌∷◌, ◌++◌, length, drop, Option, Some, None, Result, Ok, Err, refl, sym, ◌∙◌, ap, subst, arith, append_assoc, length-append}
+use Rattle.std.proofs.Common.{◌≡◌, ℕ, ◌+◌, ◌≤◌, ◌<◌, ◌^◌, List, [], ◌∷◌, ◌++◌, length, drop, Option, Some, None, Result, Ok, Err, refl, sym, ◌∙◌, ap, subst, arith, length-append}
 use Rattle.std.specs.Prelude.{IfOk}
 use Rattle.sb_journal.specs.declared.judge.Judge.{Ghosts}
 use Rattle.sb_journal.specs.declared.judge.Judged.{Judged}
 use Rattle.sb_journal.specs.declared.found.OpenWhy.{OpenWhy}
-use Rattle.sb_journal.specs.declared.found.OpenWhy.TheVariants.{Damaged as DamagedAt}
-use Rattle.sb_journal.specs.declared.found.Side.{Side}
 use Rattle.sb_journal.specs.declared.found.Side.TheVariants.{A}
 use Rattle.sb_journal.specs.declared.opening.Looked.{Looked}
 use Rattle.sb_journal.specs.declared.reading.Records.{Records}
 use Rattle.sb_journal.specs.declared.reading.Stand.{Stand}
-use Rattle.sb_journal.specs.Text.{max_payload, new_file, new_bytes, records, framed, first_gate, gate_after, AreShort, Ends, IsWithin}
+use Rattle.sb_journal.specs.Text.{max_payload, new_file, new_bytes, records, framed, gate_after, AreShort, Ends, IsWithin}
 use Rattle.sb_journal.specs.Framing.{Uncreated, framing}
-use Rattle.sb_journal.specs.Judges.{IsRefused, IsVerdict}
-use Rattle.sb_journal.specs.Opened.{Opened, Stands, Damage, opened_alone, stand_file, judged_of, IsStand, IsWholeStand, IsJudged, IsDamagedFor, IsRefusedIn, AreRecords, HasRefused}
+use Rattle.sb_journal.specs.Judges.{IsVerdict}
+use Rattle.sb_journal.specs.Opened.{Opened, Stands, opened_alone, stand_file, judged_of, IsStand, IsWholeStand, IsJudged, AreRecords, HasRefused}
 use Rattle.sb_outside.specs.Held.{at_rest}
 use Rattle.sb_journal.proofs.Frames.{length-records_from, AreShort-push}
 use Rattle.sb_journal.proofs.Heads.{gate_after_file, new_rests}
@@ -24,21 +22,6 @@ none_given None other = refl
 none_given (Some x) other = absurd (other x refl)
 
 module _ {J : Type 0} (G : Ghosts J) where
-  -- ---- one payload more
-
-  pub still_refused : (salt start place : ℕ) (before : List (List ℕ)) (p : List ℕ) → IsRefused G salt start place before → IsRefused G salt start place (before ++ p ∷ [])
-  still_refused salt start place before p r = record {
-    before = r.before;
-    payload = r.payload;
-    behind = r.behind ++ p ∷ [];
-    payloads_are = ap (λ (l : List (List ℕ)). l ++ p ∷ []) r.payloads_are ∙ append_assoc r.before (r.payload ∷ r.behind) (p ∷ []);
-    place_is = r.place_is;
-    refused = r.refused;
-  }
-
-  pub now_refused : (salt start place : ℕ) (before : List (List ℕ)) (p : List ℕ) → place ≡ gate_after start before → G.refuses salt before p → IsRefused G salt start place (before ++ p ∷ [])
-  now_refused salt start place before p at refuses = record { before = before; payload = p; behind = []; payloads_are = refl; place_is = at; refused = refuses }
-
   -- ---- the records of a file
 
   -- These were read and judged, and then comes what stands at this place.
@@ -49,16 +32,6 @@ module _ {J : Type 0} (G : Ghosts J) where
     pub short : AreShort payloads
     pub place_is : place ≡ 42 + length (records first payloads)
     pub number_is : number ≡ first + length payloads
-
-  pub none_so_far : (honest : Type 0) (bytes : List ℕ) (salt first : ℕ) (judge : J) → G.taken judge salt [] → IsSoFar honest bytes salt first 42 first judge None
-  none_so_far honest bytes salt first judge taken = record {
-    payloads = [];
-    verdict = taken;
-    text = λ _. refl;
-    short = tt;
-    place_is = refl;
-    number_is = omega arith;
-  }
 
   module _ (honest : Type 0) (bytes : List ℕ) (salt first place number : ℕ) (judge : J) (refused : Option ℕ) (so : IsSoFar honest bytes salt first place number judge refused) where
     pub at_gate : place ≡ gate_after 42 so.payloads
@@ -136,14 +109,3 @@ module _ {J : Type 0} (G : Ghosts J) where
   pub looked_when : (was now : Type 0) (found still : Opened) (r : Result (Looked J) OpenWhy) → (was → now) → (was → found ≡ still) → IfOk r (λ l. IsJudged G now still l.judged) → IfOk r (λ l. IsJudged G was found l.judged)
   looked_when was now found still (Ok l) honest same is = judged_when was now found still l.judged honest same is
   looked_when was now found still (Err e) honest same is = tt
-
-  -- ---- damage
-
-  pub damaged_there : (found : Opened) (place at : ℕ) (side : Side) → found ≡ Damage A place → DamagedAt A place ≡ DamagedAt side at → IsDamagedFor G found side at
-  damaged_there found place at side damage same = inl (let e : Damage A place ≡ Damage side at = cc in damage ∙ e)
-
-  pub refused_there : (bytes : List ℕ) (salt place at : ℕ) (side : Side) → IsRefusedIn G bytes place → DamagedAt A place ≡ DamagedAt side at → IsDamagedFor G (opened_alone salt (framing bytes)) side at
-  refused_there bytes salt place at side refused same =
-      let there : A ≡ side = cc in
-      let here : place ≡ at = cc in
-      inr (refused.0, ap (opened_alone salt) refused.1 ∙ ap (λ (s : Side). Stands s refused.0) there, subst (λ n. IsRefused G refused.0.salt (first_gate refused.0) n refused.0.payloads) here refused.2)

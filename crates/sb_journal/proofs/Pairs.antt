@@ -10,7 +10,7 @@ use Rattle.sb_journal.specs.Framing.{Framing, Uncreated, Occupied, Whole, Damage
 use Rattle.sb_journal.specs.Opened.{Stands, opened_alone, FindsFile, FindsNoneOrAll}
 use Rattle.sb_journal.specs.Crashes.{Stages, IsTornPair, MayLeave, LeavesFound}
 use Rattle.sb_journal.specs.Moments.{EachMoment}
-use Rattle.sb_journal.specs.Disks.{Disks, EachImage, EachPair, KeepFound, AreHonest, AreOurs, AreSynced, AreUnwritten, IsAtRest, AreQuiet, OneFault, HaveFailed, SameHonesty}
+use Rattle.sb_journal.specs.Disks.{Disks, EachImage, EachPair, KeepFound, AreHonest, AreOurs, AreSynced, AreUnwritten, AreQuiet, OneFault, HaveFailed, SameHonesty}
 use Rattle.sb_journal.proofs.Adding.{IsBeforeOrAfter, torn_read}
 use Rattle.sb_journal.proofs.Staging.{stages_read, stages_leave}
 use Rattle.sb_journal.proofs.Finishing.{opening_stays, opening_finishes, ours_there}
@@ -96,7 +96,3 @@ stands_on_a salt Uncreated side f e = cc
 stands_on_a salt Occupied side f e = absurd cc
 stands_on_a salt (Whole g) side f e = cc
 stands_on_a salt (Damaged place) side f e = absurd cc
-
--- a disk that was synced is as it was read
-pub synced_rests : (was later : Disks) (side : Side) → side ≡ A → AreSynced was later → IsAtRest side was later
-synced_rests was later side is synced = subst (λ s. IsAtRest s was later) (sym is) synced.now_is

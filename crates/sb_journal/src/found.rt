@@ -1,10 +1,5 @@
 // What an opening found on its disks, or why it found nothing.
-ghost use Rattle.std.specs.Prelude.{◌≡◌, ◌<◌, ◌^◌};
-ghost use Rattle.sb_journal.specs.Text.{first_gate};
-ghost use Rattle.sb_journal.specs.Opened.{found_file};
-
 use crate::Bytes;
-use crate::reading::HEAD_BYTES;
 
 /// Which of the two disks.
 #[derive(Clone, Copy, PartialEq, Eq)]
@@ -28,14 +23,6 @@ pub struct Found {
     pub base: Bytes,
     /// The payloads of its events, the oldest first.
     pub payloads: Vec<Bytes>,
-}
-
-/// The place of the first gate of the file that was found, in bytes.
-pub fn first_gate(found: &Found) -> u64
-    requires { first_gate (found_file found.now) < 2 ^ 64 }
-    ensures { result ≡ first_gate (found_file found.now) }
-{
-    HEAD_BYTES as u64 + found.base.as_slice().len() as u64
 }
 
 /// Why a journal isn't open.

@@ -34,10 +34,9 @@ mod piece;
 mod reading;
 mod unopened;
 
-pub use append::next_gate;
 pub use collecting::Collecting;
 pub use creating::create;
-pub use found::{Found, OpenFault, OpenWhy, Side, first_gate};
+pub use found::{Found, OpenFault, OpenWhy, Side};
 pub use journal::Journal;
 pub use judge::{Judge, Judged};
 pub use looking::{look, look_by};

@@ -1,5 +1,5 @@
 -- What a journal stands for: the state that its events lead to, or where it is damaged.
-use Rattle.std.specs.Prelude.{◌≡◌, ℕ, ◌+◌, ◌-◌, ◌&&◌, not, Bool, List, [], ◌∷◌, length, nat_le, if◌then◌else◌, Option, Some, None}
+use Rattle.std.specs.Prelude.{◌≡◌, ℕ, ◌+◌, ◌-◌, ◌&&◌, not, Bool, List, [], ◌∷◌, ◌++◌, length, nat_le, if◌then◌else◌, Option, Some, None}
 use Rattle.sb_machine.specs.Answers.{state_of, is_change, max_moment}
 use Rattle.sb_machine.specs.Due.{is_due}
 use Rattle.sb_machine.specs.History.{advanced, is_spent}
@@ -10,7 +10,7 @@ use Rattle.sb_machine.specs.declared.call.Event.{Event}
 use Rattle.sb_machine.specs.declared.call.Event.TheVariants.{Tick, Called}
 use Rattle.sb_machine.specs.declared.state.State.{State}
 use Rattle.sb_codec.specs.EventBytes.{read_event}
-use Rattle.sb_journal.specs.Text.{File, first_gate, next_gate}
+use Rattle.sb_journal.specs.Text.{File, first_gate, next_gate, gate_after}
 use Rattle.sb_journal.specs.Opened.{Opened, Stands, Damage, opened}
 use Rattle.sb_journal.specs.Disks.{Disks}
 use Rattle.sb_journal.specs.declared.found.Side.{Side}
@@ -43,6 +43,14 @@ pub data Replayed : Type 0 where
 abbrev pub replay : State → ℕ → List (List ℕ) → Replayed
 replay s place [] = reaches s
 replay s place (p ∷ ps) = elim (next_state s (read_event p)) [ Some next ↦ replay next (next_gate place p) ps | None ↦ breaks place ]
+
+-- these payloads lead from an empty namespace of this salt to this state, wherever the first one's gate is
+abbrev pub IsReplayed : State → (salt : ℕ) → List (List ℕ) → Type 0
+IsReplayed s salt payloads = (place : ℕ) → replay (empty_state salt) place payloads ≡ reaches s
+
+-- the first that is no changing event is the one behind these, whatever stands behind it
+abbrev pub BreaksReplay : (salt : ℕ) → List (List ℕ) → List ℕ → Type 0
+BreaksReplay salt before payload = (place : ℕ) (behind : List (List ℕ)) → replay (empty_state salt) place (before ++ payload ∷ behind) ≡ breaks (gate_after place before)
 
 -- what an opening recovers
 pub data Recovered : Type 0 where

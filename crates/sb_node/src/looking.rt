@@ -7,7 +7,7 @@ ghost use Rattle.sb_node.specs.Recovery.{recovered_on, damaged};
 
 use crate::recovering::{numbers_of, reached_by};
 use sb_engine::Summary;
-use sb_journal::OpenWhy;
+use sb_journal::{OpenWhy, look_by};
 use sb_outside::Disk;
 use std::alloc::Global;
 
@@ -32,16 +32,12 @@ pub fn look<D: Disk>(
     ensures honesty { SameHonesty (disks_of D.Disk disk_a.old disk_b.old) (disks_of D.Disk disk_a.new disk_b.new) }
     ensures disk_b { disk_b.new ≡ disk_b.old }
 {
-    let found = match sb_journal::look(alloc, disk_a, disk_b, salt) {
-        Ok(found) => found,
+    let judged = match look_by(alloc, disk_a, disk_b, salt) {
+        Ok(judged) => judged,
         Err(why) => return Err(why),
     };
-    match reached_by(alloc, found) {
-        Ok(reached) => {
-            let numbers = numbers_of(&reached.engine, reached.last);
-            drop(reached);
-            Ok(numbers)
-        }
-        Err(why) => Err(why),
-    }
+    let reached = reached_by(judged);
+    let numbers = numbers_of(&reached.engine, reached.last);
+    drop(reached);
+    Ok(numbers)
 }

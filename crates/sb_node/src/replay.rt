@@ -1,33 +1,21 @@
 // Carrying out again what a journal says.
 ghost use Rattle.std.specs.Bool.{MatchBool};
-ghost use Rattle.std.specs.Prelude.{◌≡◌, ◌≢◌, ◌^◌, ◌<◌, ℕ, false, Some, None, IfOk, IfErr, OnOk};
+ghost use Rattle.std.specs.Prelude.{◌≡◌, ◌≢◌, false, Some, None, IfOk, OnOk};
 ghost use Rattle.sb_codec.specs.EventBytes.{read_event};
 ghost use Rattle.sb_engine.specs.Engines.{engine_state, carried_out, IsSound};
-ghost use Rattle.sb_journal.specs.Text.{gate_after};
 ghost use Rattle.sb_laws.specs.Sweepable.{IsSweepable};
-ghost use Rattle.sb_machine.specs.Consistent.{IsConsistent};
 ghost use Rattle.sb_machine.specs.declared.call.Event.TheVariants.{Tick, Called};
 ghost use Rattle.sb_machine.specs.declared.reply.Refusal.TheVariants.{OutOfMemory};
-ghost use Rattle.sb_node.specs.Recovery.{next_state, replay, reaches, breaks};
-ghost use Rattle.sb_node.specs.declared.replay.ReplayFault.TheVariants.{NoEvent};
+ghost use Rattle.sb_node.specs.Recovery.{next_state, IsReplayed, BreaksReplay};
 
 use sb_codec::decode_event;
 use sb_engine::{Engine, Plan};
-use sb_journal::{Bytes, next_gate};
+use sb_journal::Judge;
 use sb_machine::{Call, Event, Refusal};
 use std::alloc::{AllocError, Global};
-use std::collections::VecDeque;
 
 /// The last moment that counts, in ms since 1970.
 pub const MAX_MOMENT: u64 = 253_402_214_400_000;
-
-/// Why a journal wasn't carried out again.
-#[derive(Clone, Copy, PartialEq, Eq)]
-pub enum ReplayFault {
-    /// The record behind the gate at this place is no changing event of the state so far.
-    NoEvent(u64),
-    OutOfMemory,
-}
 
 // What is refused isn't taken, but for want of memory.
 fn untaken(refusal: &Refusal) -> Result<bool, AllocError>
@@ -123,28 +111,25 @@ fn take_payload(alloc: Global, engine: &mut Engine, payload: &[u8]) -> Result<bo
     }
 }
 
-/// Carries these payloads out, one after another, and lets each go then; `place` is that of the
-/// first one's gate.
-pub fn replay_all(
-    alloc: Global,
-    engine: &mut Engine,
-    place: u64,
-    payloads: Vec<Bytes>,
-) -> Result<(), ReplayFault>
-    requires gates { gate_after place payloads.items < 2 ^ 64 }
-    requires consistent { IsConsistent (engine_state engine.old) }
-    ensures ok { OnOk result (replay (engine_state engine.old) place payloads.items ≡ reaches (engine_state engine.new)) }
-    ensures broken { IfErr result (λ e. (n : ℕ) → e ≡ NoEvent n → replay (engine_state engine.old) place payloads.items ≡ breaks n) }
-{
-    let mut left = VecDeque::from_vec(payloads);
-    let mut gate = place;
-    while let Some(payload) = left.pop_front() {
-        let bytes = payload.as_slice();
-        match take_payload(alloc, engine, bytes) {
-            Ok(true) => gate = next_gate(gate, bytes),
-            Ok(false) => return Err(ReplayFault::NoEvent(gate)),
-            Err(_) => return Err(ReplayFault::OutOfMemory),
+/// An engine that carries out what a journal says while it is read, and lets each payload go then. It takes
+/// the events that change its state, in order.
+#[derive(Drop)]
+pub(crate) struct Replaying {
+    pub(crate) engine: Engine,
+}
+
+impl Judge for Replaying {
+    ghost taken = { λ r salt payloads. IsReplayed (engine_state r.engine) salt payloads };
+
+    ghost refuses = { λ salt before payload. BreaksReplay salt before payload };
+
+    fn begin(alloc: Global, salt: u64) -> Self {
+        Replaying {
+            engine: Engine::new(alloc, salt),
         }
     }
-    Ok(())
+
+    fn take(&mut self, alloc: Global, payload: &[u8]) -> Result<bool, AllocError> {
+        take_payload(alloc, &mut self.engine, payload)
+    }
 }
