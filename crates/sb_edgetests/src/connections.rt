@@ -1,14 +1,17 @@
 // What no contract says of connections over streams: which answers of a stream are a fault, what a real socket
-// does whose other side ends, falls silent or is gone, and what a log tells of a call.
+// does whose other side ends, falls silent or is gone, and what a log tells of a call. Doors and connections are
+// lent, and dropped by calls: so the proofs of the tests stay short.
 ghost use Rattle.std.specs.Prelude.{◌≤◌, IfOk};
 
 use sb_outside::{
     Conn, Connected, Door, Given, Listening, Logging, MemConn, MemDoor, MemSink, MemSource,
     asked_words, call_line,
 };
+use std::alloc::Global;
 use std::io;
 use std::io::{ErrorKind, Read, Write};
 use std::net::{Ipv4Addr, OpenStream, TcpListener, TcpStream};
+use std::process::Abort;
 use std::test::Fail;
 use std::time::Duration;
 
@@ -59,6 +62,19 @@ impl Write for Scripted<'_> {
     }
 }
 
+fn read_twice<N: Conn>(rt: &impl Abort, conn: &mut N, counts: [Option<usize>; 2]) {
+    let mut piece = [0u8; 4];
+    for wanted in counts {
+        assert!(rt; conn.read(&mut piece).unwrap_or(None) == wanted);
+    }
+}
+
+fn write_twice<N: Conn>(rt: &impl Abort, conn: &mut N, counts: [Option<usize>; 2]) {
+    for wanted in counts {
+        assert!(rt; conn.write(&[0u8; 4]).unwrap_or(None) == wanted);
+    }
+}
+
 // Each row: what the stream answers, and what comes of two reads of up to four bytes, and of two writes of
 // four; no number is a fault. A silent caller's time is over with `WouldBlock`.
 #[test]
@@ -93,14 +109,11 @@ fn a_stream_fails(rt: HostRuntime) -> Result<(), Fail> {
     ];
     for (steps, reads, writes) in rows {
         let mut conn = Connected::new(Scripted { steps, call: 0 });
-        let mut piece = [0u8; 4];
-        for wanted in reads {
-            assert!(rt; conn.read(&mut piece).unwrap_or(None) == wanted);
-        }
+        read_twice(&rt, &mut conn, reads);
+        drop(conn);
         let mut conn = Connected::new(Scripted { steps, call: 0 });
-        for wanted in writes {
-            assert!(rt; conn.write(&piece).unwrap_or(None) == wanted);
-        }
+        write_twice(&rt, &mut conn, writes);
+        drop(conn);
     }
     Ok(())
 }
@@ -127,19 +140,71 @@ where
     }
 }
 
+// The next connection and the stream of its other side.
+fn connected<D: Door>(
+    rt: &HostRuntime,
+    door: &mut D,
+    port: u16,
+) -> Result<(D::Conn, TcpStream), Fail>
+where
+    D::Conn: Drop,
+    ensures { IfOk result (λ _. 1 ≤ D.out door.new) }
+{
+    let other = TcpStream::connect(rt, (Ipv4Addr::LOCALHOST, port))?;
+    match next(door) {
+        Ok(conn) => Ok((conn, other)),
+        Err(fail) => {
+            drop(other);
+            Err(fail)
+        }
+    }
+}
+
+fn ends_in_the_midst<A: Abort, D: Door>(
+    rt: &HostRuntime,
+    end: &A,
+    door: &mut D,
+    port: u16,
+) -> Result<(), Fail>
+where
+    D::Conn: Drop,
+{
+    let (mut conn, mut other) = connected(rt, door, port)?;
+    let mut piece = [0u8; 8];
+    assert!(end; other.write_all(b"GET").is_ok());
+    assert!(end; conn.read(&mut piece) == Ok(Some(3)));
+    assert!(end; conn.write(b"bye") == Ok(Some(3)));
+    assert!(end; other.read(&mut piece).is_ok_and(|count| count == 3));
+    drop(other);
+    assert!(end; conn.read(&mut piece) == Ok(Some(0)));
+    door.done(conn);
+    Ok(())
+}
+
 #[test]
 fn a_caller_ends_in_the_midst(rt: HostRuntime) -> Result<(), Fail> {
     let (listener, port) = bound(&rt)?;
     let mut door = Listening::new(listener, &rt);
-    let mut other = TcpStream::connect(&rt, (Ipv4Addr::LOCALHOST, port))?;
-    let mut conn = next(&mut door)?;
-    let mut piece = [0u8; 8];
-    other.write_all(b"GET")?;
-    assert!(rt; conn.read(&mut piece) == Ok(Some(3)));
-    assert!(rt; conn.write(b"bye") == Ok(Some(3)));
-    assert_eq!(rt; other.read(&mut piece)?, 3);
+    let ended = ends_in_the_midst(&rt, &rt, &mut door, port);
+    drop(door);
+    ended
+}
+
+fn is_gone<A: Abort, D: Door>(
+    rt: &HostRuntime,
+    end: &A,
+    door: &mut D,
+    port: u16,
+) -> Result<(), Fail>
+where
+    D::Conn: Drop,
+{
+    let (mut conn, other) = connected(rt, door, port)?;
+    assert!(end; conn.write(b"unread") == Ok(Some(6)));
     drop(other);
-    assert!(rt; conn.read(&mut piece) == Ok(Some(0)));
+    assert!(end; conn.read(&mut [0u8; 8]).is_err());
+    let _ = conn.write(b"more");
+    assert!(end; conn.write(b"more").is_err());
     door.done(conn);
     Ok(())
 }
@@ -149,27 +214,48 @@ fn a_caller_ends_in_the_midst(rt: HostRuntime) -> Result<(), Fail> {
 fn a_caller_is_gone(rt: HostRuntime) -> Result<(), Fail> {
     let (listener, port) = bound(&rt)?;
     let mut door = Listening::new(listener, &rt);
-    let other = TcpStream::connect(&rt, (Ipv4Addr::LOCALHOST, port))?;
-    let mut conn = next(&mut door)?;
-    assert!(rt; conn.write(b"unread") == Ok(Some(6)));
-    drop(other);
-    assert!(rt; conn.read(&mut [0u8; 8]).is_err());
-    let _ = conn.write(b"more");
-    assert!(rt; conn.write(b"more").is_err());
-    door.done(conn);
-    Ok(())
+    let gone = is_gone(&rt, &rt, &mut door, port);
+    drop(door);
+    gone
 }
 
 #[test]
 fn a_caller_is_silent(rt: HostRuntime) -> Result<(), Fail> {
     let (listener, port) = bound(&rt)?;
-    let other = TcpStream::connect(&rt, (Ipv4Addr::LOCALHOST, port))?;
-    other.set_read_timeout(Some(Duration::from_millis(20)))?;
+    let Ok(other) = TcpStream::connect(&rt, (Ipv4Addr::LOCALHOST, port)) else {
+        panic!(rt; "no connection")
+    };
+    assert!(rt;
+        other
+            .set_read_timeout(Some(Duration::from_millis(20)))
+            .is_ok()
+    );
     let mut conn = Connected::new(other);
     assert!(rt; conn.read(&mut [0u8; 8]).is_err());
     assert!(rt; conn.write(b"still here") == Ok(Some(10)));
+    drop(conn);
     drop(listener);
     Ok(())
+}
+
+// The line of a call that takes 1,500 microseconds.
+fn line_of(
+    alloc: Global,
+    at_ms: u64,
+    asked: (&[u8], &[u8]),
+    response: &[u8],
+) -> Result<String, Fail> {
+    let words = asked_words(alloc, asked.0, asked.1)?;
+    let at = Duration::from_millis(at_ms);
+    let line = call_line(
+        alloc,
+        at,
+        words.as_str(),
+        response,
+        Duration::from_micros(1500),
+    );
+    drop(words);
+    Ok(line?)
 }
 
 #[test]
@@ -205,33 +291,54 @@ fn a_log_has_a_line(rt: HostRuntime) -> Result<(), Fail> {
         ),
     ];
     for (at_ms, method, path, response, wanted) in rows {
-        let words = asked_words(rt.alloc(), method, path)?;
-        let at = Duration::from_millis(at_ms);
-        let passed = Duration::from_micros(1500);
-        let line = call_line(rt.alloc(), at, words.as_str(), response, passed)?;
+        let line = line_of(rt.alloc(), at_ms, (method, path), response)?;
         assert_eq!(rt; line.as_str(), wanted);
     }
+    Ok(())
+}
+
+// A door with one connection, whose other side sends two bytes.
+fn door_of_one(alloc: Global) -> Result<MemDoor, Fail> {
+    let sent = b"hi".to_vec(alloc)?;
+    let sink = MemSink::new(alloc, 8, Vec::new(alloc))?;
+    let conn = MemConn::new(MemSource::new(sent, 8, Vec::new(alloc)), sink);
+    let given = vec![in alloc; conn]?;
+    Ok(MemDoor::new(alloc, given, Vec::new(alloc))?)
+}
+
+// Whether a door has given its last connection.
+fn is_over<D: Door>(door: &mut D) -> bool
+where
+    D::Conn: Drop,
+{
+    matches!(door.accept(), Ok(Given::End))
+}
+
+// Serves the one connection of a door.
+fn serves_one<D: Door>(rt: &impl Abort, door: &mut D) -> Result<(), Fail>
+where
+    D::Conn: Drop,
+{
+    let mut conn = next(door)?;
+    let mut piece = [0u8; 8];
+    assert!(rt; conn.read(&mut piece) == Ok(Some(2)));
+    conn.asked(b"GET", b"/");
+    conn.answered(b"HTTP/1.1 200 OK\r\n\r\n");
+    conn.answered(b"HTTP/1.1 400 Bad Request\r\n\r\n");
+    assert!(rt; conn.write(b"reply") == Ok(Some(5)));
+    door.done(conn);
+    assert!(rt; is_over(door));
     Ok(())
 }
 
 #[test]
 fn a_log_changes_nothing(rt: HostRuntime) -> Result<(), Fail> {
     for is_on in [false, true] {
-        let source = MemSource::new(b"hi".to_vec(rt.alloc())?, 8, Vec::new(rt.alloc()));
-        let sink = MemSink::new(rt.alloc(), 8, Vec::new(rt.alloc()))?;
-        let mut given = Vec::new(rt.alloc());
-        given.push(MemConn::new(source, sink))?;
-        let door = MemDoor::new(rt.alloc(), given, Vec::new(rt.alloc()))?;
+        let door = door_of_one(rt.alloc())?;
         let mut door = Logging::new(door, rt.alloc(), &rt, is_on);
-        let mut conn = next(&mut door)?;
-        let mut piece = [0u8; 8];
-        assert!(rt; conn.read(&mut piece) == Ok(Some(2)));
-        conn.asked(b"GET", b"/");
-        conn.answered(b"HTTP/1.1 200 OK\r\n\r\n");
-        conn.answered(b"HTTP/1.1 400 Bad Request\r\n\r\n");
-        assert!(rt; conn.write(b"reply") == Ok(Some(5)));
-        door.done(conn);
-        assert!(rt; matches!(door.accept(), Ok(Given::End)));
+        let served = serves_one(&rt, &mut door);
+        drop(door);
+        served?;
     }
     Ok(())
 }

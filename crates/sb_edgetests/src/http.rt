@@ -5,35 +5,53 @@ mod streams;
 mod whole;
 
 use sb_http::{HttpFault, Incoming, Request, Version};
-use std::alloc::Global;
+use std::alloc::{AllocError, Global};
 use std::process::Abort;
+use std::slice;
 use std::test::Fail;
 
 // A row's stream: `|` stands for CR LF, `^` for CR alone and `~` for LF alone.
 fn stream_of(alloc: Global, row: &str) -> Result<Vec<u8>, Fail> {
     let mut stream = Vec::new(alloc);
-    for byte in row.as_bytes() {
-        match *byte {
-            b'|' => stream.extend_from_slice(b"\r\n")?,
-            b'^' => stream.push(b'\r')?,
-            b'~' => stream.push(b'\n')?,
-            other => stream.push(other)?,
-        }
-    }
+    add_row(&mut stream, row)?;
     Ok(stream)
 }
 
-// A request as `METHOD target version body;`.
-fn tell(out: &mut Vec<u8>, request: &Request) -> Result<(), Fail> {
-    out.extend_from_slice(request.method)?;
-    out.push(b' ')?;
-    out.extend_from_slice(request.target)?;
-    match request.version {
-        Version::Http10 => out.extend_from_slice(b" 1.0 ")?,
-        Version::Http11 => out.extend_from_slice(b" 1.1 ")?,
+// The bytes that a sign of a row stands for.
+fn bytes_of(sign: &u8) -> &[u8] {
+    match *sign {
+        b'|' => b"\r\n",
+        b'^' => b"\r",
+        b'~' => b"\n",
+        _ => slice::from_ref(sign),
     }
-    out.extend_from_slice(request.body)?;
-    out.push(b';')?;
+}
+
+// Puts the stream of a row behind another.
+fn add_row(stream: &mut Vec<u8>, row: &str) -> Result<(), AllocError> {
+    for sign in row.as_bytes() {
+        stream.extend_from_slice(bytes_of(sign))?;
+    }
+    Ok(())
+}
+
+// A request as `METHOD target version body;`.
+fn tell(out: &mut Vec<u8>, request: &Request) -> Result<(), AllocError> {
+    let version = match request.version {
+        Version::Http10 => b" 1.0 ",
+        Version::Http11 => b" 1.1 ",
+    };
+    let parts: [&[u8]; 6] = [
+        request.method,
+        b" ",
+        request.target,
+        version,
+        request.body,
+        b";",
+    ];
+    for part in parts {
+        out.extend_from_slice(part)?;
+    }
     Ok(())
 }
 
@@ -59,31 +77,63 @@ fn end_of(fault: HttpFault) -> &'static str {
 
 // The end of a stream: the fault, or `+` and how many bytes are left.
 fn tell_end(alloc: Global, out: &mut Vec<u8>, incoming: &mut Incoming) -> Result<(), Fail> {
-    match incoming.next_request() {
-        Err(fault) => out.extend_from_slice(end_of(fault).as_bytes())?,
-        Ok(_) => {
-            out.push(b'+')?;
-            let left = incoming.left().to_string(alloc)?;
-            out.extend_from_slice(left.as_bytes())?;
-        }
+    if let Err(fault) = incoming.next_request() {
+        out.extend_from_slice(end_of(fault).as_bytes())?;
+        return Ok(());
     }
+    let left = format!(in alloc; "+{}", incoming.left())?;
+    out.extend_from_slice(left.as_bytes())?;
     Ok(())
 }
 
-// What a stream comes to that is fed in pieces of so many bytes.
-fn told(alloc: Global, stream: &[u8], size: usize) -> Result<Vec<u8>, Fail> {
-    let mut incoming = Incoming::new(alloc)?;
-    let mut out = Vec::new(alloc);
+// Feeds a stream in pieces of so many bytes, and tells what it comes to.
+fn tell_stream(
+    alloc: Global,
+    out: &mut Vec<u8>,
+    incoming: &mut Incoming,
+    stream: &[u8],
+    size: usize,
+) -> Result<(), Fail> {
     let mut at: usize = 0;
     for _ in 0..2_000_000 {
-        if take_all(&mut out, &mut incoming)?.is_some() || at >= stream.len() {
+        if take_all(out, incoming)?.is_some() || at >= stream.len() {
             break;
         }
         let end = at.saturating_add(size).min(stream.len());
         at = at.saturating_add(incoming.feed(&stream[at..end]));
     }
-    tell_end(alloc, &mut out, &mut incoming)?;
+    tell_end(alloc, out, incoming)
+}
+
+// The same over a buffer of its own, which is dropped by a call: where it is held there is no other way out,
+// so that the proofs stay short.
+fn tell_anew(alloc: Global, out: &mut Vec<u8>, stream: &[u8], size: usize) -> Result<(), Fail> {
+    let mut incoming = Incoming::new(alloc)?;
+    let told = tell_stream(alloc, out, &mut incoming, stream, size);
+    drop(incoming);
+    told
+}
+
+// What a stream comes to that is fed in pieces of so many bytes.
+fn told(alloc: Global, stream: &[u8], size: usize) -> Result<Vec<u8>, Fail> {
+    let mut out = Vec::new(alloc);
+    tell_anew(alloc, &mut out, stream, size)?;
     Ok(out)
+}
+
+// The stream of a row behind a front comes to this, however it is cut.
+fn try_row(
+    rt: &impl Abort,
+    alloc: Global,
+    stream: &[u8],
+    wanted: &[u8],
+    row: &str,
+) -> Result<(), Fail> {
+    for size in [1, 2, 7, 4096] {
+        let out = told(alloc, stream, size)?;
+        assert_eq!(rt; out.as_slice(), wanted, "of {row} by {size}");
+    }
+    Ok(())
 }
 
 // Behind a front, the stream of each row, a line `STREAM => OUTCOME`, comes to its outcome, however it
@@ -92,13 +142,9 @@ fn try_rows(rt: &impl Abort, alloc: Global, front: &str, rows: &str) -> Result<(
     for line in rows.lines() {
         let (row, outcome) = line.split_once(" => ").ok_or("no outcome")?;
         let mut stream = stream_of(alloc, front)?;
-        let behind = stream_of(alloc, row)?;
-        stream.extend_from_slice(&behind)?;
+        add_row(&mut stream, row)?;
         let wanted = stream_of(alloc, outcome)?;
-        for size in [1, 2, 7, 4096] {
-            let out = told(alloc, &stream, size)?;
-            assert_eq!(rt; out.as_slice(), wanted.as_slice(), "of {row} by {size}");
-        }
+        try_row(rt, alloc, &stream, &wanted, row)?;
     }
     Ok(())
 }

@@ -1,4 +1,5 @@
-// The journal run on a disk in memory that fails where it is told to.
+// The journal run on a disk in memory that fails where it is told to. Disks, journals and what was found are
+// dropped by calls, where little else is held: so the proofs of the tests stay short.
 ghost use Rattle.std.specs.Prelude.{◌≡◌, length, false, IfOk};
 ghost use Rattle.sb_journal.specs.Journals.{has_failed};
 
@@ -13,8 +14,25 @@ fn disk_of(alloc: Global, bytes: &[u8]) -> Result<MemDisk, AllocError> {
     MemDisk::new(alloc, bytes.to_vec(alloc)?, Vec::new(alloc))
 }
 
+// A disk without bytes whose call of this number fails.
+fn failing_disk(alloc: Global, call: u64) -> Result<MemDisk, Fail> {
+    let failing = vec![in alloc; call]?;
+    Ok(MemDisk::new(alloc, Vec::new(alloc), failing)?)
+}
+
+// This disk, and an empty one.
+fn with_empty(alloc: Global, a: MemDisk) -> Result<(MemDisk, MemDisk), Fail> {
+    match disk_of(alloc, &[]) {
+        Ok(b) => Ok((a, b)),
+        Err(error) => {
+            drop(a);
+            Err(Fail::from(error))
+        }
+    }
+}
+
 // The journal that stands on these disks, and what it was opened with.
-fn opened(
+fn opened_on(
     alloc: Global,
     a: MemDisk,
     b: MemDisk,
@@ -31,16 +49,74 @@ fn opened(
     }
 }
 
-// Why no journal stands on a disk with these bytes.
-fn fault_of(alloc: Global, bytes: Vec<u8>) -> Result<OpenFault<MemDisk>, Fail> {
+// The same, where the second disk is empty.
+fn opened(alloc: Global, a: MemDisk, salt: u64) -> Result<(Journal<MemDisk>, Found), Fail>
+    ensures { IfOk result (λ x. has_failed x.0 ≡ false) }
+{
+    let (a, b) = with_empty(alloc, a)?;
+    opened_on(alloc, a, b, salt)
+}
+
+// The journal alone.
+fn journal_on(alloc: Global, a: MemDisk, salt: u64) -> Result<Journal<MemDisk>, Fail>
+    ensures { IfOk result (λ j. has_failed j ≡ false) }
+{
+    let (journal, found) = opened(alloc, a, salt)?;
+    drop(found);
+    Ok(journal)
+}
+
+// What was found alone.
+fn found_on(alloc: Global, a: MemDisk, salt: u64) -> Result<Found, Fail> {
+    let (journal, found) = opened(alloc, a, salt)?;
+    drop(journal);
+    Ok(found)
+}
+
+// Whether these payloads were found, and no others.
+fn has_payloads(found: &Found, wanted: &[&[u8]]) -> bool {
+    for (i, payload) in found.payloads.iter().enumerate() {
+        match wanted.get(i) {
+            Some(bytes) if payload.as_slice() == *bytes => {}
+            _ => return false,
+        }
+    }
+    found.payloads.len() == wanted.len()
+}
+
+// The first disk of a journal, which is closed.
+fn closed(journal: Journal<MemDisk>) -> MemDisk {
+    let (a, b) = journal.close();
+    drop(b);
+    a
+}
+
+// Why a journal isn't open, how many bytes its first disk has, and how many of that disk's calls failed.
+fn told_of(fault: OpenFault<MemDisk>) -> (OpenWhy, usize, u64) {
+    let OpenFault {
+        disk_a,
+        disk_b,
+        why,
+    } = fault;
+    drop(disk_b);
+    let (length, faults) = (disk_a.bytes().len(), disk_a.faults());
+    drop(disk_a);
+    (why, length, faults)
+}
+
+// Why no journal stands on a disk with these bytes, and how many it has then.
+fn fault_of(alloc: Global, bytes: Vec<u8>) -> Result<(OpenWhy, usize), Fail> {
     let a = MemDisk::new(alloc, bytes, Vec::new(alloc))?;
-    let b = disk_of(alloc, &[])?;
+    let (a, b) = with_empty(alloc, a)?;
     match Journal::open(alloc, a, b, SALT) {
         Ok(both) => {
             drop(both);
             Err(Fail::from("read on"))
         }
-        Err(fault) => Ok(fault),
+        Err(fault) => {
+            let (why, length, _) = told_of(fault);
+            Ok((why, length))
+        }
     }
 }
 
@@ -51,33 +127,55 @@ const NEW_FILE: [u8; 43] = [
     0x18, 0, 0, 0, 0, 0, 0, 0, 1, 0, 0, 0, 0, 0, 0, 0, 1, 0, 0, 0, 0, 0, 0, 0, 0, 0,
 ];
 
-#[test]
-fn makes_a_file_and_reads_it_back(rt: HostRuntime) -> Result<(), Fail> {
-    let alloc = rt.alloc();
-    let (mut journal, found) = opened(alloc, disk_of(alloc, &[])?, disk_of(alloc, &[])?, SALT)?;
-    assert_eq!(rt; found.payloads.len(), 0);
-    assert_eq!(rt; found.generation, 1);
-    drop(found);
+// The disks of a new journal with two records.
+fn two_records(rt: &impl Abort, alloc: Global) -> Result<(MemDisk, MemDisk), Fail> {
+    let (mut journal, found) = opened(alloc, disk_of(alloc, &[])?, SALT)?;
+    assert!(rt; has_payloads(&found, &[]));
+    assert_eq!(rt; generation_of(found), 1);
     assert!(rt; journal.append(b"one") == Ok(1));
     assert!(rt; journal.append(b"") == Ok(2));
     assert_eq!(rt; journal.faults(), 0);
-    let (a, b) = journal.close();
+    Ok(journal.close())
+}
+
+fn generation_of(found: Found) -> u64 {
+    let generation = found.generation;
+    drop(found);
+    generation
+}
+
+fn salt_of(found: Found) -> u64 {
+    let salt = found.salt;
+    drop(found);
+    salt
+}
+
+#[test]
+fn makes_a_file_and_reads_it_back(rt: HostRuntime) -> Result<(), Fail> {
+    let alloc = rt.alloc();
+    let (a, b) = two_records(&rt, alloc)?;
     assert_eq!(rt; a.bytes().len(), 72);
     assert!(rt; a.bytes().starts_with(&NEW_FILE[..42]));
-    let (journal, found) = opened(alloc, a, b, 5)?;
+    let (journal, found) = opened_on(alloc, a, b, 5)?;
     drop(journal);
-    assert_eq!(rt; found.salt, SALT);
-    assert_eq!(rt; found.payloads.len(), 2);
-    assert_eq!(rt; found.payloads[0].as_slice(), b"one".as_slice());
-    assert_eq!(rt; found.payloads[1].as_slice(), b"".as_slice());
-    drop(found);
+    assert!(rt; has_payloads(&found, &[b"one".as_slice(), b"".as_slice()]));
+    assert_eq!(rt; salt_of(found), SALT);
     Ok(())
+}
+
+// A new file with one record, in which one byte is another.
+fn changed_file(alloc: Global, place: usize, byte: u8) -> Result<Vec<u8>, AllocError> {
+    let record = [1, 0, 0, 0, 1, 0, 0, 0, 0, 0, 0, 0, 1, b'x', 0];
+    let mut bytes = NEW_FILE[..42].to_vec(alloc)?;
+    bytes.extend_from_slice(&record)?;
+    if place < bytes.len() {
+        bytes[place] = byte;
+    }
+    Ok(bytes)
 }
 
 #[test]
 fn tells_the_place_of_damage(rt: HostRuntime) -> Result<(), Fail> {
-    let alloc = rt.alloc();
-    let record = [1, 0, 0, 0, 1, 0, 0, 0, 0, 0, 0, 0, 1, b'x', 0];
     let cases = [
         (0, 0, 0),
         (0, b'X', 0),
@@ -90,18 +188,10 @@ fn tells_the_place_of_damage(rt: HostRuntime) -> Result<(), Fail> {
         (54, 9, 42),
     ];
     for (place, byte, damage) in cases {
-        let mut bytes = NEW_FILE[..42].to_vec(alloc)?;
-        bytes.extend_from_slice(&record)?;
-        if place < bytes.len() {
-            bytes[place] = byte;
-        }
-        let fault = fault_of(alloc, bytes)?;
-        assert!(rt;
-            fault.why == OpenWhy::Damaged(Side::A, damage),
-            "at {place}"
-        );
-        assert_eq!(rt; fault.disk_a.bytes().len(), 57);
-        drop(fault);
+        let bytes = changed_file(rt.alloc(), place, byte)?;
+        let (why, length) = fault_of(rt.alloc(), bytes)?;
+        assert!(rt; why == OpenWhy::Damaged(Side::A, damage), "at {place}");
+        assert_eq!(rt; length, 57);
     }
     Ok(())
 }
@@ -120,50 +210,63 @@ const FOURTH: usize = 42 + 3 * 900_013;
 fn long_file(rt: &impl Abort, alloc: Global, long: &[u8]) -> Result<MemDisk, Fail>
     requires { length long.now ≡ 900000 }
 {
-    let (mut journal, found) = opened(alloc, disk_of(alloc, &[])?, disk_of(alloc, &[])?, SALT)?;
-    drop(found);
+    let mut journal = journal_on(alloc, disk_of(alloc, &[])?, SALT)?;
     assert!(rt; journal.append(long) == Ok(1));
     assert!(rt; journal.append(long) == Ok(2));
     assert!(rt; journal.append(long) == Ok(3));
     assert!(rt; journal.append(b"four") == Ok(4));
-    let (a, b) = journal.close();
-    drop(b);
-    Ok(a)
+    Ok(closed(journal))
+}
+
+// The bytes of that file with another number in its fourth record.
+fn changed_long_file(rt: &impl Abort, alloc: Global, long: &[u8]) -> Result<Vec<u8>, Fail>
+    requires { length long.now ≡ 900000 }
+{
+    let a = long_file(rt, alloc, long)?;
+    let copied = a.bytes().to_vec(alloc);
+    drop(a);
+    let mut bytes = copied?;
+    // The last byte of its number.
+    if let Some(byte) = bytes.get_mut(FOURTH + 12) {
+        *byte = 9;
+    }
+    Ok(bytes)
 }
 
 #[test]
 fn reads_a_file_of_several_pieces(rt: HostRuntime) -> Result<(), Fail> {
     let alloc = rt.alloc();
     let long = sevens(alloc, 900_000)?;
-    let a = long_file(&rt, alloc, &long)?;
-    let mut bytes = a.bytes().to_vec(alloc)?;
-    let (journal, found) = opened(alloc, a, disk_of(alloc, &[])?, SALT)?;
-    drop(journal);
-    assert_eq!(rt; found.payloads.len(), 4);
-    assert!(rt; found.payloads[2].as_slice() == long.as_slice());
-    assert_eq!(rt; found.payloads[3].as_slice(), b"four".as_slice());
+    let found = found_on(alloc, long_file(&rt, alloc, &long)?, SALT)?;
+    let wanted: [&[u8]; 4] = [&long, &long, &long, b"four"];
+    assert!(rt; has_payloads(&found, &wanted));
     drop(found);
-    // The last byte of its number.
-    if let Some(byte) = bytes.get_mut(FOURTH + 12) {
-        *byte = 9;
-    }
-    let fault = fault_of(alloc, bytes)?;
-    assert!(rt; fault.why == OpenWhy::Damaged(Side::A, FOURTH as u64));
-    drop(fault);
+    let bytes = changed_long_file(&rt, alloc, &long)?;
+    let (why, _) = fault_of(alloc, bytes)?;
+    assert!(rt; why == OpenWhy::Damaged(Side::A, FOURTH as u64));
     Ok(())
+}
+
+// A new file whose end gate is torn.
+fn torn_disk(alloc: Global) -> Result<MemDisk, AllocError> {
+    let mut bytes = NEW_FILE[..42].to_vec(alloc)?;
+    bytes.extend_from_slice(&[7, 1, 2, 3])?;
+    MemDisk::new(alloc, bytes, Vec::new(alloc))
+}
+
+fn disk_of_found(found: Found) -> Side {
+    let disk = found.disk;
+    drop(found);
+    disk
 }
 
 #[test]
 fn closes_a_torn_end(rt: HostRuntime) -> Result<(), Fail> {
     let alloc = rt.alloc();
-    let mut bytes = NEW_FILE[..42].to_vec(alloc)?;
-    bytes.extend_from_slice(&[7, 1, 2, 3])?;
-    let (journal, found) = opened(alloc, disk_of(alloc, &bytes)?, disk_of(alloc, &[])?, 5)?;
-    assert!(rt; found.disk == Side::A);
-    assert_eq!(rt; found.payloads.len(), 0);
-    drop(found);
-    let (a, b) = journal.close();
-    drop(b);
+    let (journal, found) = opened(alloc, torn_disk(alloc)?, 5)?;
+    assert!(rt; has_payloads(&found, &[]));
+    assert!(rt; disk_of_found(found) == Side::A);
+    let a = closed(journal);
     assert_eq!(rt; a.bytes().len(), 46);
     assert!(rt; a.bytes().starts_with(&NEW_FILE));
     assert!(rt; a.bytes().ends_with(&[0, 1, 2, 3]));
@@ -175,28 +278,34 @@ fn closes_a_torn_end(rt: HostRuntime) -> Result<(), Fail> {
 // write 01, sync; and four for a record. How many bytes it has where one of them failed.
 const LENGTHS: [usize; 15] = [0, 0, 0, 0, 0, 1, 1, 1, 43, 43, 43, 43, 59, 59, 59];
 
+// How many bytes the disk of a journal has whose first append fails.
+fn length_after_append(rt: &impl Abort, journal: Journal<MemDisk>) -> usize
+    requires { has_failed journal ≡ false }
+{
+    let mut journal = journal;
+    assert!(rt; journal.append(b"one").is_err());
+    assert_eq!(rt; journal.faults(), 1);
+    let a = closed(journal);
+    let length = a.bytes().len();
+    drop(a);
+    length
+}
+
 // How many bytes the disk has whose call of this number failed, in the opening if it is one of the
 // first eleven, else in the first append.
 fn length_after(rt: &impl Abort, alloc: Global, call: u64) -> Result<usize, Fail> {
-    let a = MemDisk::new(alloc, Vec::new(alloc), vec![in alloc; call]?)?;
-    match Journal::open(alloc, a, disk_of(alloc, &[])?, SALT) {
-        Ok((mut journal, found)) => {
+    let (a, b) = with_empty(alloc, failing_disk(alloc, call)?)?;
+    match Journal::open(alloc, a, b, SALT) {
+        Ok((journal, found)) => {
             drop(found);
             assert!(rt; call >= 11);
-            assert!(rt; journal.append(b"one").is_err());
-            assert_eq!(rt; journal.faults(), 1);
-            let (a, b) = journal.close();
-            drop(b);
-            let length = a.bytes().len();
-            drop(a);
-            Ok(length)
+            Ok(length_after_append(rt, journal))
         }
         Err(fault) => {
+            let (why, length, faults) = told_of(fault);
             assert!(rt; call < 11);
-            assert!(rt; fault.why == OpenWhy::DiskFault);
-            assert_eq!(rt; fault.disk_a.faults(), 1);
-            let length = fault.disk_a.bytes().len();
-            drop(fault);
+            assert!(rt; why == OpenWhy::DiskFault);
+            assert_eq!(rt; faults, 1);
             Ok(length)
         }
     }
@@ -214,47 +323,58 @@ fn answers_each_fault_of_the_disk(rt: HostRuntime) -> Result<(), Fail> {
     Ok(())
 }
 
-#[test]
-fn seals_records_together(rt: HostRuntime) -> Result<(), Fail> {
-    let alloc = rt.alloc();
-    let long = sevens(alloc, 900_000)?;
-    let (mut journal, found) = opened(alloc, disk_of(alloc, &[])?, disk_of(alloc, &[])?, SALT)?;
-    drop(found);
+// The disks of a new journal with six records, of which two and three were sealed together.
+fn six_records(rt: &impl Abort, alloc: Global, long: &[u8]) -> Result<(MemDisk, MemDisk), Fail>
+    requires { length long.now ≡ 900000 }
+{
+    let mut journal = journal_on(alloc, disk_of(alloc, &[])?, SALT)?;
     assert!(rt; journal.seal() == Ok(1));
     assert!(rt; journal.add(b"one") == Ok(()));
     assert!(rt; journal.add(b"") == Ok(()));
     assert!(rt; journal.seal() == Ok(1));
     // More than is kept until it is written.
-    assert!(rt; journal.add(&long) == Ok(()));
-    assert!(rt; journal.add(&long) == Ok(()));
+    assert!(rt; journal.add(long) == Ok(()));
+    assert!(rt; journal.add(long) == Ok(()));
     assert!(rt; journal.add(b"five") == Ok(()));
     assert!(rt; journal.seal() == Ok(3));
     assert!(rt; journal.append(b"six") == Ok(6));
-    let (a, b) = journal.close();
+    Ok(journal.close())
+}
+
+#[test]
+fn seals_records_together(rt: HostRuntime) -> Result<(), Fail> {
+    let alloc = rt.alloc();
+    let long = sevens(alloc, 900_000)?;
+    let (a, b) = six_records(&rt, alloc, &long)?;
     assert_eq!(rt; a.bytes().len(), 43 + 6 * 13 + 2 * 900_000 + 10);
-    let (journal, found) = opened(alloc, a, b, SALT)?;
+    let (journal, found) = opened_on(alloc, a, b, SALT)?;
     drop(journal);
-    assert_eq!(rt; found.payloads.len(), 6);
-    assert_eq!(rt; found.payloads[1].as_slice(), b"".as_slice());
-    assert!(rt; found.payloads[3].as_slice() == long.as_slice());
-    assert_eq!(rt; found.payloads[4].as_slice(), b"five".as_slice());
+    let wanted: [&[u8]; 6] = [b"one", b"", &long, &long, b"five", b"six"];
+    assert!(rt; has_payloads(&found, &wanted));
     drop(found);
     Ok(())
 }
 
 // The disk on which the call of this number failed while three records were sealed.
 fn stopped_group(rt: &impl Abort, alloc: Global, call: u64) -> Result<MemDisk, Fail> {
-    let a = MemDisk::new(alloc, Vec::new(alloc), vec![in alloc; call]?)?;
-    let (mut journal, found) = opened(alloc, a, disk_of(alloc, &[])?, SALT)?;
-    drop(found);
+    let mut journal = journal_on(alloc, failing_disk(alloc, call)?, SALT)?;
     assert!(rt; journal.add(b"one") == Ok(()));
     assert!(rt; journal.add(b"two") == Ok(()));
     assert!(rt; journal.add(b"three") == Ok(()));
     assert!(rt; journal.seal().is_err());
     assert_eq!(rt; journal.faults(), 1);
-    let (a, b) = journal.close();
-    drop(b);
-    Ok(a)
+    Ok(closed(journal))
+}
+
+// How many records are found on this disk as a crash leaves it that fills all places with this byte.
+fn count_in_image(alloc: Global, disk: MemDisk, fill: u8) -> Result<usize, Fail> {
+    let image = disk.image(alloc, fill);
+    drop(disk);
+    let left = MemDisk::new(alloc, image?, Vec::new(alloc))?;
+    let found = found_on(alloc, left, SALT)?;
+    let count = found.payloads.len();
+    drop(found);
+    Ok(count)
 }
 
 // None of three records is found, or all where the crash left their gate open.
@@ -264,17 +384,12 @@ fn found_of_three(call: u64, fill: u8) -> usize {
 
 #[test]
 fn a_group_stops(rt: HostRuntime) -> Result<(), Fail> {
-    let alloc = rt.alloc();
     for call in 11..15_u64 {
-        let a = stopped_group(&rt, alloc, call)?;
         for fill in [0xff, 1_u8] {
-            let left = MemDisk::new(alloc, a.image(alloc, fill)?, Vec::new(alloc))?;
-            let (journal, found) = opened(alloc, left, disk_of(alloc, &[])?, SALT)?;
-            drop(journal);
-            assert_eq!(rt; found.payloads.len(), found_of_three(call, fill));
-            drop(found);
+            let a = stopped_group(&rt, rt.alloc(), call)?;
+            let count = count_in_image(rt.alloc(), a, fill)?;
+            assert_eq!(rt; count, found_of_three(call, fill));
         }
-        drop(a);
     }
     Ok(())
 }
@@ -289,5 +404,6 @@ fn makes_a_file_with_a_base(rt: HostRuntime) -> Result<(), Fail> {
         &bytes[34..],
         [0, 0, 0, 0, 0, 0, 0, 4, b'b', b'a', b's', b'e', 0].as_slice()
     );
+    drop(disk);
     Ok(())
 }

@@ -1,11 +1,14 @@
-// What no contract says: that memory is found, and what a real file does.
+// What no contract says: that memory is found, and what a real file does. Each object is dropped by a call: so the
+// proofs of the tests stay short.
 use sb_outside::{
     Bytes, Clock, Conn, Connected, Disk, DiskFault, MemConn, MemDisk, MemSink, MemSource, NoConn,
     Reading, Sink, Source, StepClock, SystemClock, WriteFault, Writing, open_disk, sync_folder,
     write_all,
 };
+use std::alloc::Global;
 use std::fs;
 use std::fs::OpenOptions;
+use std::process::Abort;
 use std::test::Fail;
 
 // Writes twice, cuts, syncs, and reads from the second byte on. A thread may take the disk.
@@ -30,83 +33,154 @@ fn echo<N: Conn + Send>(conn: &mut N) -> Result<Option<usize>, WriteFault> {
     conn.write(&piece[..count])
 }
 
+// What the changes leave of a disk behind its first byte, and how much of it was read.
+fn changed<D: Disk + Send>(disk: &mut D) -> (Result<usize, DiskFault>, [u8; 8]) {
+    let mut piece = [0u8; 8];
+    let count = change(disk, &mut piece);
+    (count, piece)
+}
+
+fn changed_memory(alloc: Global) -> Result<(Result<usize, DiskFault>, [u8; 8]), Fail> {
+    let mut disk = MemDisk::with_room(alloc, Vec::new(alloc), Vec::new(alloc), 11, 4)?;
+    let changed = changed(&mut disk);
+    drop(disk);
+    Ok(changed)
+}
+
+// How long the disk over this file is.
+fn length_of(rt: HostRuntime, name: &str) -> Result<u64, Fail> {
+    let mut file = open_disk(&rt, String::from_str(rt.alloc(), name)?, rt)?;
+    let length = file.length();
+    drop(file);
+    length.map_err(|_| Fail::from("no length"))
+}
+
 #[test]
 fn memory_and_a_file_agree(rt: HostRuntime) -> Result<(), Fail> {
     let name = "sb_outside_test.journal";
-    let mut disk = MemDisk::with_room(
-        rt.alloc(),
-        Vec::new(rt.alloc()),
-        Vec::new(rt.alloc()),
-        11,
-        4,
-    )?;
-    let mut file = open_disk(&rt, String::from_str(rt.alloc(), name)?, rt)?;
-    sync_folder(&rt, ".")?;
-    let mut from_disk = [0u8; 8];
-    let mut from_file = [0u8; 8];
-    assert!(rt; change(&mut disk, &mut from_disk) == Ok(5));
-    assert!(rt; change(&mut file, &mut from_file) == Ok(5));
+    let (count, from_disk) = changed_memory(rt.alloc())?;
+    assert!(rt; count == Ok(5));
     assert_eq!(rt; from_disk, *b"oined\0\0\0");
+    let mut file = open_disk(&rt, String::from_str(rt.alloc(), name)?, rt)?;
+    assert!(rt; sync_folder(&rt, ".").is_ok());
+    let (count, from_file) = changed(&mut file);
+    assert!(rt; count == Ok(5));
     assert_eq!(rt; from_file, from_disk);
     assert!(rt; file.length() == Ok(6));
-    assert!(rt; open_disk(&rt, String::from_str(rt.alloc(), name)?, rt)?.length() == Ok(6));
+    let length = length_of(rt, name);
     assert_eq!(rt; file.faults(), 0);
+    drop(file);
+    assert_eq!(rt; length?, 6);
     fs::remove_file(&rt, name)?;
     Ok(())
 }
 
 #[test]
-fn makes_each_object(rt: HostRuntime) -> Result<(), Fail> {
+fn makes_a_disk(rt: HostRuntime) -> Result<(), Fail> {
     let failing = vec![in rt.alloc(); 1]?;
     let mut disk = MemDisk::new(rt.alloc(), Vec::new(rt.alloc()), failing)?;
     assert!(rt; disk.length() == Ok(0));
     assert!(rt; disk.length() == Err(DiskFault));
+    drop(disk);
+    Ok(())
+}
+
+// What a sink has in which these bytes were written, with room for four at first.
+fn written(alloc: Global, bytes: &[u8]) -> Result<Vec<u8>, Fail> {
+    let mut sink = MemSink::new(alloc, 4, Vec::new(alloc))?;
+    let written = write_all(&mut sink, bytes);
+    let given = sink.bytes().to_vec(alloc);
+    drop(sink);
+    written.map_err(|_| Fail::from("not written"))?;
+    Ok(given?)
+}
+
+#[test]
+fn makes_each_stream(rt: HostRuntime) -> Result<(), Fail> {
     let text = Bytes::of(rt.alloc(), b"line")?;
-    let mut sink = MemSink::new(rt.alloc(), 4, Vec::new(rt.alloc()))?;
-    assert!(rt; write_all(&mut sink, text.as_slice()).is_ok());
-    assert_eq!(rt; sink.bytes(), text.as_slice());
+    let given = written(rt.alloc(), text.as_slice())?;
+    assert_eq!(rt; given.as_slice(), text.as_slice());
     let mut source = MemSource::new(text.into_vec(), 3, Vec::new(rt.alloc()));
     let mut piece = [0u8; 8];
     assert!(rt; source.read(&mut piece) == Ok(3));
     assert!(rt; source.read(&mut piece) == Ok(1));
     assert!(rt; source.read(&mut piece) == Ok(0));
-    assert!(rt; Reading::new(rt.stdin(), rt).read(&mut []) == Ok(0));
-    assert!(rt; Writing::new(rt.stdout(), rt).write(&[]) == Ok(0));
+    drop(source);
+    Ok(())
+}
+
+#[test]
+fn makes_each_real_stream(rt: HostRuntime) -> Result<(), Fail> {
+    let mut input = Reading::new(rt.stdin(), rt);
+    assert!(rt; input.read(&mut []) == Ok(0));
+    drop(input);
+    let mut output = Writing::new(rt.stdout(), rt);
+    assert!(rt; output.write(&[]) == Ok(0));
+    drop(output);
+    Ok(())
+}
+
+#[test]
+fn makes_each_clock(rt: HostRuntime) -> Result<(), Fail> {
     assert_eq!(rt; reads(&StepClock::new(5, 2)), 7);
     let year_2020_ms = 1_577_836_800_000;
     let clock = SystemClock::new(rt)?;
     let first = reads(&clock);
     assert!(rt; first > year_2020_ms);
     assert!(rt; reads(&clock) >= first);
+    drop(clock);
     Ok(())
 }
 
+// Whether a connection takes back so much of what it gave.
+fn echoes<N: Conn + Send>(conn: &mut N, count: usize) -> bool {
+    echo(conn) == Ok(Some(count))
+}
+
 #[test]
-fn makes_each_connection(rt: HostRuntime) -> Result<(), Fail> {
+fn makes_each_real_connection(rt: HostRuntime) -> Result<(), Fail> {
     let name = "sb_outside_test.conn";
     let file = OpenOptions::new()
         .read(true)
         .write(true)
         .create(true)
         .open(&rt, name)?;
-    assert!(rt; echo(&mut Connected::new(file)) == Ok(Some(0)));
+    let mut conn = Connected::new(file);
+    assert!(rt; echoes(&mut conn, 0));
+    drop(conn);
     fs::remove_file(&rt, name)?;
-    let sent = vec![in rt.alloc(); b'h', b'i']?;
-    let source = MemSource::new(sent, 8, Vec::new(rt.alloc()));
-    let sink = MemSink::new(rt.alloc(), 2, Vec::new(rt.alloc()))?;
+    Ok(())
+}
+
+// A source of two bytes, and a sink with room for them.
+fn streams(alloc: Global) -> Result<(MemSource, MemSink), Fail> {
+    let sent = vec![in alloc; b'h', b'i']?;
+    let sink = MemSink::new(alloc, 2, Vec::new(alloc))?;
+    Ok((MemSource::new(sent, 8, Vec::new(alloc)), sink))
+}
+
+#[test]
+fn makes_each_connection(rt: HostRuntime) -> Result<(), Fail> {
+    let (source, sink) = streams(rt.alloc())?;
     let mut conn = MemConn::new(source, sink);
-    assert!(rt; echo(&mut conn) == Ok(Some(2)));
+    assert!(rt; echoes(&mut conn, 2));
     assert_eq!(rt; conn.bytes(), b"hi".as_slice());
-    assert!(rt; echo(&mut NoConn::new()) == Ok(Some(0)));
+    drop(conn);
+    assert!(rt; echoes(&mut NoConn::new(), 0));
     Ok(())
 }
 
 #[test]
 fn hesitates_between_any_two_bytes(rt: HostRuntime) -> Result<(), Fail> {
-    let sent = vec![in rt.alloc(); b'h', b'i']?;
-    let source = MemSource::new(sent, 8, Vec::new(rt.alloc()));
-    let sink = MemSink::new(rt.alloc(), 2, Vec::new(rt.alloc()))?;
+    let (source, sink) = streams(rt.alloc())?;
     let mut conn = MemConn::hesitant(source, sink);
+    hesitates(&rt, &mut conn);
+    assert_eq!(rt; conn.bytes(), b"hi".as_slice());
+    drop(conn);
+    Ok(())
+}
+
+fn hesitates<N: Conn>(rt: &impl Abort, conn: &mut N) {
     let mut piece = [0u8; 8];
     assert!(rt; conn.read(&mut piece) == Ok(None));
     assert!(rt; conn.read(&mut piece) == Ok(Some(2)));
@@ -114,6 +188,4 @@ fn hesitates_between_any_two_bytes(rt: HostRuntime) -> Result<(), Fail> {
     assert!(rt; conn.write(&piece[..2]) == Ok(Some(1)));
     assert!(rt; conn.write(&piece[1..2]) == Ok(None));
     assert!(rt; conn.write(&piece[1..2]) == Ok(Some(1)));
-    assert_eq!(rt; conn.bytes(), b"hi".as_slice());
-    Ok(())
 }

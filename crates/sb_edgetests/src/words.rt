@@ -1,6 +1,7 @@
 // What no contract says: the texts of help, and of what is wrong with words.
-use sb_words::{Command, asked_text, fault_text, read_form};
+use sb_words::{Command, Form, asked_text, fault_text, read_form};
 use std::alloc::{AllocError, Global};
+use std::process::Abort;
 use std::test::Fail;
 
 // The words of a line, between its spaces.
@@ -10,6 +11,22 @@ fn words_of(alloc: Global, line: &str) -> Result<Vec<&str>, AllocError> {
         words.push(word)?;
     }
     Ok(words)
+}
+
+// What is wrong with the words of a line.
+fn wrong_with(alloc: Global, line: &str) -> Result<String, Fail> {
+    let words = words_of(alloc, line)?;
+    let text = fault_text(alloc, &words);
+    drop(words);
+    Ok(text?.ok_or("a form")?)
+}
+
+// The help that the words of a line ask for.
+fn help_for(alloc: Global, line: &str) -> Result<String, Fail> {
+    let words = words_of(alloc, line)?;
+    let text = asked_text(alloc, &words);
+    drop(words);
+    Ok(text?.ok_or("no help")?)
 }
 
 #[test]
@@ -54,8 +71,7 @@ fn says_what_is_wrong(rt: HostRuntime) -> Result<(), Fail> {
         ),
     ];
     for (line, wanted) in rows {
-        let words = words_of(rt.alloc(), line)?;
-        let text = fault_text(rt.alloc(), &words)?.ok_or("a form")?;
+        let text = wrong_with(rt.alloc(), line)?;
         assert_eq!(rt; text.as_str(), wanted);
     }
     Ok(())
@@ -76,8 +92,7 @@ fn helps_with_each_command(rt: HostRuntime) -> Result<(), Fail> {
         ("--version", "bus 0.1.0"),
     ];
     for (line, wanted) in rows {
-        let words = words_of(rt.alloc(), line)?;
-        let text = asked_text(rt.alloc(), &words)?.ok_or("no help")?;
+        let text = help_for(rt.alloc(), line)?;
         assert!(rt; text.as_str().contains(wanted), "{text}");
     }
     Ok(())
@@ -87,7 +102,16 @@ fn helps_with_each_command(rt: HostRuntime) -> Result<(), Fail> {
 fn reads_who_may_call(rt: HostRuntime) -> Result<(), Fail> {
     let line = "serve --data=a --port=80 --host=x --host y --key=k";
     let words = words_of(rt.alloc(), line)?;
-    let form = read_form(rt.alloc(), &words).map_err(|_| "no form")?;
+    let Ok(form) = read_form(rt.alloc(), &words) else {
+        panic!(rt; "no form")
+    };
+    says_who_may_call(&rt, &form);
+    drop(form);
+    drop(words);
+    Ok(())
+}
+
+fn says_who_may_call(rt: &impl Abort, form: &Form<'_>) {
     assert!(rt; form.command == Command::Serve);
     assert!(rt; form.hosts.len() == 2);
     assert_eq!(rt;
@@ -95,5 +119,4 @@ fn reads_who_may_call(rt: HostRuntime) -> Result<(), Fail> {
         ("k", 400, 0)
     );
     assert_eq!(rt; (form.request_time, form.idle_time), (60, 600));
-    Ok(())
 }

@@ -26,22 +26,15 @@ pub fn files_allowed<R: Files + Alloc>(rt: &R) -> Option<u64> {
     }
 }
 
-// The limit of open files that these lines tell.
-pub(crate) fn limit_in(text: &str) -> Option<u64> {
+/// The limit of open files that these lines tell, in the form of Linux: the number behind `Max open files` and
+/// spaces, on the first line that begins so; nothing where no line does, or no number stands there.
+pub fn limit_in(text: &str) -> Option<u64> {
     for line in text.lines() {
         if let Some(rest) = line.strip_prefix(OPEN_FILES) {
             return number_of(rest.trim_start());
         }
     }
     None
-}
-
-// The number at the begin of a text.
-fn number_of(text: &str) -> Option<u64> {
-    match text.split_once(" ") {
-        Some((word, _)) => word.parse().ok(),
-        None => text.parse().ok(),
-    }
 }
 
 /// How many of so many places a server of so many threads has files for, where the process may have so
@@ -52,4 +45,12 @@ pub fn places_within(files: u64, places: u16, threads: u16) -> u16
     let beside = BESIDE + A_THREAD * u64::from(threads);
     let most = files.saturating_sub(beside).max(1);
     u64::from(places).min(most) as u16
+}
+
+// The number at the begin of a text.
+fn number_of(text: &str) -> Option<u64> {
+    match text.split_once(" ") {
+        Some((word, _)) => word.parse().ok(),
+        None => text.parse().ok(),
+    }
 }

@@ -15,10 +15,9 @@ mod place;
 mod queue;
 mod seat;
 mod span;
-#[cfg(test)]
-mod tests;
 
 pub use caller::Caller;
-pub use files::{files_allowed, places_within};
+pub use files::{files_allowed, limit_in, places_within};
 pub use halls::{Halls, open_halls};
 pub use place::Place;
+pub use queue::Queue;

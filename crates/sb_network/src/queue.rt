@@ -9,9 +9,10 @@ const END: usize = usize::MAX;
 // What stands behind a place that isn't in the queue.
 const OUT: usize = usize::MAX - 1;
 
-/// A queue of places, in which each stands once at most. One thread at a time goes by it.
+/// A queue of places, in which each stands once at most. One thread at a time goes by it; what stands in it is in
+/// no contract.
 #[derive(Drop)]
-pub(crate) struct Queue {
+pub struct Queue {
     // What stands behind each place.
     behind: Vec<AtomicUsize>,
     first: AtomicUsize,
@@ -20,7 +21,7 @@ pub(crate) struct Queue {
 
 impl Queue {
     /// An empty queue for so many places.
-    pub(crate) fn new(alloc: Global, places: usize) -> io::Result<Queue> {
+    pub fn new(alloc: Global, places: usize) -> io::Result<Queue> {
         let mut behind = Vec::new(alloc);
         for _ in 0..places {
             behind.push(AtomicUsize::new(OUT))?;
@@ -33,12 +34,12 @@ impl Queue {
     }
 
     /// Whether nobody stands in it.
-    pub(crate) fn is_empty(&self) -> bool {
+    pub fn is_empty(&self) -> bool {
         self.first.load(Ordering::SeqCst) == END
     }
 
     /// Puts a place behind the others, where it isn't in the queue yet.
-    pub(crate) fn put_last(&self, place: usize) {
+    pub fn put_last(&self, place: usize) {
         let Some(behind) = self.outside(place) else {
             return;
         };
@@ -51,7 +52,7 @@ impl Queue {
     }
 
     /// Puts a place before the others, where it isn't in the queue yet.
-    pub(crate) fn put_first(&self, place: usize) {
+    pub fn put_first(&self, place: usize) {
         let Some(behind) = self.outside(place) else {
             return;
         };
@@ -63,7 +64,7 @@ impl Queue {
     }
 
     /// Takes the first place out.
-    pub(crate) fn take(&self) -> Option<usize> {
+    pub fn take(&self) -> Option<usize> {
         let place = self.first.load(Ordering::SeqCst);
         let Some(behind) = self.behind.get(place) else {
             return None;

@@ -1,12 +1,11 @@
-use super::{end_of, stream_of};
+use super::{add_row, end_of, stream_of};
 use sb_http::Incoming;
 use std::alloc::Global;
 use std::process::Abort;
 use std::test::Fail;
 
-// How many requests are whole, how many bytes their bodies have, and the fault behind them, if any.
-fn counts(alloc: Global, stream: &[u8], size: usize) -> Result<Vec<u8>, Fail> {
-    let mut incoming = Incoming::new(alloc)?;
+// How many requests are whole, how many bytes their bodies have, and the fault behind them or nothing.
+fn counted(incoming: &mut Incoming, stream: &[u8], size: usize) -> (u64, u64, &'static str) {
     let mut requests: u64 = 0;
     let mut bytes: u64 = 0;
     let mut at: usize = 0;
@@ -18,18 +17,44 @@ fn counts(alloc: Global, stream: &[u8], size: usize) -> Result<Vec<u8>, Fail> {
             }
             Ok(None) => {
                 if at >= stream.len() {
-                    return Ok(format!(in alloc; "{requests} {bytes}")?.into_bytes());
+                    return (requests, bytes, "");
                 }
                 let end = at.saturating_add(size).min(stream.len());
                 at = at.saturating_add(incoming.feed(&stream[at..end]));
             }
-            Err(fault) => {
-                let status = end_of(fault);
-                return Ok(format!(in alloc; "{requests} {bytes} {status}")?.into_bytes());
-            }
+            Err(fault) => return (requests, bytes, end_of(fault)),
         }
     }
-    Ok(Vec::new(alloc))
+    (requests, bytes, "no end")
+}
+
+// The same as text.
+fn counts(alloc: Global, stream: &[u8], size: usize) -> Result<String, Fail> {
+    let mut incoming = Incoming::new(alloc)?;
+    let (requests, bytes, status) = counted(&mut incoming, stream, size);
+    drop(incoming);
+    if status.is_empty() {
+        return Ok(format!(in alloc; "{requests} {bytes}")?);
+    }
+    Ok(format!(in alloc; "{requests} {bytes} {status}")?)
+}
+
+// A front, so many times a filler, and a back.
+fn filled(
+    alloc: Global,
+    fronts: (&str, &str),
+    filler: &str,
+    times: u32,
+    back: &str,
+) -> Result<Vec<u8>, Fail> {
+    let mut stream = stream_of(alloc, fronts.0)?;
+    add_row(&mut stream, fronts.1)?;
+    let part = stream_of(alloc, filler)?;
+    for _ in 0..times {
+        stream.extend_from_slice(&part)?;
+    }
+    add_row(&mut stream, back)?;
+    Ok(stream)
 }
 
 // Rows `FRONT => FILLER => N => BACK => OUTCOME`: a front, so many times a filler, and a back come to
@@ -46,15 +71,10 @@ fn try_filled(
         let (filler, rest) = rest.split_once(" => ").ok_or("no filler")?;
         let (times, rest) = rest.split_once(" => ").ok_or("no number")?;
         let (back, outcome) = rest.split_once(" => ").ok_or("no outcome")?;
-        let mut stream = stream_of(alloc, front)?;
-        stream.extend_from_slice(&stream_of(alloc, first)?)?;
-        let part = stream_of(alloc, filler)?;
-        for _ in 0..times.parse::<u32>()? {
-            stream.extend_from_slice(&part)?;
-        }
-        stream.extend_from_slice(&stream_of(alloc, back)?)?;
+        let times = times.parse::<u32>()?;
+        let stream = filled(alloc, (front, first), filler, times, back)?;
         let out = counts(alloc, &stream, size)?;
-        assert_eq!(rt; out.as_slice(), outcome.as_bytes(), "of {line}");
+        assert_eq!(rt; out.as_str(), outcome, "of {line}");
     }
     Ok(())
 }

@@ -1,5 +1,7 @@
 use super::{take_all, try_rows};
 use sb_http::{HttpFault, Incoming, Version};
+use std::alloc::Global;
+use std::process::Abort;
 use std::test::Fail;
 
 // RFC 9112, sections 6.1 and 6.3: Transfer-Encoding, also beside a length.
@@ -72,6 +74,35 @@ const SEND: &[u8] = b"POST /Q/messages HTTP/1.1\r\nHost: h\r\nContent-Length: 2\
 
 const RECEIVE: &[u8] = b"POST /q/messages/head?timeout=0 HTTP/1.1\r\nHost: h\r\n\r\n";
 
+// Feeds these pieces, of which each is taken whole, and tells the requests of each before the next one.
+fn take_pieces(
+    rt: &impl Abort,
+    out: &mut Vec<u8>,
+    incoming: &mut Incoming,
+    pieces: &[&[u8]],
+) -> Result<(), Fail> {
+    for piece in pieces {
+        assert_eq!(rt; incoming.feed(*piece), piece.len());
+        assert!(rt; take_all(out, incoming)?.is_none());
+    }
+    Ok(())
+}
+
+// What these pieces come to, and how many bytes are left.
+fn told_of(
+    rt: &impl Abort,
+    alloc: Global,
+    out: &mut Vec<u8>,
+    pieces: &[&[u8]],
+) -> Result<usize, Fail> {
+    let mut incoming = Incoming::new(alloc)?;
+    let taken = take_pieces(rt, out, &mut incoming, pieces);
+    let left = incoming.left();
+    drop(incoming);
+    taken?;
+    Ok(left)
+}
+
 // A send and a receive, whole, one behind the other, and cut after each byte.
 #[test]
 fn two_requests(rt: HostRuntime) -> Result<(), Fail> {
@@ -80,24 +111,27 @@ fn two_requests(rt: HostRuntime) -> Result<(), Fail> {
     stream.extend_from_slice(RECEIVE)?;
     let outcome = b"POST /Q/messages 1.1 hi;POST /q/messages/head?timeout=0 1.1 ;";
     for cut in 0..stream.len() {
-        let mut incoming = Incoming::new(alloc)?;
         let mut out = Vec::new(alloc);
-        assert_eq!(rt; incoming.feed(&stream[..cut]), cut);
-        assert!(rt; take_all(&mut out, &mut incoming)?.is_none());
-        assert_eq!(rt; incoming.feed(&stream[cut..]), stream.len() - cut);
-        assert!(rt; take_all(&mut out, &mut incoming)?.is_none());
+        let left = told_of(&rt, alloc, &mut out, &[&stream[..cut], &stream[cut..]])?;
         assert_eq!(rt; out.as_slice(), outcome.as_slice());
-        assert_eq!(rt; incoming.left(), 0);
+        assert_eq!(rt; left, 0);
     }
-    let mut incoming = Incoming::new(alloc)?;
+    Ok(())
+}
+
+// The fields of a request.
+#[test]
+fn fields_of_a_request(rt: HostRuntime) -> Result<(), Fail> {
+    let mut incoming = Incoming::new(rt.alloc())?;
     assert_eq!(rt; incoming.feed(SEND), SEND.len());
     let Ok(Some(request)) = incoming.next_request() else {
-        return Err(Fail::from("no request"));
+        panic!(rt; "no request")
     };
     assert!(rt; request.version == Version::Http11);
     assert_eq!(rt; request.field_count(), 2);
     assert_eq!(rt; request.field(1).0, b"Content-Length".as_slice());
     assert_eq!(rt; request.field(1).1, b"2".as_slice());
+    drop(incoming);
     Ok(())
 }
 
@@ -110,20 +144,17 @@ fn stays_refused(rt: HostRuntime) -> Result<(), Fail> {
         assert!(rt; matches!(incoming.next_request(), Err(HttpFault::BadHead)));
         assert_eq!(rt; incoming.feed(SEND), SEND.len());
     }
+    drop(incoming);
     Ok(())
 }
 
 // The example at the head of `sb_http`.
 #[test]
 fn example(rt: HostRuntime) -> Result<(), Fail> {
-    let alloc = rt.alloc();
-    let mut out = Vec::new(alloc);
-    let mut incoming = Incoming::new(alloc)?;
-    for piece in [b"GET /a HTTP/1.1\r\nHo".as_slice(), b"st: h\r\n\r\nGET /b"] {
-        assert_eq!(rt; incoming.feed(piece), piece.len());
-        assert!(rt; take_all(&mut out, &mut incoming)?.is_none());
-    }
+    let mut out = Vec::new(rt.alloc());
+    let pieces: [&[u8]; 2] = [b"GET /a HTTP/1.1\r\nHo", b"st: h\r\n\r\nGET /b"];
+    let left = told_of(&rt, rt.alloc(), &mut out, &pieces)?;
     assert_eq!(rt; out.as_slice(), b"GET /a 1.1 ;".as_slice());
-    assert_eq!(rt; incoming.left(), 6);
+    assert_eq!(rt; left, 6);
     Ok(())
 }
