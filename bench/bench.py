@@ -13,7 +13,6 @@ repetitions the one of median rate. In the same run the disk is timed: records a
 each, as the journal's, of the size of a message. --json keeps all in a file, and --compare says of each row how its
 rate stands to the disk beside that of such a file. It isn't part of the gate.
 """
-import argparse
 import contextlib
 import json
 import os
@@ -25,8 +24,8 @@ import tempfile
 import time
 from concurrent.futures import ThreadPoolExecutor
 
-sys.path.insert(0, os.path.join(os.path.dirname(os.path.realpath(__file__)), "..", "tools"))
-import lib
+import shared
+from shared import done, lib, used
 
 BODY = "x" * 1024
 PROCESSES = 16  # that callers stand in at most
@@ -34,11 +33,6 @@ QUEUE = [{"do": "create-queue", "name": "q"}]
 SESSIONS = [{"do": "create-queue", "name": "q", "requires_session": True}]
 SUBSCRIBED = [{"do": "create-topic", "name": "q"}]
 SUBSCRIBED += [{"do": "create-subscription", "topic": "q", "name": f"s{number}"} for number in range(10)]
-
-
-def done(reply, *wanted):
-    lib.wants(reply.get("ok") in wanted, f"a call was answered {reply}")
-    return reply
 
 
 def send(caller, messages=1, **fields):
@@ -107,13 +101,6 @@ def timed(caller, scenario, calls):
     return took
 
 
-def used(pid):
-    """The seconds of a process's own and in the kernel."""
-    with open(f"/proc/{pid}/stat", encoding="ascii") as stat:
-        fields = stat.read().rpartition(")")[2].split()
-    return [int(it) / os.sysconf("SC_CLK_TCK") for it in fields[11:13]]
-
-
 def by_callers(port, scenario, calls, many):
     """The seconds of each of so many calls of each of so many callers at once."""
     with contextlib.ExitStack() as stack:
@@ -141,23 +128,9 @@ def in_child(port, scenario, calls, many):
         os._exit(status)
 
 
-@contextlib.contextmanager
-def beside(port, idle, waiting):
-    """So many connections that say nothing, and so many receives that wait on a queue of their own."""
-    with contextlib.ExitStack() as stack:
-        kept = [stack.enter_context(lib.Caller(port)) for _ in range(idle + waiting)]
-        if waiting:
-            with lib.Caller(port) as caller:
-                done(caller.line({"do": "create-queue", "name": "beside"}), "done")
-        for caller in kept[:waiting]:
-            head = b"DELETE /beside/messages/head?timeout=3600 HTTP/1.1\r\nHost: localhost\r\n\r\n"
-            caller.socket.sendall(head)
-        yield
-
-
 def over_connections(program, folder, scenario, many, calls, idle, waiting):
     port, places = lib.free_port(), many + idle + waiting + 8
-    with lib.serving(program, folder, port, "--workers", str(places)) as server, beside(port, idle, waiting):
+    with lib.serving(program, folder, port, "--workers", str(places)) as server, shared.beside(port, idle, waiting):
         with lib.Caller(port) as caller:
             prepare(caller, scenario, calls)
         before, begun = used(server.pid), time.monotonic()
@@ -197,19 +170,6 @@ def measured(program, scenario, over, calls, idle, waiting):
     return {**row, "own_us": own, "kernel_us": kernel}
 
 
-def disk_rate(folder, records=2000):
-    """Records a second: one write of a message's size and two syncs each."""
-    with tempfile.TemporaryFile(dir=folder, buffering=0) as probe:
-        begun = time.monotonic()
-        for _ in range(records):
-            probe.write(b"x" * 1088)
-            os.fsync(probe.fileno())
-            probe.seek(-1, os.SEEK_CUR)
-            probe.write(b"y")
-            os.fsync(probe.fileno())
-        return records / (time.monotonic() - begun)
-
-
 def tell(key, row, disk, kept):
     numbers = f"{row['rate']:8.0f} a second, {row['median_ms']:7.2f} ms, 99th {row['p99_ms']:7.2f} ms"
     numbers += f", {row['own_us']:5.0f} us own, {row['kernel_us']:5.0f} us kernel"
@@ -219,7 +179,7 @@ def tell(key, row, disk, kept):
 
 
 def words():
-    given = argparse.ArgumentParser(usage=__doc__.split("\n\n")[1].removeprefix("usage: "))
+    given = shared.words(__doc__)
     given.add_argument("scenarios", nargs="*", choices=[*SCENARIOS, []], metavar="SCENARIO")
     given.add_argument("--program", default=f"{lib.TOP}/bus")
     given.add_argument("--calls", type=int, default=2000)
@@ -237,11 +197,10 @@ def main():
     if given.compare:
         with open(given.compare, encoding="utf-8") as file:
             kept = json.load(file)
-    program = os.path.realpath(given.program)
+    program = shared.built(given.program)
     hard = resource.getrlimit(resource.RLIMIT_NOFILE)[1]
     resource.setrlimit(resource.RLIMIT_NOFILE, (hard, hard))
-    subprocess.run([program, "--version"], stdout=subprocess.DEVNULL, check=True)  # so that it is built
-    disk, rows = disk_rate(os.environ.get("TMPDIR", "/var/tmp")), {}
+    disk, rows = shared.disk_rate(os.environ.get("TMPDIR", "/var/tmp")), {}
     print(f"disk: {disk:.0f} records a second at two syncs each", flush=True)
     for scenario in given.scenarios or SCENARIOS:
         for over in given.over.split(","):
@@ -257,4 +216,4 @@ def main():
 
 
 if __name__ == "__main__":
-    main()
+    shared.ended(main)
