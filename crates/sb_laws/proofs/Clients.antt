@@ -1,7 +1,7 @@
 -- What is kept of clients: in order of name, few enough, each a call that may be repeated.
 use Rattle.std.proofs.Common.{Bool, List, None, Option, Some, [], arith, false, length, nat_le, nat_lt, not, refl, subst, sym, true, ℕ, ◌&&◌, ◌<◌, ◌||◌, ◌∷◌, ◌≡◌, ◌≤◌}
 use Rattle.std.proofs.lemmas.Bool.Decides.{nat_tests}
-use Rattle.std.specs.Prelude.{bytes_eq, codes, if◌then◌else◌, is_none}
+use Rattle.std.specs.Prelude.{bytes_eq, codes, if◌then◌else◌, is_none, is_some}
 use Rattle.sb_laws.proofs.Carried.{copy_at}
 use Rattle.sb_laws.proofs.Consistency.{then_none}
 use Rattle.sb_laws.proofs.Eachs.{each_changed, each_inserted, like_one, pairs_changed}
@@ -17,13 +17,15 @@ use Rattle.sb_laws.proofs.Ways.{Way, aborts, adds_rule, begins, cancels, closes,
 use Rattle.sb_machine.specs.Acts.{is_via_in}
 use Rattle.sb_machine.specs.Answers.{keeping, kept_as, with_kept}
 use Rattle.sb_machine.specs.Changes.{after_all, max_number}
-use Rattle.sb_machine.specs.Consistent.{IsKept, IsReply}
+use Rattle.sb_machine.specs.Consistent.{IsKept, IsReply, IsSized}
 use Rattle.sb_machine.specs.Each.{Each, IsSorted}
 use Rattle.sb_machine.specs.Fields.{bad_in_act, bad_in_by, bad_in_conditions, bad_in_message, bad_in_messages, bad_in_send, first_some, is_between, is_between_or_none, is_number, max_messages, max_ttl, takes_number, unless}
+use Rattle.sb_machine.specs.Keyed.{changed, with_sorted}
 use Rattle.sb_machine.specs.Names.{is_before, is_same_entity}
 use Rattle.sb_machine.specs.Repeats.{client_of, is_client, kept_for, max_clients}
 use Rattle.sb_machine.specs.SendRow.{is_via}
 use Rattle.sb_machine.specs.Sending.{message_changes, receipts}
+use Rattle.sb_machine.specs.Sessions.{max_state, size_of}
 use Rattle.sb_machine.specs.Transactions.{aborted_by}
 use Rattle.sb_machine.specs.declared.call.Act.{Act}
 use Rattle.sb_machine.specs.declared.call.Act.TheVariants.{Send}
@@ -57,6 +59,14 @@ old_client k old clients there is h = rw there (record {
   few = omega (arith, h.few, shorter_changed (is_client k.client) (λ x. k ∷ []) clients (λ x. omega arith));
   kept = each_changed IsKept (is_client k.client) (λ x. k ∷ []) clients (λ x found was. (is, tt)) h.kept;
 })
+
+-- what holds of all that is kept holds still where it holds of what is kept anew
+pub keeps_each : (P : Kept → Type 0) (by : Option By) (act : Act) (reply : Reply) (clients : List Kept) → ((b : By) → by ≡ Some b → P (kept_as b act reply)) → Each P clients → Each P (keeping by act reply clients)
+keeps_each P None act reply clients fits h = h
+keeps_each P (Some b) act reply clients fits h = at (is_some (kept_for b.client clients)) where
+  at : (c : Bool) → Each P (if c then changed (is_client b.client) (λ x. kept_as b act reply ∷ []) clients else with_sorted (λ x. is_before x.client b.client) (kept_as b act reply) clients)
+  at true = each_changed P (is_client b.client) (λ x. kept_as b act reply ∷ []) clients (λ x found was. (fits b refl, tt)) h
+  at false = each_inserted P (λ x. is_before x.client b.client) (kept_as b act reply) clients (fits b refl) h
 
 below_so : (m n : ℕ) → nat_lt m n ≡ true → m < n
 below_so m n e = grind (arith, nat_tests)
@@ -95,7 +105,7 @@ receipts_length t e [] s = refl
 receipts_length t e (m ∷ ms) s = omega (arith, receipts_length t e ms (after_all t (message_changes t e m s) s))
 
 reply_fits : (s : Space) (t : ℕ) (is_via : Bool) (act : Act) (reply : Reply) (cs : List Change) → PlainCore s → bad_in_act is_via act ≡ None → takes_number act ≡ true → Way s t act reply cs → IsReply reply
-reply_fits s t is_via _ _ _ core good takes (tells told) = told takes
+reply_fits s t is_via _ _ _ core good takes (tells sized told) = (told takes).0
 reply_fits s t is_via _ _ _ core good takes (makes_queue named new described) = tt
 reply_fits s t is_via _ _ _ core good takes (makes_topic named new described) = tt
 reply_fits s t is_via _ _ _ core good takes (makes_subscription e named short there is new described) = tt
@@ -105,9 +115,9 @@ reply_fits s t is_via _ _ _ core good takes (drops_rule e r there is) = tt
 reply_fits s t is_via _ _ _ core good takes (sends {messages = messages} e goes there sessions small) = omega (arith, receipts_length t e messages s, at_most (length messages) max_messages (send_parts is_via messages None good).0)
 reply_fits s t is_via _ _ _ core good takes (queues_send x named goes there room small) = tt
 reply_fits s t is_via _ _ _ core good takes (cancels e c there is) = tt
-reply_fits s t is_via _ _ _ core good takes (hands_out from e c p there own is of stands) = (copy_at plain_travels arrives_sending t s core.carries (λ x. is_same_entity x.about.path from) e from.part p c there is).message.1
-reply_fits s t is_via _ _ _ core good takes (takes_out from e c p there is stands) = (copy_at plain_travels arrives_sending t s core.carries (λ x. is_same_entity x.about.path from) e from.part p c there is).message.1
-reply_fits s t is_via _ _ _ core good takes (expires from e c p there main is stands) = tt
+reply_fits s t is_via _ _ _ core good takes (hands_out from e c p sized there own is of stands) = (copy_at plain_travels arrives_sending t s core.carries (λ x. is_same_entity x.about.path from) e from.part p c there is).message.1
+reply_fits s t is_via _ _ _ core good takes (takes_out from e c p sized there is stands) = (copy_at plain_travels arrives_sending t s core.carries (λ x. is_same_entity x.about.path from) e from.part p c there is).message.1
+reply_fits s t is_via _ _ _ core good takes (expires from e c p sized there main is stands) = tt
 reply_fits s t is_via _ _ _ core good takes (settles_now e c there goes is none) = tt
 reply_fits s t is_via _ _ _ core good takes (settles_later e c x there goes on own is none room) = tt
 reply_fits s t is_via _ _ _ core good takes (renews e c there free is other) = tt
@@ -123,9 +133,37 @@ reply_fits s t is_via _ _ _ core good takes (aborts x o there) = at o where
   at (SettleLater from number token session how) = tt
 reply_fits s t is_via _ _ _ core good takes (rolls_back x there) = tt
 
+-- ---- sizes
+
+sized_so : (s : Space) (t : ℕ) (act : Act) (reply : Reply) (cs : List Change) → Way s t act reply cs → IsSized act
+sized_so s t _ _ _ (tells sized told) = sized
+sized_so s t _ _ _ (makes_queue named new described) = tt
+sized_so s t _ _ _ (makes_topic named new described) = tt
+sized_so s t _ _ _ (makes_subscription e named short there is new described) = tt
+sized_so s t _ _ _ (adds_rule e f a named there new f_is a_is small) = small
+sized_so s t _ _ _ (removes e there) = tt
+sized_so s t _ _ _ (drops_rule e r there is) = tt
+sized_so s t _ _ _ (sends e goes there sessions small) = small
+sized_so s t _ _ _ (queues_send x named goes there room small) = small
+sized_so s t _ _ _ (cancels e c there is) = tt
+sized_so s t _ _ _ (hands_out from e c p sized there own is of stands) = sized
+sized_so s t _ _ _ (takes_out from e c p sized there is stands) = sized
+sized_so s t _ _ _ (expires from e c p sized there main is stands) = sized
+sized_so s t _ _ _ (settles_now e c there goes is none) = tt
+sized_so s t _ _ _ (settles_later e c x there goes on own is none room) = tt
+sized_so s t _ _ _ (renews e c there free is other) = tt
+sized_so s t _ _ _ (opens from id e there has free) = tt
+sized_so s t _ _ _ (prolongs e x there has held other) = tt
+sized_so s t _ _ _ (closes e x there has held) = tt
+sized_so s t _ _ _ (writes {bytes = bytes} e x there has held small other) = at_most (size_of bytes) max_state small
+sized_so s t _ _ _ (begins e there few) = tt
+sized_so s t _ _ _ (commits x e there on none) = tt
+sized_so s t _ _ _ (aborts x o there) = tt
+sized_so s t _ _ _ (rolls_back x there) = tt
+
 -- ---- the call that is kept
 
-named_by : (act : Act) (by : Option By) (b : By) → (if takes_number act then by else None) ≡ Some b → (by ≡ Some b) × (takes_number act ≡ true)
+pub named_by : (act : Act) (by : Option By) (b : By) → (if takes_number act then by else None) ≡ Some b → (by ≡ Some b) × (takes_number act ≡ true)
 named_by act by b is = go (takes_number act) refl is where
   go : (c : Bool) → takes_number act ≡ c → ◌≡◌ {A = Option By} (if c then by else None) (Some b) → (by ≡ Some b) × (takes_number act ≡ true)
   go true takes is = (is, takes)
@@ -142,5 +180,6 @@ call_kept s t call reply cs core fits b is =
       number = passed (is_number b.number) (codes "number") named.1;
       act = who.1;
       fields = act_plainly (is_via_in s call.act) call.act parts.0;
+      size = sized_so s t call.act reply cs fits.way;
       reply = reply_fits s t (is_via_in s call.act) call.act reply cs core parts.0 who.1 fits.way;
     }

@@ -30,7 +30,7 @@ use Rattle.sb_machine.specs.Receiving.{lock_end}
 use Rattle.sb_machine.specs.SendRow.{is_destination, is_other, is_via, queued_send}
 use Rattle.sb_machine.specs.Sending.{send_changes}
 use Rattle.sb_machine.specs.Sessions.{closed}
-use Rattle.sb_machine.specs.Settlement.{settled}
+use Rattle.sb_machine.specs.Settlement.{goes_with, settled}
 use Rattle.sb_machine.specs.SettleRow.{is_on}
 use Rattle.sb_machine.specs.Transactions.{commit_changes}
 use Rattle.sb_machine.specs.declared.call.Act.{Act}
@@ -143,9 +143,9 @@ module _ (t : ℕ) (s : Space) (core : PlainCore s) (h : IsSettled s) (most : ma
         let on_x : entity_of x.entity s ≡ Some e = subst (λ (z : Transaction). entity_of z.entity s ≡ Some e) same at_e in
         ap (λ (o : Option Transaction). is_via s to o) there ∙ ap (is_other to) on_x ∙ turned (is_same_entity to e.about.path) other
 
-  settle_queued : (from : Path) (which : Which) (token : Token) (session : Option Token) (how : How) (n deadline : ℕ) (e : Entity) (c : StoredCopy) (x : Transaction) → entity_at from s ≡ Some e → transaction_of n s ≡ Some x → is_on e (Some x) ≡ true
+  settle_queued : (from : Path) (which : Which) (token : Token) (session : Option Token) (how : How) (n deadline : ℕ) (e : Entity) (c : StoredCopy) (x : Transaction) → entity_at from s ≡ Some e → goes_with how from.part ≡ true → transaction_of n s ≡ Some x → is_on e (Some x) ≡ true
       → find (λ d. is_living t (leaf_of from.part e).sessions token.lock d.standing && is_named which d) (leaf_of from.part e).copies ≡ Some c → has_lock token.lock c.standing ≡ true → QueuesPlaced (Queues x.number deadline (SettleLater from c.number token session how)) s
-  settle_queued from which token session how n deadline e c x there open_so on own held y found = ((lock_given, subst (λ (k : ℕ). HoldsThat token.lock (key_at k from.part) c.number s) number_is (lock_is_own s token.lock (λ z. is_same_entity z.about.path from) _ e from.part c core.locked there own held)), λ d at_d. (path_so d at_d, number_so)) where
+  settle_queued from which token session how n deadline e c x there goes open_so on own held y found = ((lock_given, subst (λ (k : ℕ). HoldsThat token.lock (key_at k from.part) c.number s) number_is (lock_is_own s token.lock (λ z. is_same_entity z.about.path from) _ e from.part c core.locked there own held)), λ d at_d. (path_so d at_d, number_so, goes)) where
     same : y ≡ x
     same = same_txn n x y open_so found
 
@@ -196,7 +196,7 @@ module _ (t : ℕ) (s : Space) (core : PlainCore s) (h : IsSettled s) (most : ma
           within Transfer = omega arith
 
   pub placed_way : (act : Act) (reply : Reply) (cs : List Change) → bad_in_act (is_via_in s act) act ≡ None → Fields Arrives IsPlain Lasts s act → Way s t act reply cs → ArePlaced (after_all t cs s)
-  placed_way _ _ _ good fits (tells told) = h.1
+  placed_way _ _ _ good fits (tells sized told) = h.1
   placed_way _ _ _ good fits (makes_queue {name = name} {d = d} named new fine) = single (Makes Queue (entity_path name) d []) (λ k. tt) tt
   placed_way _ _ _ good fits (makes_topic {name = name} {d = d} named new fine) = single (Makes Topic (entity_path name) d []) (λ k. tt) tt
   placed_way _ _ _ good fits (makes_subscription {topic = topic} {name = name} {d = d} e named short there is new fine) = single (Makes Subscription (subscription_path topic name) d (default_rule ∷ [])) (λ k. tt) tt
@@ -209,15 +209,15 @@ module _ (t : ℕ) (s : Space) (core : PlainCore s) (h : IsSettled s) (most : ma
     at [] good = h.1
     at (m ∷ ms) good = single (Queues x.number (deadline_with t x) (SendLater to (m ∷ ms))) (λ k. tt) (send_queued to m ms n (deadline_with t x) x good named goes there)
   placed_way _ _ _ good fits (cancels {from = from} e c there is) = single (in_part from.part e (Ends c.number false Cancelled)) (λ k. tt) tt
-  placed_way _ _ _ good fits (hands_out from e c p there own is of stands) = single (in_part from.part e (Holds c.number _)) (λ k. tt) tt
-  placed_way _ _ _ good fits (takes_out from e c p there is stands) = single (in_part from.part e (Ends c.number false Received)) (λ k. tt) tt
-  placed_way _ _ _ good fits (expires from e c p there main is stands) = acts (expired (listed s) e c false) (expired_acts plain_travels arrives_sending t s core.carries e c (about_of from e there) (copy_of from e p c there is))
+  placed_way _ _ _ good fits (hands_out from e c p sized there own is of stands) = single (in_part from.part e (Holds c.number _)) (λ k. tt) tt
+  placed_way _ _ _ good fits (takes_out from e c p sized there is stands) = single (in_part from.part e (Ends c.number false Received)) (λ k. tt) tt
+  placed_way _ _ _ good fits (expires from e c p sized there main is stands) = acts (expired (listed s) e c false) (expired_acts plain_travels arrives_sending t s core.carries e c (about_of from e there) (copy_of from e p c there is))
   placed_way _ _ _ good fits (settles_now {from = from} {which = which} {token = token} {session = session} {how = how} e c there goes is none) =
       acts (settled (listed s) t e from.part c how) (settled_acts plain_travels arrives_sending t s core.carries e from.part c how (about_of from e there)
       (copy_of from e (λ d. is_living t (leaf_of from.part e).sessions token.lock d.standing && is_named which d) c there (leased_held s t core.ordered token which (leaf_of from.part e) c is).0) (fits.how from which token session how None refl))
   placed_way _ _ _ good fits (settles_later {from = from} {which = which} {token = token} {session = session} {how = how} {n = n} e c x there goes on own is none room) =
       let held = leased_held s t core.ordered token which (leaf_of from.part e) c is in
-      single (Queues x.number (deadline_with t x) (SettleLater from c.number token session how)) (λ k. tt) (settle_queued from which token session how n (deadline_with t x) e c x there on own held.0 (living_has t token.lock (leaf_of from.part e) c.standing held.1))
+      single (Queues x.number (deadline_with t x) (SettleLater from c.number token session how)) (λ k. tt) (settle_queued from which token session how n (deadline_with t x) e c x there goes on own held.0 (living_has t token.lock (leaf_of from.part e) c.standing held.1))
   placed_way _ _ _ good fits (renews {from = from} e c there free is other) = single (in_part from.part e (Renews c.number (lock_end e t))) (λ k. tt) tt
   placed_way _ _ _ good fits (opens from id e there has free) = single (in_part from.part e (Opens id (lock_end e t))) (λ k. tt) tt
   placed_way _ _ _ good fits (prolongs {from = from} {token = token} e x there has held other) = single (in_part from.part e (Prolongs token.lock (lock_end e t))) (λ k. tt) tt

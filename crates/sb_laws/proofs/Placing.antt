@@ -17,6 +17,7 @@ use Rattle.sb_machine.specs.Keyed.{changed}
 use Rattle.sb_machine.specs.Leaves.{leaf_after}
 use Rattle.sb_machine.specs.Names.{is_address, is_main, is_same_entity}
 use Rattle.sb_machine.specs.Namespace.{entity_of, is_entity, leaf_of, with_leaf}
+use Rattle.sb_machine.specs.Settlement.{goes_with}
 use Rattle.sb_machine.specs.declared.call.Path.{Path}
 use Rattle.sb_machine.specs.declared.change.Change.{Change}
 use Rattle.sb_machine.specs.declared.change.Change.TheVariants.{AddsRule, Begins, Drops, DropsRule, InLeaf, Makes, Notes, Queues, Removes}
@@ -75,7 +76,7 @@ path_stays k t (Drops n) s owned other = λ d there. (d, there, refl)
 abbrev pub IsPlaced : Path → Operation → Type 0
 IsPlaced path (SendLater to messages) =
     (is_address to ≡ true) × (is_main to.part ≡ true) × (is_none to.subscription ≡ true) × (is_between 1 max_messages (length messages) ≡ true) × (is_same_entity to path ≡ false → Each (λ m. m.schedule ≡ None) messages)
-IsPlaced path (SettleLater from number token session how) = (is_same_entity from path ≡ true) × (is_number number ≡ true)
+IsPlaced path (SettleLater from number token session how) = (is_same_entity from path ≡ true) × (is_number number ≡ true) × (goes_with how from.part ≡ true)
 
 -- what a queued settlement's lock holds is the copy that it names
 abbrev pub OwnsLock : Space → ℕ → Operation → Type 0

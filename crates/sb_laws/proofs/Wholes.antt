@@ -21,7 +21,7 @@ use Rattle.sb_laws.proofs.Placing.{ArePlaced, IsPlaced, IsQueuedIn, OwnsLock}
 use Rattle.sb_laws.proofs.Sequences.{AreSeqs, HasSeq, SeqsIn}
 use Rattle.sb_laws.specs.Orderly.{IsOrderly, IsOrderlyCopy, IsOrderlyEntity, IsOrderlyLeaf, IsOrderlyTransaction}
 use Rattle.sb_machine.specs.Changes.{max_number}
-use Rattle.sb_machine.specs.Consistent.{IsConsistent, IsOperation, IsTransaction, locks_of, queued_lock, queued_locks}
+use Rattle.sb_machine.specs.Consistent.{IsConsistent, IsOperation, IsShown, IsTransaction, locks_of, queued_lock, queued_locks}
 use Rattle.sb_machine.specs.Each.{Each}
 use Rattle.sb_machine.specs.Fields.{is_number}
 use Rattle.sb_machine.specs.Fit.{IsCopy, IsEntity, IsHold, IsLeaf, IsListed, IsMessage}
@@ -48,6 +48,7 @@ pub record IsWhole (st : State) : Type 0 where
   pub placed : ArePlaced st.space
   pub seqs : AreSeqs max_number st.space
   pub named : AreNamed st.now st.space
+  pub shown : Each (λ k. IsShown k.reply) st.clients
 
 -- ---- what a consistent state gives
 
@@ -85,7 +86,7 @@ module _ (st : State) (h : IsConsistent st) where
 
   operation_placed : (e : Entity) (o : Operation) → IsOperation s e o → IsPlaced e.about.path o
   operation_placed e (SendLater to messages) is = (is.0, is.1, is.2, is.3, is.5)
-  operation_placed e (SettleLater from number token session how) is = (is.0, is.1)
+  operation_placed e (SettleLater from number token session how) is = (is.0, is.1, is.4)
 
   owns_lock : (n : ℕ) (e : Entity) → e.about.number ≡ n → (o : Operation) → IsOperation s e o × Each IsGiven (queued_lock o) → OwnsLock s n o
   owns_lock n e same (SendLater to messages) is = tt
@@ -110,7 +111,7 @@ module _ (st : State) (h : IsConsistent st) where
   whole_seqs = each_implied (IsEntity st.now) (EachLeaf (SeqsIn max_number)) (λ e is. each_leaf (leaf_seqs e.main is.main) (leaf_seqs e.dead is.dead) (leaf_seqs e.transfer is.transfer)) s.entities h.entities
 
   pub whole_of : IsWhole st
-  whole_of = let well = starts_well st h in record { orderly = well.orderly; contents = whole_contents; placed = whole_placed; seqs = whole_seqs; named = well.named }
+  whole_of = let well = starts_well st h in record { orderly = well.orderly; contents = whole_contents; placed = whole_placed; seqs = whole_seqs; named = well.named; shown = h.shown }
 
 -- ---- and what gives one
 
@@ -167,7 +168,7 @@ module _ (st : State) (w : IsWhole st) where
   operation_fits : (n : ℕ) (e : Entity) → e.about.number ≡ n → (o : Operation) → OperationSent IsMessage o → IsPlaced e.about.path o → OwnsLock now_in n o → IsOperation now_in e o
   operation_fits n e same (SendLater to messages) sent placed owns = (placed.0, placed.1, placed.2, placed.3, sent, placed.4)
   operation_fits n e same (SettleLater from number token session how) sent placed owns =
-      (placed.0, placed.1, sent, own_of token.lock (key_of from.part e) number now_in (subst (λ (k : ℕ). HoldsThat token.lock (key_at k from.part) number now_in) (sym same) owns.1))
+      (placed.0, placed.1, sent, own_of token.lock (key_of from.part e) number now_in (subst (λ (k : ℕ). HoldsThat token.lock (key_at k from.part) number now_in) (sym same) owns.1), placed.2)
 
   operations_fit : (n : ℕ) (e : Entity) → e.about.number ≡ n → (os : List Operation) → Each (OperationSent IsMessage) os → Each (IsPlaced e.about.path) os → Each (OwnsLock now_in n) os → Each (IsOperation now_in e) os
   operations_fit n e same [] sent placed owns = tt
@@ -207,4 +208,5 @@ module _ (st : State) (w : IsWhole st) where
     clients = o.clients;
     few_clients = o.few_clients;
     kept = o.kept;
+    shown = w.shown;
   }

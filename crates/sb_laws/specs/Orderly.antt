@@ -1,5 +1,6 @@
 -- The points of consistency that every call keeps, whatever the order of its lists. The others are what messages and filters hold inside,
--- that a copy under a session's lock names its holder, that first numbers are in range, and which copy and address a queued operation names.
+-- that a copy under a session's lock names its holder, that first numbers are in range, which copy and address a queued operation names and
+-- where it goes, and that a message which a kept reply shows is one that a part may hold.
 use Rattle.std.specs.Prelude.{◌≡◌, ◌≢◌, ℕ, ◌+◌, ◌++◌, ◌≤◌, ◌<◌, length, sum_by, is_some, true, false, None}
 use Rattle.sb_machine.specs.Answers.{max_moment}
 use Rattle.sb_machine.specs.Changes.{max_number}

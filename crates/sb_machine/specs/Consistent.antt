@@ -1,13 +1,19 @@
 -- What holds of a state between two entries of its history, point by point.
 use Rattle.std.specs.Prelude.{◌≡◌, ◌≢◌, ℕ, ◌+◌, ◌++◌, ◌≤◌, ◌<◌, List, [], ◌∷◌, length, map, filter, true, false, is_none, sum_by, Some, None}
 use Rattle.std.specs.List.{flat_map}
+use Rattle.sb_machine.specs.Administration.{large_filter}
 use Rattle.sb_machine.specs.Answers.{max_moment}
 use Rattle.sb_machine.specs.Changes.{max_number}
 use Rattle.sb_machine.specs.Fields.{max_messages, bad_in_act, bad_in_how, takes_number, is_between, is_number}
 use Rattle.sb_machine.specs.Keyed.{AreRising}
 use Rattle.sb_machine.specs.Names.{is_address, is_main, is_before, is_same_entity}
 use Rattle.sb_machine.specs.Namespace.{made, entity_of, leaf_of, key_of}
+use Rattle.sb_machine.specs.Sending.{too_large}
+use Rattle.sb_machine.specs.Sessions.{max_state, size_of}
+use Rattle.sb_machine.specs.Settlement.{goes_with}
 use Rattle.sb_machine.specs.Transactions.{max_transactions}
+use Rattle.sb_machine.specs.declared.call.Act.{Act}
+use Rattle.sb_machine.specs.declared.call.Act.TheVariants.{CreateRule, SessionSet, Send as SendNow}
 use Rattle.sb_machine.specs.declared.call.Part.{Part}
 use Rattle.sb_machine.specs.declared.call.Part.TheVariants.{Main, Dead, Transfer}
 use Rattle.sb_machine.specs.declared.change.LeafKey.{LeafKey}
@@ -75,7 +81,7 @@ IsOperation s e (Send to messages) =
     (is_address to ≡ true) × (is_main to.part ≡ true) × (is_none to.subscription ≡ true) × (is_between 1 max_messages (length messages) ≡ true)
     × Each IsMessage messages × (is_same_entity to e.about.path ≡ false → Each (λ m. m.schedule ≡ None) messages)
 IsOperation s e (Settle from number token session how) =
-    (is_same_entity from e.about.path ≡ true) × (is_number number ≡ true) × (bad_in_how how ≡ None) × IsOwn s (key_of from.part e) number token.lock
+    (is_same_entity from e.about.path ≡ true) × (is_number number ≡ true) × (bad_in_how how ≡ None) × IsOwn s (key_of from.part e) number token.lock × (goes_with how from.part ≡ true)
 
 -- what holds of an open transaction
 pub record IsTransaction (now : ℕ) (s : Space) (x : Transaction) : Type 0 where
@@ -96,12 +102,25 @@ IsReply (Remembers state) = ⊥
 IsReply (Counts main dead transfer) = ⊥
 IsReply _ = Unit {0}
 
+-- a message that such a reply shows is one that a part may hold
+abbrev pub IsShown : Reply → Type 0
+IsShown (Given shown) = IsMessage shown.message
+IsShown _ = Unit {0}
+
+-- what an accepted act carries has its size within the limits: messages, the conditions of a filter, a session's state
+abbrev pub IsSized : Act → Type 0
+IsSized (SendNow to messages txn) = too_large messages ≡ None
+IsSized (CreateRule topic subscription name filter action) = large_filter filter ≡ None
+IsSized (SessionSet from token state) = size_of state ≤ max_state
+IsSized _ = Unit {0}
+
 -- what holds of what is remembered for a client
 pub record IsKept (k : Kept) : Type 0 where
   pub client : is_between 1 50 (length k.client) ≡ true
   pub number : is_number k.number ≡ true
   pub act : takes_number k.act ≡ true
   pub fields : bad_in_act false k.act ≡ None
+  pub size : IsSized k.act
   pub reply : IsReply k.reply
 
 -- ---- the whole
@@ -126,3 +145,4 @@ pub record IsConsistent (st : State) : Type 0 where
   pub clients : IsSorted (λ a b. is_before a.client b.client) st.clients
   pub few_clients : length st.clients ≤ max_clients
   pub kept : Each IsKept st.clients
+  pub shown : Each (λ k. IsShown k.reply) st.clients

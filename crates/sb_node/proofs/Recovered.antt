@@ -33,6 +33,7 @@ starts salt = record {
   queued = tt;
   clients = tt;
   few_clients = omega arith;
+  shown = tt;
   kept = tt;
 }
 
