@@ -328,8 +328,7 @@ check_over clock days Safe salt last was ready output start status opening kept 
       checked = λ named. inl (record {
         start = start;
         last = last;
-        found = opening.found;
-        consistent = opening.consistent;
+        found = record { recovers = opening.found; consistent = opening.consistent };
         told = told;
         unread = refl;
         kept = λ honest. kept (opening.safe honest);

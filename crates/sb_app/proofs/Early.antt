@@ -67,8 +67,7 @@ early_run clock days Safe salt was now ready start state end opening run kept du
     let legal = legal_to start run.lines run.last run.part was.output.faults now.output.faults end opening.consistent run.ends in
     record {
       start = start;
-      found = opening.found;
-      consistent = opening.consistent;
+      found = record { recovers = opening.found; consistent = opening.consistent };
       lines = run.lines;
       last = run.last;
       first = run.first;
@@ -79,11 +78,9 @@ early_run clock days Safe salt was now ready start state end opening run kept du
       ends = run.ends;
       jump = run.jump;
       written = run.written;
-      legal = legal;
+      chronicle = record { legal = legal; laws = lawful start (history_to start run.lines run.last) opening.consistent legal };
       spares = spares_to start run.lines run.last run.part was.output.faults now.output.faults end opening.consistent run.ends;
-      laws = lawful start (history_to start run.lines run.last) opening.consistent legal;
-      kept = λ honest sound. subst (Recovers (recovered_on now.disks salt)) leads (kept honest sound);
-      durable = λ honest sound. subst (IsDurable now.disks) leads (durable honest sound);
+      backed = λ honest sound. record { recovers = subst (Recovers (recovered_on now.disks salt)) leads (kept honest sound); durable = subst (IsDurable now.disks) leads (durable honest sound) };
       undecided = λ honest failed. subst (λ (y : State). IsUndecided now.disks y run.last) (led_to start run.lines) (run.undecided (opening.safe honest) failed);
       moments = moments_of Safe salt start (run.lines ++ line_of_last run.last) was.disks ready now.disks opening run.moments;
     }

@@ -143,11 +143,9 @@ unserved_call clock days Works count Safe salt was ready doors start opening rec
     refl,
     record {
       start = start;
-      found = opening.found;
-      consistent = opening.consistent;
+      found = record { recovers = opening.found; consistent = opening.consistent };
       unsaid = refl;
-      kept = λ honest. recovers (opening.safe honest);
-      durable = opening.holds;
+      backed = λ honest. record { recovers = recovers (opening.safe honest); durable = opening.holds honest };
       opens = opening.opens;
       quiet = opening.quiet;
     },
@@ -174,14 +172,12 @@ jumped_call {R} clock days Works count Safe salt was ready output doors start ju
     let jumped : HasJumped clock days salt was (record was { output = output; disks = ready }) =
     record {
       start = start;
-      found = opening.found;
-      consistent = opening.consistent;
+      found = record { recovers = opening.found; consistent = opening.consistent };
       reading = jump.reading;
       read = far.read;
       far = subst (λ (m : ℕ). jumps days m jump.reading ≡ true) far.at far.far;
       told = subst (λ (m : ℕ). IsLineWritten (jump_line m jump.reading) was.output output) far.at told;
-      kept = λ honest. recovers (opening.safe honest);
-      durable = opening.holds;
+      backed = λ honest. record { recovers = recovers (opening.safe honest); durable = opening.holds honest };
       opens = opening.opens;
       quiet = opening.quiet;
     }
@@ -435,13 +431,11 @@ module _ {R : Type 0} (clock : ℕ → Type 0) (days : ℕ) (Works : Open → Wo
       → IsLineTold (report_line report) was.output now.output told → IsServed clock days Works salt was now doors doors_now (serve_status stopped ending told)
   served opening settled origin worked counts closed line = record {
     start = desk.start;
-    found = opening.found;
-    consistent = opening.consistent;
+    found = record { recovers = opening.found; consistent = opening.consistent };
     settled = settled;
     history = h;
-    legal = closed.legal;
+    chronicle = record { legal = closed.legal; laws = lawful desk.start h opening.consistent closed.legal };
     spares = closed.spares;
-    laws = lawful desk.start h opening.consistent closed.legal;
     desk = desk;
     begins = refl;
     many = worked.many;
@@ -466,8 +460,7 @@ module _ {R : Type 0} (clock : ℕ → Type 0) (days : ℕ) (Works : Open → Wo
     unfailed = opening.quiet;
     as_honest = opening.honesty;
     follows = λ honest. closed.follows (stays_honest honest);
-    kept = λ honest other. closed.recovers (stays_honest honest) (goes_elsewhere stopped ending told other);
-    durable = λ honest other. closed.durable (stays_honest honest) (goes_elsewhere stopped ending told other);
+    backed = λ honest other. record { recovers = closed.recovers (stays_honest honest) (goes_elsewhere stopped ending told other); durable = closed.durable (stays_honest honest) (goes_elsewhere stopped ending told other) };
     left = λ honest. closed.left (stays_honest honest);
   }
     where

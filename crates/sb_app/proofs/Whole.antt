@@ -97,18 +97,15 @@ whole_run clock days Safe salt was now ready start state refused status opening 
     let legal = legal_history start (script_lines run.input) opening.consistent in
     record {
       start = start;
-      found = opening.found;
-      consistent = opening.consistent;
+      found = record { recovers = opening.found; consistent = opening.consistent };
       input = run.input;
       took = run.took;
       ended = run.ended;
       within = run.within;
       written = run.written;
-      legal = legal.0;
-      laws = lawful start (history_of start (script_lines run.input)) opening.consistent legal.0;
+      chronicle = record { legal = legal.0; laws = lawful start (history_of start (script_lines run.input)) opening.consistent legal.0 };
       faultless = legal.1;
-      kept = λ honest. subst (Recovers (recovered_on now.disks salt)) leads (kept honest);
-      durable = λ honest. subst (IsDurable now.disks) leads (durable honest);
+      backed = λ honest. record { recovers = subst (Recovers (recovered_on now.disks salt)) leads (kept honest); durable = subst (IsDurable now.disks) leads (durable honest) };
       says = is ∙ ap status_by run.says;
       moments = moments_of Safe salt start (script_lines run.input) was.disks ready now.disks opening run.moments;
     }

@@ -3,13 +3,13 @@ use Rattle.std.specs.Prelude.{◌≡◌, ◌⊎◌, ℕ, List, [], ◌++◌, cod
 use Rattle.std.specs.Fmt.{decimal}
 use Rattle.sb_outside.specs.Causes.{RoseByOne}
 use Rattle.sb_outside.specs.Streams.{Gains}
-use Rattle.sb_machine.specs.Consistent.{IsConsistent}
 use Rattle.sb_machine.specs.declared.state.State.{State}
 use Rattle.sb_engine.specs.Engines.{summary_of}
 use Rattle.sb_engine.specs.declared.summary.Summary.{Summary}
 use Rattle.sb_journal.specs.Disks.{AreHonest, KeepFound}
-use Rattle.sb_node.specs.Recovery.{Recovers, recovers, recovered_on}
+use Rattle.sb_node.specs.Recovery.{recovers, recovered_on}
 use Rattle.sb_node.specs.Nodes.{IsDurable}
+use Rattle.sb_app.specs.Backing.{IsFound}
 use Rattle.sb_app.specs.Outside.{Output, Outside}
 use Rattle.sb_app.specs.Endings.{IsFront}
 
@@ -40,8 +40,7 @@ pub record IsLineTold (line : List ℕ) (was now : Output) (status : ℕ) : Type
 pub record IsChecked (salt : ℕ) (was now : Outside) (status : ℕ) : Type 0 where
   pub start : State
   pub last : ℕ
-  pub found : AreHonest was.disks → Recovers (recovered_on was.disks salt) start
-  pub consistent : IsConsistent start
+  pub found : IsFound salt was.disks start
   pub told : IsLineTold (check_line (summary_of start last)) was.output now.output status
   pub unread : now.input ≡ was.input
   pub kept : AreHonest was.disks → recovered_on now.disks salt ≡ recovers start last

@@ -2,14 +2,13 @@
 use Rattle.std.specs.Prelude.{◌≡◌, ◌≢◌, ◌⊎◌, ℕ, ◌*◌, List, [], ◌∷◌, ◌++◌, codes, length, map, max, Bool, true, false}
 use Rattle.std.specs.Fmt.{decimal}
 use Rattle.sb_outside.specs.Causes.{Rose, RoseByOne}
-use Rattle.sb_machine.specs.Consistent.{IsConsistent}
-use Rattle.sb_machine.specs.History.{IsLegal, after_entries, fresh_log, state_after, stops}
+use Rattle.sb_machine.specs.History.{after_entries, fresh_log, state_after, stops}
 use Rattle.sb_machine.specs.declared.history.Entry.{Entry}
 use Rattle.sb_machine.specs.declared.history.Entry.TheVariants.{Ticked, Answered as Replied}
 use Rattle.sb_machine.specs.declared.state.State.{State}
 use Rattle.sb_journal.specs.Disks.{Disks, AreHonest, KeepFound, AreQuiet, SameHonesty}
 use Rattle.sb_node.specs.Nodes.{IsDurable, IsOneOf}
-use Rattle.sb_node.specs.Recovery.{Recovers, recovered_on}
+use Rattle.sb_node.specs.Recovery.{recovered_on}
 use Rattle.sb_node.specs.Serving.{origin_of, states_left, FollowHistory, HasDiskRisen}
 use Rattle.sb_node.specs.Steps.{is_spared}
 use Rattle.sb_desk.specs.Desks.{IsKeptIn, IsNew, Open, Sitting, below}
@@ -22,10 +21,10 @@ use Rattle.sb_server.specs.declared.limits.Limits.{Limits}
 use Rattle.sb_server.specs.declared.ending.ServeEnding.{ServeEnding}
 use Rattle.sb_server.specs.declared.ending.ServeEnding.TheVariants.{Done, DoorFault, OutOfMemory}
 use Rattle.sb_words.specs.Words.{idle_time_in, request_time_in}
+use Rattle.sb_app.specs.Backing.{IsBacked, IsChronicle, IsFound}
 use Rattle.sb_app.specs.Checks.{IsLineTold}
 use Rattle.sb_app.specs.Endings.{IsLineWritten, status_of_end}
 use Rattle.sb_app.specs.Jumps.{jumps, jump_line, IsSettled}
-use Rattle.sb_app.specs.Lawful.{HasLaws}
 use Rattle.sb_app.specs.Outside.{Outside}
 use Rattle.sb_app.specs.Tops.{IsBroken, IsQuiet, IsRefused, IsUnopened}
 use Rattle.sb_app.specs.declared.ending.RunEnd.{RunEnd}
@@ -87,14 +86,12 @@ HasDoorRisen count (d ∷ ds) (e ∷ es) = Rose (count d) (count e) ⊎ HasDoorR
 -- the state behind it, or to that after the event which a failed disk left undecided.
 pub record IsServed {R : Type 0} (reads : ℕ → Type 0) (days : ℕ) (Works : Open → Worker R → Type 0) (salt : ℕ) (was now : Outside) (doors doors_now : List R) (status : ℕ) : Type 0 where
   pub start : State
-  pub found : AreHonest was.disks → Recovers (recovered_on was.disks salt) start
-  pub consistent : IsConsistent start
+  pub found : IsFound salt was.disks start
   -- the clock, read behind the opening, wasn't too far ahead
   pub settled : IsSettled reads days start.now
   pub history : List Entry
-  pub legal : IsLegal start history
+  pub chronicle : IsChronicle start history
   pub spares : Spares is_spared start history
-  pub laws : HasLaws start history
   pub desk : Open
   pub begins : desk.start ≡ start
   pub many : desk.passes ≡ passes_for (length doors)
@@ -124,19 +121,16 @@ pub record IsServed {R : Type 0} (reads : ℕ → Type 0) (days : ℕ) (Works : 
   -- a crash at any moment since leads to the state after a front of the history, which has all that was answered by then
   pub follows : AreHonest was.disks → FollowHistory start history ready now.disks
   -- unless a disk failed, the disks stand for the state behind the history, also after a crash
-  pub kept : AreHonest was.disks → status ≢ 5 → Recovers (recovered_on now.disks salt) (state_after start history)
-  pub durable : AreHonest was.disks → status ≢ 5 → IsDurable now.disks (state_after start history)
+  pub backed : AreHonest was.disks → status ≢ 5 → IsBacked salt now.disks (state_after start history)
   -- whatever the status
   pub left : AreHonest was.disks → IsOneOf now.disks (states_left start history)
 
 -- The namespace was opened and, for want of memory, not served.
 pub record IsUnserved (salt : ℕ) (was now : Outside) : Type 0 where
   pub start : State
-  pub found : AreHonest was.disks → Recovers (recovered_on was.disks salt) start
-  pub consistent : IsConsistent start
+  pub found : IsFound salt was.disks start
   pub unsaid : now.output ≡ was.output
-  pub kept : AreHonest was.disks → Recovers (recovered_on now.disks salt) start
-  pub durable : AreHonest was.disks → IsDurable now.disks start
+  pub backed : AreHonest was.disks → IsBacked salt now.disks start
   pub opens : AreHonest was.disks → KeepFound salt was.disks now.disks
   pub quiet : AreQuiet was.disks now.disks
 
@@ -144,14 +138,12 @@ pub record IsUnserved (salt : ℕ) (was now : Outside) : Type 0 where
 -- and the disks are as the opening left them.
 pub record HasJumped (reads : ℕ → Type 0) (days salt : ℕ) (was now : Outside) : Type 0 where
   pub start : State
-  pub found : AreHonest was.disks → Recovers (recovered_on was.disks salt) start
-  pub consistent : IsConsistent start
+  pub found : IsFound salt was.disks start
   pub reading : ℕ
   pub read : reads reading
   pub far : jumps days start.now reading ≡ true
   pub told : IsLineWritten (jump_line start.now reading) was.output now.output
-  pub kept : AreHonest was.disks → Recovers (recovered_on now.disks salt) start
-  pub durable : AreHonest was.disks → IsDurable now.disks start
+  pub backed : AreHonest was.disks → IsBacked salt now.disks start
   pub opens : AreHonest was.disks → KeepFound salt was.disks now.disks
   pub quiet : AreQuiet was.disks now.disks
 

@@ -3,11 +3,10 @@ use Rattle.std.specs.Prelude.{◌≡◌, ◌≢◌, ◌⊎◌, ◌<◌, ℕ, Lis
 use Rattle.std.specs.Fmt.{decimal}
 use Rattle.sb_outside.specs.Causes.{Rose, RoseByOne}
 use Rattle.sb_outside.specs.Streams.{Gains}
-use Rattle.sb_machine.specs.Consistent.{IsConsistent}
-use Rattle.sb_machine.specs.History.{IsLegal, IsFaultless, state_after}
+use Rattle.sb_machine.specs.History.{IsFaultless, state_after}
 use Rattle.sb_machine.specs.declared.state.State.{State}
 use Rattle.sb_journal.specs.Disks.{Disks, AreHonest, AreUnwritten, IsAtRest, KeepFound, HaveFailed, AreQuiet, SameHonesty}
-use Rattle.sb_node.specs.Recovery.{Recovered, damaged, Recovers, recovered_on}
+use Rattle.sb_node.specs.Recovery.{Recovered, damaged, recovered_on}
 use Rattle.sb_node.specs.Nodes.{IsDurable}
 use Rattle.sb_node.specs.Steps.{is_spared}
 use Rattle.sb_desk.specs.Spared.{Spares}
@@ -28,7 +27,7 @@ use Rattle.sb_app.specs.Jumps.{AllWithin}
 use Rattle.sb_input.specs.Taking.{Took, HasEnded, IsLong}
 use Rattle.sb_app.specs.Taking.{IsTaken}
 use Rattle.sb_app.specs.Runs.{FollowLines, replies_to, history_of, any_refused, status_by, state_after_all}
-use Rattle.sb_app.specs.Lawful.{HasLaws}
+use Rattle.sb_app.specs.Backing.{IsBacked, IsChronicle, IsFound}
 use Rattle.sb_app.specs.Checks.{IsChecked}
 use Rattle.sb_app.specs.Endings.{IsLineWritten, IsUndecided, LastLine, line_of_last, EndsAt, AreFirst, IsTimeJump, history_to, status_of_end}
 
@@ -46,18 +45,15 @@ pub record HasMoments (salt : ℕ) (start : State) (lines : List ScriptLine) (wa
 -- order and no other, as none was too far ahead of the clock; the history of its calls is legal, and its last state is what the disks stand for, also after a crash.
 pub record IsWholeRun (reads : ℕ → Type 0) (days salt : ℕ) (was now : Outside) (status : ℕ) : Type 0 where
   pub start : State
-  pub found : AreHonest was.disks → Recovers (recovered_on was.disks salt) start
-  pub consistent : IsConsistent start
+  pub found : IsFound salt was.disks start
   pub input : List ℕ
   pub took : Took was.input.left now.input.left input
   pub ended : HasEnded was.input.left now.input.left
   pub within : AllWithin reads days (script_lines input)
   pub written : Gains was.output.given now.output.given (replies_to start (script_lines input))
-  pub legal : IsLegal start (history_of start (script_lines input))
-  pub laws : HasLaws start (history_of start (script_lines input))
+  pub chronicle : IsChronicle start (history_of start (script_lines input))
   pub faultless : IsFaultless (history_of start (script_lines input))
-  pub kept : AreHonest was.disks → Recovers (recovered_on now.disks salt) (state_after start (history_of start (script_lines input)))
-  pub durable : AreHonest was.disks → IsDurable now.disks (state_after start (history_of start (script_lines input)))
+  pub backed : AreHonest was.disks → IsBacked salt now.disks (state_after start (history_of start (script_lines input)))
   pub says : status ≡ status_by (any_refused start (script_lines input))
   -- a crash at any moment of the run leads to the state after its first lines, and to no earlier one than at the moment before
   pub moments : AreHonest was.disks → HasMoments salt start (script_lines input) was.disks now.disks
@@ -67,8 +63,7 @@ pub record IsWholeRun (reads : ℕ → Type 0) (days salt : ℕ) (was now : Outs
 -- after a crash.
 pub record IsEarlyRun (reads : ℕ → Type 0) (days salt : ℕ) (was now : Outside) (end : RunEnd) : Type 0 where
   pub start : State
-  pub found : AreHonest was.disks → Recovers (recovered_on was.disks salt) start
-  pub consistent : IsConsistent start
+  pub found : IsFound salt was.disks start
   pub lines : List ScriptLine
   pub last : Option LastLine
   pub first : AreFirst was.input.left (lines ++ line_of_last last)
@@ -79,11 +74,9 @@ pub record IsEarlyRun (reads : ℕ → Type 0) (days salt : ℕ) (was now : Outs
   pub ends : EndsAt (state_after_all start lines) last part was.output.faults now.output.faults end
   pub jump : end ≡ TimeJump → IsTimeJump reads days was.input.left lines part was.output.faults now.output.faults
   pub written : Gains was.output.given now.output.given (replies_to start lines ++ part)
-  pub legal : IsLegal start (history_to start lines last)
+  pub chronicle : IsChronicle start (history_to start lines last)
   pub spares : Spares is_spared start (history_to start lines last)
-  pub laws : HasLaws start (history_to start lines last)
-  pub kept : AreHonest was.disks → end ≢ DiskFault → Recovers (recovered_on now.disks salt) (state_after start (history_to start lines last))
-  pub durable : AreHonest was.disks → end ≢ DiskFault → IsDurable now.disks (state_after start (history_to start lines last))
+  pub backed : AreHonest was.disks → end ≢ DiskFault → IsBacked salt now.disks (state_after start (history_to start lines last))
   -- the call that was answered by a failed disk is there or not
   pub undecided : AreHonest was.disks → end ≡ DiskFault → IsUndecided now.disks (state_after start (history_of start lines)) last
   pub moments : AreHonest was.disks → HasMoments salt start (lines ++ line_of_last last) was.disks now.disks
