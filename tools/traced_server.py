@@ -20,9 +20,10 @@ CALLS = "open,openat,creat,bind,connect,write,pwrite64,writev,fsync,fdatasync,se
 LOADED = re.compile(
     r"/etc/ld\.so\.\w+|/(usr/)?lib(64)?/.*|.*\.so(\.\d+)*|/proc/self/(limits|cgroup)|/sys/(fs/cgroup|devices/system/cpu)/.*"
 )
-# each request with the calls that answer it: w a write to the journal, s a sync of it, r a response
+# each request with the calls that answer it: w a write to the journal, s a sync of it, r a response; the first record
+# is followed by zeros, which the next ones are written over
 REQUESTS = [
-    ('{"do":"create-queue","name":"q"}', "wswsr"),
+    ('{"do":"create-queue","name":"q"}', "wwswsr"),
     ('{"do":"send","to":"q","messages":[{"body":"a"},{"body":"b"}]}', "wswsr"),
     ('{"do":"peek","from":"q","start":1,"count":1}', "r"),
     ('{"do":"receive","from":"q"}', "wswsr"),

@@ -128,7 +128,7 @@ fn a_file_fails(rt: HostRuntime) -> Result<(), Fail> {
             syncs,
         };
         let name = String::from_str(rt.alloc(), "flaky.journal")?;
-        let mut disk = FileDisk::new(file, name, rt);
+        let mut disk = FileDisk::new(rt.alloc(), file, name, rt);
         let mut piece = [0u8; 4];
         let found = [
             disk.length().is_err(),

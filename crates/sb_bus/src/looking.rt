@@ -26,7 +26,7 @@ pub(crate) fn over_files<T: Threads + Wait + Sync>(call: &Call<T>, folder: &str)
         return NOT_MADE;
     };
     let mut doors: Vec<NoDoor> = Vec::new(rt.alloc());
-    let status = over_disks(
+    let (status, disks) = over_disks(
         call,
         disk_a,
         disk_b,
@@ -34,6 +34,7 @@ pub(crate) fn over_files<T: Threads + Wait + Sync>(call: &Call<T>, folder: &str)
         &PauseLobby,
         &mut NoLink::new(),
     );
+    drop(disks);
     say(rt, status, folder)
 }
 

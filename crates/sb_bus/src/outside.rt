@@ -239,7 +239,9 @@ fn over_nothing<T: Threads + Wait + Sync, N: Link>(call: &Call<T>, link: &mut N)
         return NO_MEMORY;
     };
     let mut doors: Vec<NoDoor> = Vec::new(alloc);
-    over_disks(call, disk_a, disk_b, &mut doors, &PauseLobby, link)
+    let (status, disks) = over_disks(call, disk_a, disk_b, &mut doors, &PauseLobby, link);
+    drop(disks);
+    status
 }
 
 // Calls the top over the files of a folder, which is locked meanwhile, and these doors.
@@ -265,25 +267,37 @@ where
     let Some((disk_a, disk_b)) = disks_in(rt, rt.alloc(), folder, rt) else {
         return NOT_MADE;
     };
-    let status = over_disks(call, disk_a, disk_b, doors, lobby, &mut NoLink::new());
+    let (status, disks) = over_disks(call, disk_a, disk_b, doors, lobby, &mut NoLink::new());
+    if let Some((disk_a, disk_b)) = disks {
+        disk_a.close();
+        disk_b.close();
+    }
     drop(lock);
     drop(streams);
     say(rt, status, folder)
 }
 
-/// Calls the top over these disks, doors and link, and the real clock and streams.
+/// Calls the top over these disks, doors and link, and the real clock and streams. Gives its status, and the disks
+/// where they come back.
 pub(crate) fn over_disks<
     T: Threads + Wait + Sync,
     D: Disk + Send + Drop,
     R: Door + Send,
     L: Lobby + Sync,
     N: Link,
->(call: &Call<T>, disk_a: D, disk_b: D, doors: &mut Vec<R>, lobby: &L, link: &mut N) -> u8
+>(
+    call: &Call<T>,
+    disk_a: D,
+    disk_b: D,
+    doors: &mut Vec<R>,
+    lobby: &L,
+    link: &mut N,
+) -> (u8, Option<(D, D)>)
 where
     R::Conn: Send,
 {
     let rt = call.rt;
-    let (status, disks) = top(
+    top(
         call.threads,
         rt.alloc(),
         call.words,
@@ -299,9 +313,7 @@ where
         &call.key,
         link,
         &Printing::new(rt, &call.clock, call.port),
-    );
-    drop(disks);
-    status
+    )
 }
 
 // The nanoseconds since 1970 as a salt.

@@ -49,7 +49,7 @@ fn changed_memory(alloc: Global) -> Result<(Result<usize, DiskFault>, [u8; 8]), 
 
 // How long the disk over this file is.
 fn length_of(rt: HostRuntime, name: &str) -> Result<u64, Fail> {
-    let mut file = open_disk(&rt, String::from_str(rt.alloc(), name)?, rt)?;
+    let mut file = open_disk(&rt, rt.alloc(), String::from_str(rt.alloc(), name)?, rt)?;
     let length = file.length();
     drop(file);
     length.map_err(|_| Fail::from("no length"))
@@ -61,7 +61,7 @@ fn memory_and_a_file_agree(rt: HostRuntime) -> Result<(), Fail> {
     let (count, from_disk) = changed_memory(rt.alloc())?;
     assert!(rt; count == Ok(5));
     assert_eq!(rt; from_disk, *b"oined\0\0\0");
-    let mut file = open_disk(&rt, String::from_str(rt.alloc(), name)?, rt)?;
+    let mut file = open_disk(&rt, rt.alloc(), String::from_str(rt.alloc(), name)?, rt)?;
     assert!(rt; sync_folder(&rt, ".").is_ok());
     let (count, from_file) = changed(&mut file);
     assert!(rt; count == Ok(5));
@@ -72,6 +72,40 @@ fn memory_and_a_file_agree(rt: HostRuntime) -> Result<(), Fail> {
     drop(file);
     assert_eq!(rt; length?, 6);
     fs::remove_file(&rt, name)?;
+    Ok(())
+}
+
+// Writes a created file and a record behind it, and gives how long the disk says that it is and how long another
+// one over the same file does.
+fn run_ahead<D: Disk>(file: &mut D) -> Result<u64, DiskFault> {
+    let _ = file.length()?;
+    file.write_at(0, &[0; 43])?;
+    file.sync()?;
+    file.write_at(0, &[1])?;
+    file.sync()?;
+    file.write_at(43, &[7; 100])?;
+    file.sync()?;
+    file.length()
+}
+
+// A file that begins with 01 is longer than what is written in it, and is cut to that as it is closed.
+#[test]
+fn a_file_runs_ahead(rt: HostRuntime) -> Result<(), Fail> {
+    let name = "sb_outside_ahead.journal";
+    let mut file = open_disk(&rt, rt.alloc(), String::from_str(rt.alloc(), name)?, rt)?;
+    let written = run_ahead(&mut file);
+    let mut piece = [9; 64];
+    let read = file.read(120, &mut piece);
+    let ahead = length_of(rt, name);
+    file.close();
+    let closed = length_of(rt, name);
+    fs::remove_file(&rt, name)?;
+    assert!(rt; written == Ok(143));
+    assert!(rt; read == Ok(23));
+    assert_eq!(rt; piece[22], 7);
+    assert_eq!(rt; piece[23], 9);
+    assert_eq!(rt; ahead?, 143 + 65_536);
+    assert_eq!(rt; closed?, 143);
     Ok(())
 }
 

@@ -14,6 +14,7 @@ const SEE_FILE: &str = "see that it may be read and written";
 /// folder has to be there.
 pub fn open_disk<R: Files, E: Eprint + Drop>(
     files: &R,
+    alloc: Global,
     name: String,
     stderr: E,
 ) -> io::Result<FileDisk<R::File, E>>
@@ -24,7 +25,7 @@ pub fn open_disk<R: Files, E: Eprint + Drop>(
         .write(true)
         .create(true)
         .open(files, name.as_str())?;
-    Ok(FileDisk::new(file, name, stderr))
+    Ok(FileDisk::new(alloc, file, name, stderr))
 }
 
 /// The disks of a folder: its files `a.journal` and `b.journal`, which are found there after a crash too.
@@ -55,7 +56,7 @@ fn journal_in<R: Files, E: Eprint + Copy + Drop>(
         &stderr,
         shown.as_str(),
         SEE_FILE,
-        open_disk(files, path, stderr),
+        open_disk(files, alloc, path, stderr),
     )
 }
 
