@@ -6,6 +6,8 @@
 //! takes a node that was promised, to take one out or to change one takes none, so none of these can
 //! fail.
 //!
+//! [`hash_of`] makes a text a number, for rows that are found by a text.
+//!
 //! ```text
 //! let mut index = Index::new(alloc);
 //! index.reserve(1)?;                                   // a node is promised
@@ -17,6 +19,7 @@
 #![tactic(auto)]
 
 mod changing;
+mod hash;
 mod index;
 mod row;
 mod searching;
@@ -25,6 +28,7 @@ mod turning;
 mod wanted;
 mod worked;
 
+pub use hash::hash_of;
 pub use index::Index;
 pub use row::Row;
 pub use worked::worked_rows;
