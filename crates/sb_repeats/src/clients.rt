@@ -1,13 +1,14 @@
 // The last numbered call of each client.
-ghost use Rattle.std.specs.Prelude.{◌≡◌, ◌+◌, ◌-◌, ◌≤◌, ◌<◌, max, [], ◌∷◌, length, find, position, OnOk, OnErr, IfSome, slice_set, vec_len, vec_capacity};
-ghost use Rattle.std.specs.List.{prefix_len};
+ghost use Rattle.std.specs.Prelude.{◌≡◌, ◌+◌, ◌-◌, ◌≤◌, ◌<◌, max, [], length, OnOk, OnErr, IsTrue, is_some, slice_set, vec_len, vec_capacity};
+ghost use Rattle.std.specs.List.{insert, prefix_len, slice_get};
 ghost use Rattle.std.specs.Option.{option_map};
 ghost use Rattle.std.specs.Ordering.{nat_cmp, is_lt};
 ghost use Rattle.std.specs.Cmp.Lexicographic.{slice_cmp};
 ghost use Rattle.sb_machine.specs.Answers.{with_kept};
-ghost use Rattle.sb_machine.specs.Keyed.{with_sorted};
+ghost use Rattle.sb_machine.specs.Each.{IsSorted};
 ghost use Rattle.sb_machine.specs.Names.{is_before};
-ghost use Rattle.sb_machine.specs.Repeats.{is_client, kept_for};
+ghost use Rattle.sb_machine.specs.Repeats.{kept_for};
+ghost use Rattle.sb_repeats.specs.Clients.{is_first, of_client};
 
 use sb_machine::Kept;
 use std::alloc::{AllocError, Global};
@@ -23,13 +24,14 @@ pub struct Clients {
 
 impl Model for Clients {
     ghost use Rattle.std.specs.Prelude.{◌+◌, ◌≤◌, vec_len, vec_capacity};
-    ghost use Rattle.sb_repeats.specs.Clients.{Known};
+    ghost use Rattle.sb_machine.specs.Each.{IsSorted};
+    ghost use Rattle.sb_repeats.specs.Clients.{is_first, Known};
 
     ghost Value = { Known };
 
     ghost view = { λ s. record { clients = s.clients.items; spare = s.spare } };
 
-    ghost invariant = { λ s. vec_len s.clients + s.spare ≤ vec_capacity s.clients };
+    ghost invariant = { λ s. IsSorted is_first s.clients.items × (vec_len s.clients + s.spare ≤ vec_capacity s.clients) };
 }
 
 impl Clients {
@@ -70,12 +72,6 @@ impl Clients {
         self.clients.len()
     }
 
-    pub fn as_slice(&self) -> &[Kept]
-        ensures { result.now ≡ self.now.clients }
-    {
-        self.clients.as_slice()
-    }
-
     /// What is kept for a client.
     pub fn get<'a>(&'a self, client: &str) -> Option<&'a Kept>
         ensures { option_map (λ k. k.now) result ≡ kept_for client.now self.now.clients }
@@ -95,38 +91,49 @@ impl Clients {
     }
 }
 
-fn place_of(rows: &[Kept], client: &str) -> Option<usize>
-    ensures { result ≡ position (is_client client.now) rows.now }
-{
-    rows.iter().position(|k| k.client.as_str() == client)
-}
-
-fn kept_of<'a>(rows: &'a [Kept], client: &str) -> Option<&'a Kept>
-    ensures { option_map (λ k. k.now) result ≡ kept_for client.now rows.now }
-{
-    match place_of(rows, client) {
-        Some(place) => Some(&rows[place]),
-        None => None,
-    }
-}
-
 // How many stand before this client.
 fn entry_of(rows: &[Kept], client: &str) -> usize
+    requires order { IsSorted is_first rows.now }
     ensures place { result ≡ prefix_len (λ x. is_before x.client client.now) rows.now }
     ensures within { result ≤ length rows.now }
 {
-    rows.iter()
-        .take_while(|x| x.client.as_str() < client)
-        .count()
+    rows.partition_point(|x| x.client.as_str() < client)
 }
 
-fn insert_row(rows: &mut Vec<Kept>, kept: Kept)
+fn kept_there<'a>(rows: &'a [Kept], place: usize, client: &str) -> Option<&'a Kept>
+    ensures { option_map (λ k. k.now) result ≡ of_client client.now (slice_get rows.now place) }
+{
+    let kept = rows.get(place)?;
+    if kept.client.as_str() == client {
+        Some(kept)
+    } else {
+        None
+    }
+}
+
+#[tactic(auto, using(crate::proofs::Keeping::place_within))]
+fn is_there(rows: &[Kept], place: usize, client: &str) -> bool
+    ensures is { result ≡ is_some (of_client client.now (slice_get rows.now place)) }
+    ensures within { IsTrue result → place < length rows.now }
+{
+    kept_there(rows, place, client).is_some()
+}
+
+#[tactic(auto, using(crate::proofs::Keeping::kept_at))]
+fn kept_of<'a>(rows: &'a [Kept], client: &str) -> Option<&'a Kept>
+    requires order { IsSorted is_first rows.now }
+    ensures { option_map (λ k. k.now) result ≡ kept_for client.now rows.now }
+{
+    kept_there(rows, entry_of(rows, client), client)
+}
+
+fn insert_at(rows: &mut Vec<Kept>, place: usize, kept: Kept)
+    requires within { place ≤ length rows.old.items }
     requires room { vec_len rows.old < vec_capacity rows.old }
-    ensures rows { rows.new.items ≡ with_sorted (λ x. is_before x.client kept.client) kept rows.old.items }
+    ensures rows { rows.new.items ≡ insert rows.old.items place kept }
     ensures len { vec_len rows.new ≤ vec_len rows.old + 1 }
     ensures capacity { vec_capacity rows.new ≡ vec_capacity rows.old }
 {
-    let place = entry_of(rows, kept.client.as_str());
     drop(rows.insert(place, kept));
 }
 
@@ -140,15 +147,19 @@ fn replace_at(rows: &mut Vec<Kept>, place: usize, kept: Kept)
     drop(old);
 }
 
+#[tactic(auto, using(crate::proofs::Keeping::keep_known, crate::proofs::Keeping::keep_new, crate::proofs::Keeping::sorted_known))]
 fn keep_row(rows: &mut Vec<Kept>, kept: Kept)
+    requires order { IsSorted is_first rows.old.items }
     requires room { vec_len rows.old < vec_capacity rows.old }
     ensures rows { rows.new.items ≡ with_kept kept rows.old.items }
+    ensures order { IsSorted is_first rows.new.items }
     ensures len { vec_len rows.new ≤ vec_len rows.old + 1 }
     ensures capacity { vec_capacity rows.new ≡ vec_capacity rows.old }
 {
-    let Some(place) = place_of(rows, kept.client.as_str()) else {
-        insert_row(rows, kept);
-        return;
-    };
-    replace_at(rows, place, kept);
+    let place = entry_of(rows, kept.client.as_str());
+    if is_there(rows, place, kept.client.as_str()) {
+        replace_at(rows, place, kept);
+    } else {
+        insert_at(rows, place, kept);
+    }
 }
