@@ -1,2 +1,5 @@
 pub mod Bisecting
+pub mod Forgetting
+pub mod Ids
 pub mod Keeping
+pub mod Keys

@@ -1,11 +1,12 @@
 //! What lets a repeated call act once: the ids that an entity accepted within its window, and the
 //! last numbered call of each client.
 //!
-//! It stands on the model alone. Contracts see a [`Window`] as the list of its ids, [`Clients`] as
-//! the list of what is kept, each with a number of slots that are promised. To note an id is the
-//! model's `noted`, to keep a call its `with_kept`, and both take a slot that was promised before,
-//! and so can't fail. [`is_same_act`] is the model's test whether two acts are equal in all their
-//! fields.
+//! It stands on the model and on `sb_index`. Contracts see a [`Window`] as the list of its ids,
+//! [`Clients`] as the list of what is kept, each with a number of slots that are promised. To note an
+//! id is the model's `noted`, to keep a call its `with_kept`, and both take a slot that was promised
+//! before, and so can't fail. Whether an id is known, and what is kept of a client, is found in the
+//! logarithm of their number. [`is_same_act`] is the model's test whether two acts are equal in all
+//! their fields.
 //!
 //! ```text
 //! let mut window = Window::new(alloc);
@@ -17,6 +18,8 @@
 #![tactic(auto)]
 
 mod clients;
+mod known;
+mod noting;
 mod same;
 mod same_act;
 mod window;
