@@ -1,6 +1,7 @@
 -- Open transactions stay in rising number.
 use Rattle.std.proofs.Common.{◌≡◌, ℕ, ◌+◌, ◌<◌, ◌≤◌, ◌&&◌, nat_le, nat_lt, Bool, true, false, List, [], ◌∷◌, ◌++◌, filter, refl, arith}
 use Rattle.std.proofs.lemmas.Bool.Decides.{nat_tests}
+use Rattle.sb_machine.specs.Each.{Each}
 use Rattle.sb_machine.specs.Keyed.{AreRising, changed}
 use Rattle.sb_machine.specs.declared.state.Operation.{Operation}
 use Rattle.sb_txn.specs.Txns.{Opened, has_txn, begun, with_queued, is_elsewhere}
@@ -52,3 +53,14 @@ opened_begun n deadline last rows h = is_rising 0 (last + 1) (rows ++ record { t
 
 pub opened_elsewhere : (n last : ℕ) (rows : List Opened) → AreOpened last rows → AreOpened last (filter (λ r. is_elsewhere n r.transaction) rows)
 opened_elsewhere n last rows h = is_rising 0 last (filter (λ r. is_elsewhere n r.transaction) rows) (rising_filter txn_number (λ r. is_elsewhere n r.transaction) 0 last rows (rising_is 0 last rows h))
+
+-- the next number is above theirs
+pub opened_below : (last : ℕ) (rows : List Opened) → AreOpened last rows → Each (λ r. r.transaction.number < last + 1) rows
+opened_below last rows h = below 0 rows (rising_is 0 last rows h) where
+  top : (above : ℕ) (rows : List Opened) → AreRising txn_number above last rows → above ≤ last
+  top above [] h = h
+  top above (r ∷ rs) h = let up = top (txn_number r) rs h.1 in omega (arith, up, h.0)
+
+  below : (above : ℕ) (rows : List Opened) → AreRising txn_number above last rows → Each (λ r. r.transaction.number < last + 1) rows
+  below above [] h = tt
+  below above (r ∷ rs) h = let up = top (txn_number r) rs h.1 in (omega (arith, up), below (txn_number r) rs h.1)

@@ -1,2 +1,7 @@
-mod Views
+mod First
+mod Keys
+mod Kept
+mod Numbered
+mod Placed
 mod Steps
+mod Views

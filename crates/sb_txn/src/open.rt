@@ -1,7 +1,5 @@
 // One open transaction, with room for its operations.
-ghost use Rattle.std.specs.Prelude.{◌≡◌, ◌≤◌, ◌==◌, OnOk, OnErr};
-ghost use Rattle.std.specs.List.{list_any};
-ghost use Rattle.sb_machine.specs.SettleRow as spec;
+ghost use Rattle.std.specs.Prelude.{◌≡◌, ◌≤◌, OnOk, OnErr};
 ghost use Rattle.sb_txn.specs.Txns.{Opened, begun, with_queued, with_room};
 
 use sb_machine::{Operation, Transaction};
@@ -101,13 +99,6 @@ impl OpenTransaction {
         self.spare -= 1;
     }
 
-    // Whether a settlement of this lock is queued in it.
-    pub(crate) fn settles(&self, lock: u64) -> bool
-        ensures { result ≡ list_any (spec.settles lock) self.now.transaction.operations }
-    {
-        is_any_settling(&self.operations, lock)
-    }
-
     pub(crate) fn into_transaction(self) -> Transaction
         ensures { result ≡ self.transaction }
     {
@@ -118,19 +109,4 @@ impl OpenTransaction {
             operations: Rows::from_vec(self.operations),
         }
     }
-}
-
-fn settles(operation: &Operation, lock: u64) -> bool
-    ensures { result ≡ spec.settles lock operation.now }
-{
-    match operation {
-        Operation::Send { .. } => false,
-        Operation::Settle { token, .. } => token.lock == lock,
-    }
-}
-
-fn is_any_settling(operations: &[Operation], lock: u64) -> bool
-    ensures { result ≡ list_any (spec.settles lock) operations.now }
-{
-    operations.iter().any(|x| settles(x, lock))
 }

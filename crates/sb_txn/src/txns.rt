@@ -1,13 +1,15 @@
 // The open transactions of a namespace, in the order in which they were begun.
-ghost use Rattle.std.specs.Prelude.{◌≡◌, ◌≤◌, ◌-◌, max, [], ◌∷◌, ◌++◌, length, filter, find, OnOk, OnErr, IfSome};
+ghost use Rattle.std.specs.Prelude.{◌≡◌, ◌≤◌, ◌<◌, ◌-◌, max, [], ◌∷◌, ◌++◌, length, filter, find, OnOk, OnErr, IfSome};
 ghost use Rattle.std.specs.List.{list_any};
 ghost use Rattle.std.specs.Option.{option_map};
 ghost use Rattle.sb_machine.specs.Changes.{is_transaction, with_operation};
+ghost use Rattle.sb_machine.specs.Each.{Each};
 ghost use Rattle.sb_machine.specs.Keyed.{changed};
 ghost use Rattle.sb_machine.specs.SettleRow.{settles};
 ghost use Rattle.sb_txn.specs.Txns.{transactions_of, has_txn, begun, with_queued, with_room, is_elsewhere};
 
 use crate::{OpenTransaction, rows};
+use sb_index::Index;
 use sb_machine::{Operation, Transaction};
 use std::alloc::{AllocError, Global};
 use std::marker::Model;
@@ -18,17 +20,22 @@ pub struct Txns {
     alloc: Global,
     rows: Vec<OpenTransaction>,
     spare: usize,
+    // the locks that are queued in them
+    keys: Index,
+    // how many slots are promised to their operations
+    slots: usize,
 }
 
 impl Model for Txns {
-    ghost use Rattle.std.specs.Prelude.{◌+◌, ◌≤◌, vec_len, vec_capacity};
+    ghost use Rattle.std.specs.Prelude.{◌≡◌, ◌+◌, ◌≤◌, vec_len, vec_capacity};
+    ghost use Rattle.sb_txn.specs.Queued.{slots_of, IsKept};
     ghost use Rattle.sb_txn.specs.Txns.{Table};
 
     ghost Value = { Table };
 
     ghost view = { λ s. record { rows = s.rows.items; spare = s.spare } };
 
-    ghost invariant = { λ s. vec_len s.rows + s.spare ≤ vec_capacity s.rows };
+    ghost invariant = { λ s. (vec_len s.rows + s.spare ≤ vec_capacity s.rows) × (s.slots ≡ slots_of s.rows.items) × IsKept s.rows.items s.keys };
 }
 
 impl Txns {
@@ -41,6 +48,8 @@ impl Txns {
             alloc,
             rows: Vec::new(alloc),
             spare: 0,
+            keys: Index::new(alloc),
+            slots: 0,
         }
     }
 
@@ -74,7 +83,13 @@ impl Txns {
         ensures spare { self.new.spare ≡ self.old.spare }
         ensures err { OnErr result (self.new.rows ≡ self.old.rows) }
     {
-        rows::reserve_row(&mut self.rows, number, count)
+        rows::reserve_row(
+            &mut self.rows,
+            &mut self.keys,
+            &mut self.slots,
+            number,
+            count,
+        )
     }
 
     // ---- reading
@@ -103,15 +118,16 @@ impl Txns {
     pub fn pending(&self, lock: u64) -> Option<&OpenTransaction>
         ensures { option_map (λ r. r.now.transaction) result ≡ find (λ x. list_any (settles lock) x.operations) (transactions_of self.now.rows) }
     {
-        rows::settling(&self.rows, lock)
+        rows::settling(&self.rows, &self.keys, lock)
     }
 
     // ---- changes
 
     /// Opens a transaction on an entity, with nothing queued, in a slot that was promised. Its
-    /// deadline is in ms since 1970.
+    /// number is above those of all that are open, its deadline in ms since 1970.
     pub fn begin(&mut self, number: u64, entity: u64, deadline: u64)
         requires room { 1 ≤ self.old.spare }
+        requires rises { Each (λ r. r.transaction.number < number) self.old.rows }
         ensures rows { self.new.rows ≡ self.old.rows ++ record { transaction = begun number entity deadline; spare = 0 } ∷ [] }
         ensures transactions { transactions_of self.new.rows ≡ transactions_of self.old.rows ++ begun number entity deadline ∷ [] }
         ensures spare { self.new.spare ≡ self.old.spare - 1 }
@@ -129,7 +145,7 @@ impl Txns {
         ensures transactions { transactions_of self.new.rows ≡ changed (is_transaction number) (λ x. with_operation deadline operation x ∷ []) (transactions_of self.old.rows) }
         ensures spare { self.new.spare ≡ self.old.spare }
     {
-        rows::queue_row(&mut self.rows, number, deadline, operation);
+        self.slots -= rows::queue_row(&mut self.rows, &mut self.keys, number, deadline, operation);
     }
 
     /// Takes the transaction of this number out, with its operations.
@@ -139,7 +155,11 @@ impl Txns {
         ensures transactions { transactions_of self.new.rows ≡ changed (is_transaction number) (λ x. []) (transactions_of self.old.rows) }
         ensures spare { self.new.spare ≡ self.old.spare }
     {
-        rows::take_row(&mut self.rows, number)
+        let Some(row) = rows::take_row(&mut self.rows, &mut self.keys, number) else {
+            return None;
+        };
+        self.slots -= row.spare();
+        Some(row.into_transaction())
     }
 
     /// Takes out all that are on this entity.
@@ -148,6 +168,6 @@ impl Txns {
         ensures transactions { transactions_of self.new.rows ≡ filter (is_elsewhere entity) (transactions_of self.old.rows) }
         ensures spare { self.new.spare ≡ self.old.spare }
     {
-        rows::remove_rows(&mut self.rows, entity);
+        self.slots -= rows::remove_rows(&mut self.rows, &mut self.keys, entity);
     }
 }
