@@ -1,2 +1,4 @@
-mod Seats
 mod Next
+mod Placed
+mod Seats
+mod Sorted

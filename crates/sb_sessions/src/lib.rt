@@ -5,6 +5,8 @@
 //! is the case of the model's `leaf_after` that it carries out. To open a session takes a slot that
 //! was promised before, and so can't fail.
 //!
+//! The list is in rising ids, as the model puts them, so a session is found by bisection.
+//!
 //! ```text
 //! let mut sessions = Sessions::new(alloc);
 //! sessions.reserve(1)?;                          // a slot is promised

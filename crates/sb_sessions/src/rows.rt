@@ -8,7 +8,7 @@ ghost use Rattle.sb_machine.specs.Keyed.{changed, with_sorted};
 ghost use Rattle.sb_machine.specs.Leases.{is_living_holder as is_living};
 ghost use Rattle.sb_machine.specs.Leaves as leaf;
 ghost use Rattle.sb_machine.specs.Names.{is_before};
-ghost use Rattle.sb_sessions.specs.Sessions.{seating};
+ghost use Rattle.sb_sessions.specs.Sessions.{seating, AreSorted};
 
 use sb_machine::{Holder, Session, is_living_holder};
 use sb_model::{Rows, Text};
@@ -24,10 +24,28 @@ fn is_held_under(session: &Session, lock: u64) -> bool
     }
 }
 
+// How many stand before a session of this id.
+fn entry_of(rows: &[Session], id: &str) -> usize
+    requires { AreSorted rows.now }
+    ensures place { result ≡ prefix_len (λ y. is_before y.id id.now) rows.now }
+    ensures within { result ≤ length rows.now }
+{
+    rows.partition_point(|y| y.id.as_str() < id)
+}
+
 fn place_of(rows: &[Session], id: &str) -> Option<usize>
+    requires { AreSorted rows.now }
     ensures { result ≡ position (leaf.has_id id.now) rows.now }
 {
-    rows.iter().position(|x| x.id.as_str() == id)
+    let place = entry_of(rows, id);
+    let Some(session) = rows.get(place) else {
+        return None;
+    };
+    if session.id.as_str() == id {
+        Some(place)
+    } else {
+        None
+    }
 }
 
 fn place_held(rows: &[Session], lock: u64) -> Option<usize>
@@ -42,17 +60,10 @@ fn place_living(rows: &[Session], moment: u64, lock: u64) -> Option<usize>
     rows.iter().position(|x| is_living_holder(x, moment, lock))
 }
 
-// How many stand before a session of this id.
-fn entry_of(rows: &[Session], id: &str) -> usize
-    ensures place { result ≡ prefix_len (λ y. is_before y.id id.now) rows.now }
-    ensures within { result ≤ length rows.now }
-{
-    rows.iter().take_while(|y| y.id.as_str() < id).count()
-}
-
 // ---- searches
 
 pub fn session_of<'a>(rows: &'a [Session], id: &str) -> Option<&'a Session>
+    requires { AreSorted rows.now }
     ensures { option_map (λ x. x.now) result ≡ find (leaf.has_id id.now) rows.now }
 {
     match place_of(rows, id) {
@@ -83,6 +94,7 @@ pub fn living(rows: &[Session], moment: u64, lock: u64) -> Option<&Session>
 
 fn insert_row(rows: &mut Vec<Session>, id: Text, lock: u64, until: u64)
     requires room { vec_len rows.old < vec_capacity rows.old }
+    requires sorted { AreSorted rows.old.items }
     ensures rows { rows.new.items ≡ with_sorted (λ y. is_before y.id id) (record { id = id; state = None; holder = Some (leaf.holder_new lock until) }) rows.old.items }
     ensures len { vec_len rows.new ≤ vec_len rows.old + 1 }
     ensures capacity { vec_capacity rows.new ≡ vec_capacity rows.old }
@@ -118,6 +130,7 @@ fn hold_at(rows: &mut Vec<Session>, place: usize, lock: u64, until: u64)
 
 pub fn open_row(rows: &mut Vec<Session>, id: Text, lock: u64, until: u64)
     requires room { vec_len rows.old < vec_capacity rows.old }
+    requires sorted { AreSorted rows.old.items }
     ensures rows { rows.new.items ≡ leaf.opened lock id until (seating rows.old.items) }
     ensures len { vec_len rows.new ≤ vec_len rows.old + 1 }
     ensures capacity { vec_capacity rows.new ≡ vec_capacity rows.old }

@@ -23,13 +23,13 @@ pub struct Sessions {
 
 impl Model for Sessions {
     ghost use Rattle.std.specs.Prelude.{◌+◌, ◌≤◌, vec_len, vec_capacity};
-    ghost use Rattle.sb_sessions.specs.Sessions.{Seated};
+    ghost use Rattle.sb_sessions.specs.Sessions.{AreSorted, Seated};
 
     ghost Value = { Seated };
 
     ghost view = { λ s. record { sessions = s.sessions.items; spare = s.spare } };
 
-    ghost invariant = { λ s. vec_len s.sessions + s.spare ≤ vec_capacity s.sessions };
+    ghost invariant = { λ s. (vec_len s.sessions + s.spare ≤ vec_capacity s.sessions) × AreSorted s.sessions.items };
 }
 
 impl Sessions {

@@ -4,7 +4,7 @@ ghost use Rattle.std.specs.Option.{option_map};
 ghost use Rattle.sb_machine.specs.Sessions as spec;
 ghost use Rattle.sb_machine.specs.Leases as lease;
 ghost use Rattle.sb_machine.specs.declared.state.Leaf.{Leaf};
-ghost use Rattle.sb_sessions.specs.Sessions.{seating};
+ghost use Rattle.sb_sessions.specs.Sessions.{seating, AreSorted};
 
 use crate::rows::session_of;
 use sb_machine::{Session, Standing, StoredCopy, text_of};
@@ -17,6 +17,7 @@ fn is_ready(standing: Standing) -> bool
 }
 
 fn is_held(rows: &[Session], id: &str) -> bool
+    requires { AreSorted rows.now }
     ensures { is_none (spec.holder_in id.now (seating rows.now)) ≡ not result }
 {
     match session_of(rows, id) {
@@ -26,6 +27,7 @@ fn is_held(rows: &[Session], id: &str) -> bool
 }
 
 fn free_session<'a>(rows: &[Session], copy: &'a StoredCopy) -> Option<&'a Text>
+    requires { AreSorted rows.now }
     ensures { option_map (λ x. x.now) result ≡ spec.free_session (seating rows.now) copy.now }
 {
     if !is_ready(copy.standing) {
@@ -44,6 +46,7 @@ fn free_session<'a>(rows: &[Session], copy: &'a StoredCopy) -> Option<&'a Text>
 }
 
 fn next_in<'a>(rows: &[Session], copies: &'a [StoredCopy]) -> Option<&'a Text>
+    requires { AreSorted rows.now }
     ensures { option_map (λ x. x.now) result ≡ spec.next_session (seating rows.now) copies.now }
 {
     for copy in copies {
@@ -60,6 +63,7 @@ pub fn next_session<'a>(
     first: &'a [StoredCopy],
     second: &'a [StoredCopy],
 ) -> Option<&'a Text>
+    requires { AreSorted rows.now }
     ensures { (leaf : Leaf) → leaf.sessions ≡ rows.now → option_map (λ x. x.now) result ≡ spec.next_session leaf (first.now ++ second.now) }
 {
     match next_in(rows, first) {
