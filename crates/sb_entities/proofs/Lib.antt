@@ -10,3 +10,4 @@ pub mod Stocking
 pub mod Carried
 pub mod Steps
 pub mod Opened
+pub mod Tallies

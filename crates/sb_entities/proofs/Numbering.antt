@@ -24,7 +24,7 @@ use Rattle.sb_entities.specs.declared.change.EntityChange.{EntityChange}
 
 -- ---- copy numbers
 
-leaf_last : (lock t : ℕ) (c : LeafChange) (leaf : Leaf) → (leaf_after lock t c leaf).last ≡ leaf.last + copies_given c
+pub leaf_last : (lock t : ℕ) (c : LeafChange) (leaf : Leaf) → (leaf_after lock t c leaf).last ≡ leaf.last + copies_given c
 leaf_last lock t (Enters fresh) leaf = refl
 leaf_last lock t (Passes cause) leaf = refl
 leaf_last lock t (Ends n settled cause) leaf = omega arith

@@ -1,5 +1,5 @@
--- A namespace in memory, in the order to read it: Listings, Tables, Transactions, Numbers (what stands in memory); Stores (the namespace that
--- it is); Places, Rooms, Stocks (which memory is promised before a change is made, so that making it can't fail).
+-- A namespace in memory, in the order to read it: Listings, Tables, Transactions, Numbers (what stands in memory); Views, Stores (the namespace
+-- that it is); Tallies (the counts that it keeps); Places, Rooms, Stocks (which memory is promised before a change is made, so that making it can't fail).
 pub mod Listings
 pub mod Numbers
 pub mod Places
@@ -7,4 +7,6 @@ pub mod Rooms
 pub mod Stocks
 pub mod Stores
 pub mod Tables
+pub mod Tallies
 pub mod Transactions
+pub mod Views

@@ -1,16 +1,16 @@
 // Carrying changes out, in memory that was taken before.
-ghost use Rattle.std.specs.Prelude.{◌≡◌, ◌<◌, ◌≤◌, ℕ, true};
+ghost use Rattle.std.specs.Prelude.{◌≡◌, ◌+◌, ◌<◌, ◌≤◌, ℕ, true};
 ghost use Rattle.sb_machine.specs.Changes.{after_all, is_numbered, max_number};
 ghost use Rattle.sb_machine.specs.Leaves as leaves;
 ghost use Rattle.sb_machine.specs.Namespace.{made};
 ghost use Rattle.sb_machine.specs.declared.change.Change.TheVariants.{InLeaf, Makes, Removes, Begins};
 ghost use Rattle.sb_entities.specs.Numbers.{Fits};
-ghost use Rattle.sb_entities.specs.Stocks.{stock_after, space_of, HasRoomFor};
-ghost use Rattle.sb_entities.specs.Stores.{space_in, stock_in, IsRoomFor};
+ghost use Rattle.sb_entities.specs.Stocks.{entry_after, given_in, on_entry, stock_after, space_of, HasRoomFor, IsReadyAt};
+ghost use Rattle.sb_entities.specs.Stores.{entries_in, space_in, stock_in, IsRoomFor};
 
 use crate::change::EntityChange;
 use crate::entity::EntityStore;
-use crate::rows::numbers_in;
+use crate::rows::{copies_in, numbers_in};
 use crate::space::SpaceStore;
 use sb_machine::{
     Change, Changes, Description, EntityKind, LeafChange, LeafKey, Listed, Path, Rule,
@@ -39,8 +39,7 @@ impl SpaceStore {
         match change {
             Change::InLeaf { key, change } => self.carry_leaf(moment, key, change),
             Change::Notes { entity, id } => {
-                self.entities
-                    .change(entity, moment, EntityChange::NotesId(id));
+                self.change_entity(entity, moment, EntityChange::NotesId(id));
             }
             Change::Makes {
                 kind,
@@ -50,12 +49,10 @@ impl SpaceStore {
             } => self.make(kind, path, description, rules),
             Change::Removes { entity } => self.remove(entity),
             Change::AddsRule { entity, rule } => {
-                self.entities
-                    .change(entity, moment, EntityChange::GainsRule(rule));
+                self.change_entity(entity, moment, EntityChange::GainsRule(rule));
             }
             Change::DropsRule { entity, name } => {
-                self.entities
-                    .change(entity, moment, EntityChange::LosesRule(name));
+                self.change_entity(entity, moment, EntityChange::LosesRule(name));
             }
             Change::Begins { entity, deadline } => self.begin(entity, deadline),
             Change::Queues {
@@ -81,7 +78,17 @@ impl SpaceStore {
             lock,
             change,
         };
-        self.entities.change(key.entity, moment, change);
+        self.change_entity(key.entity, moment, change);
+    }
+
+    fn change_entity(&mut self, number: u64, moment: u64, change: EntityChange)
+        requires ready { IsReadyAt number change (entries_in self.old.entities.rows) }
+        requires fits { self.old.made + given_in change ≤ max_number }
+        ensures { let stock = stock_in self.old in stock_in self.new ≡ record stock { entries = on_entry number (entry_after moment change) stock.entries } }
+    {
+        let tally = self.entities.change(number, moment, change);
+        self.live = self.live + tally.entered - tally.ended;
+        self.made += tally.given;
     }
 
     fn make(&mut self, kind: EntityKind, path: Path, description: Description, rules: Rows<Rule>)
@@ -104,6 +111,7 @@ impl SpaceStore {
         requires { made (space_of (stock_in self.old)) ≤ max_number }
         ensures { (t : ℕ) → stock_in self.new ≡ stock_after t (Removes entity) (stock_in self.old) }
     {
+        self.live -= copies_in(self.entities.as_slice(), entity);
         self.removed += numbers_in(self.entities.as_slice(), entity);
         self.entities.remove(entity);
         self.txns.remove_of(entity);

@@ -1,13 +1,15 @@
 // The entities of a namespace, in the order in which they were made.
 ghost use Rattle.std.specs.Prelude.{◌≡◌, ◌+◌, ◌-◌, ◌≤◌, ◌++◌, ◌∷◌, [], not, filter, OnOk, OnErr};
-ghost use Rattle.sb_entities.specs.Stocks.{has_number, entry_after, entry_grown, on_entry, IsReadyAt};
+ghost use Rattle.sb_entities.specs.Stocks.{has_number, entry_after, entry_grown, given_in, on_entry, IsReadyAt};
 ghost use Rattle.sb_entities.specs.Stores.{entries_in, entities_in};
+ghost use Rattle.sb_entities.specs.Tallies.{TellsOfAll};
 
 use crate::change::EntityChange;
 use crate::entity::EntityStore;
 use crate::place::EntityPlace;
 use crate::rows;
 use crate::slots::one_more;
+use crate::tally::Tally;
 use std::alloc::{AllocError, Global};
 use std::marker::Model;
 
@@ -92,11 +94,13 @@ impl Entities {
     }
 
     /// Changes the entity of this number at `moment`, in ms since 1970.
-    pub fn change(&mut self, number: u64, moment: u64, change: EntityChange)
+    pub fn change(&mut self, number: u64, moment: u64, change: EntityChange) -> Tally
         requires { IsReadyAt number change (entries_in self.old.rows) }
         ensures rows { entries_in self.new.rows ≡ on_entry number (entry_after moment change) (entries_in self.old.rows) }
+        ensures tally { TellsOfAll result (entities_in self.old.rows) (entities_in self.new.rows) }
+        ensures given { result.given ≤ given_in change }
         ensures spare { self.new.spare ≡ self.old.spare }
     {
-        rows::change_row(&mut self.rows, number, moment, change);
+        rows::change_row(&mut self.rows, number, moment, change)
     }
 }

@@ -2,10 +2,11 @@
 ghost use Rattle.std.specs.Prelude.{◌≡◌, ◌+◌, ◌≤◌, OnOk, OnErr};
 ghost use Rattle.sb_machine.specs.Changes.{max_number};
 ghost use Rattle.sb_machine.specs.Leaves.{copies_given};
-ghost use Rattle.sb_machine.specs.Namespace.{leaf_of, made_in};
+ghost use Rattle.sb_machine.specs.Namespace.{leaf_of, live_in, made_in};
 ghost use Rattle.sb_entities.specs.Rooms.{HasPartRoom, part_room};
-ghost use Rattle.sb_entities.specs.Stocks.{new_entry, entry_after, entry_grown, IsReady};
+ghost use Rattle.sb_entities.specs.Stocks.{new_entry, entry_after, entry_grown, given_in, IsReady};
 ghost use Rattle.sb_entities.specs.Stores.{leaf_in, entity_in, room_in, entry_in};
+ghost use Rattle.sb_entities.specs.Tallies.{TellsOfEntity};
 ghost use Rattle.sb_entities.specs.declared.change.EntityChange.TheVariants.{InPart};
 ghost use Rattle.sb_entities.specs.declared.place.EntityPlace.TheVariants.{OfPart};
 
@@ -14,6 +15,7 @@ use crate::listing::Listing;
 use crate::part::PartStore;
 use crate::place::{EntityPlace, PartPlace};
 use crate::slots::one_more;
+use crate::tally::{NOTHING, Tally, change_part};
 use sb_machine::{LeafChange, Listed, Part};
 use sb_repeats::Window;
 use std::alloc::{AllocError, Global};
@@ -75,6 +77,17 @@ impl EntityStore {
         self.main.last() + self.dead.last() + self.transfer.last()
     }
 
+    // The copies that live in its parts.
+    pub(crate) fn copies(&self) -> u64
+        requires { live_in (entity_in self.now) ≤ max_number }
+        ensures { result ≡ live_in (entity_in self.now) }
+    {
+        let main = self.main.copies().size() as u64;
+        let dead = self.dead.copies().size() as u64;
+        let transfer = self.transfer.copies().size() as u64;
+        main + dead + transfer
+    }
+
     // Promises one slot more; where memory is wanting, all stays.
     pub(crate) fn reserve(&mut self, place: EntityPlace) -> Result<(), AllocError>
         ensures ok { OnOk result (entry_in self.new ≡ entry_grown place (entry_in self.old)) }
@@ -99,13 +112,15 @@ impl EntityStore {
     }
 
     // `moment` is in ms since 1970.
-    pub(crate) fn change(&mut self, moment: u64, change: EntityChange)
+    pub(crate) fn change(&mut self, moment: u64, change: EntityChange) -> Tally
         requires { IsReady change (entry_in self.old) }
-        ensures { entry_in self.new ≡ entry_after moment change (entry_in self.old) }
+        ensures entry { entry_in self.new ≡ entry_after moment change (entry_in self.old) }
+        ensures tally { TellsOfEntity result (entity_in self.old) (entity_in self.new) }
+        ensures given { result.given ≡ given_in change }
     {
         match change {
             EntityChange::InPart { part, lock, change } => {
-                self.change_part(part, lock, moment, change);
+                return self.change_part(part, lock, moment, change);
             }
             EntityChange::NotesId(id) => {
                 let window = self.listing.about().description.window;
@@ -114,17 +129,20 @@ impl EntityStore {
             EntityChange::GainsRule(rule) => self.listing.add(rule),
             EntityChange::LosesRule(name) => self.listing.drop_rule(&name),
         }
+        NOTHING
     }
 
-    fn change_part(&mut self, part: Part, lock: u64, moment: u64, change: LeafChange)
+    fn change_part(&mut self, part: Part, lock: u64, moment: u64, change: LeafChange) -> Tally
         requires room { HasPartRoom change (part_room part (room_in self.old)) }
         requires fits { (leaf_of part (entity_in self.old)).last + copies_given change ≤ max_number }
-        ensures { entry_in self.new ≡ entry_after moment (InPart part lock change) (entry_in self.old) }
+        ensures entry { entry_in self.new ≡ entry_after moment (InPart part lock change) (entry_in self.old) }
+        ensures tally { TellsOfEntity result (entity_in self.old) (entity_in self.new) }
+        ensures given { result.given ≡ copies_given change }
     {
         match part {
-            Part::Main => self.main.change(lock, moment, change),
-            Part::Dead => self.dead.change(lock, moment, change),
-            Part::Transfer => self.transfer.change(lock, moment, change),
+            Part::Main => change_part(&mut self.main, lock, moment, change),
+            Part::Dead => change_part(&mut self.dead, lock, moment, change),
+            Part::Transfer => change_part(&mut self.transfer, lock, moment, change),
         }
     }
 }

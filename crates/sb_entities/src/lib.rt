@@ -4,6 +4,8 @@
 //! finders are the model's words on that space, and it is the `Directory` that delivery reads. A
 //! list of changes is carried out in two steps: `reserve` takes all memory that they need, and
 //! `carry_out` makes the space the model's `after_all` of them, takes no memory, and so can't fail.
+//! How many copies live and how many numbers were made, a space keeps as it changes: `live` and
+//! `made` look at no entity.
 //!
 //! ```text
 //! let mut space = SpaceStore::new(alloc, salt);
@@ -28,6 +30,7 @@ mod reserving;
 mod rows;
 mod slots;
 mod space;
+mod tally;
 
 pub use entity::EntityStore;
 pub use part::PartStore;

@@ -2,13 +2,15 @@
 ghost use Rattle.std.specs.Prelude.{◌≡◌, ◌≤◌, ◌<◌, not, filter, length, position, slice_set, sum_by, IfSome, OnOk, OnErr, vec_len, vec_capacity};
 ghost use Rattle.std.specs.List.{slice_get};
 ghost use Rattle.sb_machine.specs.Changes.{max_number};
-ghost use Rattle.sb_machine.specs.Namespace.{made_in};
-ghost use Rattle.sb_entities.specs.Stocks.{has_number, entry_after, entry_grown, on_entry, IsReady, IsReadyAt};
+ghost use Rattle.sb_machine.specs.Namespace.{live_in, made_in};
+ghost use Rattle.sb_entities.specs.Stocks.{has_number, entry_after, entry_grown, given_in, on_entry, IsReady, IsReadyAt};
 ghost use Rattle.sb_entities.specs.Stores.{entry_in, entries_in, entities_in};
+ghost use Rattle.sb_entities.specs.Tallies.{TellsOfAll};
 
 use crate::change::EntityChange;
 use crate::entity::EntityStore;
 use crate::place::EntityPlace;
+use crate::tally::{NOTHING, Tally};
 use std::alloc::AllocError;
 
 fn place_of(rows: &[EntityStore], number: u64) -> Option<usize>
@@ -26,6 +28,20 @@ pub fn numbers_in(rows: &[EntityStore], number: u64) -> u64
     for entity in rows {
         if entity.about().number == number {
             all += entity.numbers();
+        }
+    }
+    all
+}
+
+/// The copies that live in the parts of the entities of this number.
+pub fn copies_in(rows: &[EntityStore], number: u64) -> u64
+    requires { sum_by live_in (entities_in rows.now) ≤ max_number }
+    ensures { result ≡ sum_by (λ x. live_in x.entity) (filter (has_number number) (entries_in rows.now)) }
+{
+    let mut all = 0;
+    for entity in rows {
+        if entity.about().number == number {
+            all += entity.copies();
         }
     }
     all
@@ -63,25 +79,38 @@ pub fn reserve_row(
 
 // ---- changing
 
-fn change_at(rows: &mut Vec<EntityStore>, at: usize, moment: u64, change: EntityChange)
+fn change_at(rows: &mut Vec<EntityStore>, at: usize, moment: u64, change: EntityChange) -> Tally
     requires within { at < length rows.old.items }
     requires ready { IfSome (slice_get (entries_in rows.old.items) at) (IsReady change) }
     ensures rows { IfSome (slice_get (entries_in rows.old.items) at) (λ x. entries_in rows.new.items ≡ slice_set (entries_in rows.old.items) at (entry_after moment change x)) }
+    ensures tally { TellsOfAll result (entities_in rows.old.items) (entities_in rows.new.items) }
+    ensures given { result.given ≤ given_in change }
     ensures len { vec_len rows.new ≡ vec_len rows.old }
     ensures capacity { vec_capacity rows.new ≡ vec_capacity rows.old }
 {
     let entity = &mut rows[at];
-    entity.change(moment, change);
+    entity.change(moment, change)
 }
 
-pub fn change_row(rows: &mut Vec<EntityStore>, number: u64, moment: u64, change: EntityChange)
+pub fn change_row(
+    rows: &mut Vec<EntityStore>,
+    number: u64,
+    moment: u64,
+    change: EntityChange,
+) -> Tally
     requires { IsReadyAt number change (entries_in rows.old.items) }
     ensures rows { entries_in rows.new.items ≡ on_entry number (entry_after moment change) (entries_in rows.old.items) }
+    ensures tally { TellsOfAll result (entities_in rows.old.items) (entities_in rows.new.items) }
+    ensures given { result.given ≤ given_in change }
     ensures len { vec_len rows.new ≡ vec_len rows.old }
     ensures capacity { vec_capacity rows.new ≡ vec_capacity rows.old }
 {
-    if let Some(at) = place_of(rows, number) {
-        change_at(rows, at, moment, change);
+    match place_of(rows, number) {
+        Some(at) => change_at(rows, at, moment, change),
+        None => {
+            drop(change);
+            NOTHING
+        }
     }
 }
 

@@ -1,5 +1,8 @@
 // The whole namespace.
+ghost use Rattle.std.specs.Prelude.{◌≡◌, ◌+◌, ◌≤◌, sum_by};
+ghost use Rattle.sb_machine.specs.Namespace.{live_in, made_in};
 ghost use Rattle.sb_entities.specs.Transactions.{AreOpened};
+ghost use Rattle.sb_entities.specs.Views.{entities_in};
 
 use crate::entities::Entities;
 use crate::entity::EntityStore;
@@ -17,13 +20,19 @@ pub struct SpaceStore {
     pub(crate) last_lock: u64,
     pub(crate) last_txn: u64,
     pub(crate) removed: u64,
+    // The copies that live, and all numbers that were ever given to copies.
+    pub(crate) live: u64,
+    pub(crate) made: u64,
     pub(crate) entities: Entities,
     pub(crate) txns: Txns,
     ghost opened: { AreOpened last_txn txns.rows },
+    ghost living: { live ≡ sum_by live_in (entities_in entities.rows) },
+    ghost given: { made ≡ removed + sum_by made_in (entities_in entities.rows) },
+    ghost numbered: { live ≤ made },
 }
 
 impl SpaceStore {
-    ghost use Rattle.std.specs.Prelude.{◌≡◌, map};
+    ghost use Rattle.std.specs.Prelude.{map};
     ghost use Rattle.std.specs.Option.{option_map};
     ghost use Rattle.sb_machine.specs.Namespace as spec;
     ghost use Rattle.sb_txn.specs.Txns.{transactions_of};
@@ -40,6 +49,8 @@ impl SpaceStore {
             last_lock: 0,
             last_txn: 0,
             removed: 0,
+            live: 0,
+            made: 0,
             entities: Entities::new(alloc),
             txns: Txns::new(alloc),
         }
@@ -80,6 +91,22 @@ impl SpaceStore {
         ensures { result ≡ (space_in self.now).removed }
     {
         self.removed
+    }
+
+    // ---- counts
+
+    /// The copies that live.
+    pub fn live(&self) -> u64
+        ensures { result ≡ spec.live (space_in self.now) }
+    {
+        self.live
+    }
+
+    /// All copy numbers that were ever given.
+    pub fn made(&self) -> u64
+        ensures { result ≡ spec.made (space_in self.now) }
+    {
+        self.made
     }
 
     // ---- what is in it

@@ -13,7 +13,7 @@ returns-in-Some-clause-rows c =
     set_is (has_number c.args.number) (entry_after c.args.moment c.args.change) c.in-Some.at (entries_in c.args.rows.now.items) (entries_in c.args.rows.now.items) (entries_in c.change_at.new.rows.items) refl
     (placed c.args.number (Some c.in-Some.at) c.args.rows.now.items _ c.deref.ensures.value c.in-Some.ensures) c.change_at.ensures.rows
 
-pub returns-in_default-clause-rows : goal.returns-in_default-clause-rows
-returns-in_default-clause-rows c =
+pub returns-in-None-clause-rows : goal.returns-in-None-clause-rows
+returns-in-None-clause-rows c =
     nothing_set (has_number c.args.number) (entry_after c.args.moment c.args.change) (entries_in c.args.rows.now.items) (entries_in c.args.rows.now.items) refl
-    (placed c.args.number None c.args.rows.now.items _ c.deref.ensures.value c.in_default.ensures)
+    (placed c.args.number None c.args.rows.now.items _ c.deref.ensures.value c.in-None.ensures)

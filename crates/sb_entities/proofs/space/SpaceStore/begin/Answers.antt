@@ -9,4 +9,4 @@ begin-requires-clause-rises c = opened_below c.args.self.now.last_txn c.args.sel
 pub invariant_of-self : goal.invariant_of-self
 invariant_of-self c =
     let s = c.args.self.now in
-    record { opened = subst (λ rows. AreOpened (s.last_txn + 1) rows) (sym c.begin.ensures.rows) (opened_begun c.args.entity c.args.deadline s.last_txn s.txns.rows s.opened) }
+    record { opened = subst (λ rows. AreOpened (s.last_txn + 1) rows) (sym c.begin.ensures.rows) (opened_begun c.args.entity c.args.deadline s.last_txn s.txns.rows s.opened); living = s.living; given = s.given; numbered = s.numbered }

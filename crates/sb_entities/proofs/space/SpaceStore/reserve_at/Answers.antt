@@ -13,4 +13,7 @@ invariant_of-self-in-InTransaction c =
       opened = either r _
           (on_ok r _ _ (λ is. subst (λ rows. AreOpened s.last_txn rows) (sym is) (opened_more c.in-InTransaction.number txn_grown s.last_txn s.txns.rows (λ r. refl) s.opened)) c.promise_operation.ensures.ok)
           (on_err r _ _ (λ is. subst (λ rows. AreOpened s.last_txn rows) (sym is) s.opened) c.promise_operation.ensures.err);
+      living = s.living;
+      given = s.given;
+      numbered = s.numbered;
     }
