@@ -5,6 +5,8 @@ pub mod Roomy
 pub mod Filling
 pub mod Promised
 pub mod Rising
+pub mod Bisecting
+pub mod InOrder
 pub mod Numbering
 pub mod Stocking
 pub mod Carried

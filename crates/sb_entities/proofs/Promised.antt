@@ -132,7 +132,7 @@ promised_all i cs k past h p = subst (λ (l : List Change). Promises p (asked p 
 
 -- ---- what a change leaves
 
-number_after : (t : ℕ) (c : EntityChange) (e : Entity) → (entity_after t c e).about.number ≡ e.about.number
+pub number_after : (t : ℕ) (c : EntityChange) (e : Entity) → (entity_after t c e).about.number ≡ e.about.number
 number_after t (InPart Main lock c) e = refl
 number_after t (InPart Dead lock c) e = refl
 number_after t (InPart Transfer lock c) e = refl

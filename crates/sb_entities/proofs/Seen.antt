@@ -1,5 +1,5 @@
 -- A search, a filter, a change and a sum by what is seen of each row are those of the list that is seen.
-use Rattle.std.proofs.Common.{◌≡◌, ℕ, Bool, true, false, not, List, [], ◌∷◌, ◌++◌, filter, map, position, refl, ap, ◌∙◌}
+use Rattle.std.proofs.Common.{◌≡◌, ℕ, Bool, true, false, not, List, [], ◌∷◌, ◌++◌, filter, find, map, option_map, position, refl, ap, ◌∙◌}
 use Rattle.std.proofs.lemmas.List.{map-append, length-map}
 use Rattle.std.specs.List.{prefix_len}
 use Rattle.std.specs.Prelude.{sum_by}
@@ -33,6 +33,13 @@ module _ {X Y : Type 0} (f : X → Y) (p : Y → Bool) where
     at : (b : Bool) → p (f x) ≡ b → map f (changed (λ y. p (f y)) g xs) ≡ map f xs → map f (changed (λ y. p (f y)) g (x ∷ xs)) ≡ map f (x ∷ xs)
     at true is ih = rw is (map-append f (g x) xs ∙ ap (λ (l : List Y). l ++ map f xs) (same x))
     at false is ih = rw is (ap (λ (l : List Y). f x ∷ l) ih)
+
+  pub find_seen : (xs : List X) → option_map f (find (λ x. p (f x)) xs) ≡ find p (map f xs)
+  find_seen [] = refl
+  find_seen (x ∷ xs) = at (p (f x)) refl (find_seen xs) where
+    at : (b : Bool) → p (f x) ≡ b → option_map f (find (λ y. p (f y)) xs) ≡ find p (map f xs) → option_map f (find (λ y. p (f y)) (x ∷ xs)) ≡ find p (map f (x ∷ xs))
+    at true is ih = rw is refl
+    at false is ih = rw is ih
 
   prefix_seen : (xs : List X) → prefix_len p (map f xs) ≡ prefix_len (λ x. p (f x)) xs
   prefix_seen [] = refl

@@ -14,7 +14,7 @@ use Rattle.sb_entities.specs.declared.space.SpaceStore.{SpaceStore}
 abbrev pub space_in : SpaceStore → Space
 space_in s = record {
   salt = s.salt;
-  last_entity = s.last_entity;
+  last_entity = s.entities.last;
   last_lock = s.last_lock;
   last_txn = s.last_txn;
   removed = s.removed;
@@ -50,7 +50,7 @@ entries_in rows = map entry_in rows
 abbrev pub stock_in : SpaceStore → Stock
 stock_in s = record {
   salt = s.salt;
-  last_entity = s.last_entity;
+  last_entity = s.entities.last;
   last_lock = s.last_lock;
   last_txn = s.last_txn;
   removed = s.removed;

@@ -93,12 +93,11 @@ impl SpaceStore {
 
     fn make(&mut self, kind: EntityKind, path: Path, description: Description, rules: Rows<Rule>)
         requires room { HasRoomFor (Makes kind path description rules) (stock_in self.old) }
-        requires fits { self.old.last_entity < max_number }
+        requires fits { self.old.entities.last < max_number }
         ensures { (t : ℕ) → stock_in self.new ≡ stock_after t (Makes kind path description rules) (stock_in self.old) }
     {
-        self.last_entity += 1;
         let about = Listed {
-            number: self.last_entity,
+            number: self.entities.last() + 1,
             kind,
             path,
             description,

@@ -1,9 +1,8 @@
-// Finding an entity by its address, its number or its name.
+// Finding an entity by its address or its name.
 ghost use Rattle.std.specs.Prelude.{◌≡◌, ◌≤◌, find, length, map, IfOk};
 ghost use Rattle.std.specs.List.{prefix_len};
 ghost use Rattle.std.specs.Option.{option_map};
 ghost use Rattle.sb_machine.specs.Names as names;
-ghost use Rattle.sb_machine.specs.Namespace.{is_entity};
 ghost use Rattle.sb_machine.specs.Visits as visits;
 ghost use Rattle.sb_entities.specs.Stores.{entities_in, entity_in};
 
@@ -34,18 +33,6 @@ pub fn entity_at<'a>(rows: &'a [EntityStore], path: &Path) -> Option<&'a EntityS
 {
     for entity in rows {
         if is_same_entity(&entity.about().path, path) {
-            return Some(entity);
-        }
-    }
-    None
-}
-
-/// The entity of a number.
-pub fn entity_of(rows: &[EntityStore], number: u64) -> Option<&EntityStore>
-    ensures { option_map (λ e. entity_in e.now) result ≡ find (is_entity number) (entities_in rows.now) }
-{
-    for entity in rows {
-        if entity.about().number == number {
             return Some(entity);
         }
     }

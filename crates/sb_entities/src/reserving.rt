@@ -53,7 +53,7 @@ impl SpaceStore {
             Place::Entities => self.entities.reserve(),
             Place::Transactions => promise_txn(&mut self.txns),
             Place::InEntity(number, place) => {
-                if number > self.last_entity {
+                if number > self.entities.last() {
                     return Err(AllocError);
                 }
                 self.entities.reserve_in(number, place)

@@ -1,10 +1,13 @@
 // Entities as rows: where one stands, and what changes there.
-ghost use Rattle.std.specs.Prelude.{◌≡◌, ◌≤◌, ◌<◌, not, filter, length, position, slice_set, sum_by, IfSome, OnOk, OnErr, vec_len, vec_capacity};
-ghost use Rattle.std.specs.List.{slice_get};
+ghost use Rattle.std.specs.Prelude.{◌≡◌, ◌≤◌, ◌<◌, nat_lt, not, filter, find, length, position, slice_set, sum_by, IfSome, OnOk, OnErr, vec_len, vec_capacity};
+ghost use Rattle.std.specs.List.{prefix_len, slice_get};
+ghost use Rattle.std.specs.Option.{option_map};
 ghost use Rattle.sb_machine.specs.Changes.{max_number};
-ghost use Rattle.sb_machine.specs.Namespace.{live_in, made_in};
+ghost use Rattle.sb_machine.specs.Each.{IsSorted};
+ghost use Rattle.sb_machine.specs.Namespace.{is_entity, live_in, made_in};
 ghost use Rattle.sb_entities.specs.Stocks.{has_number, entry_after, entry_grown, given_in, on_entry, IsReady, IsReadyAt};
-ghost use Rattle.sb_entities.specs.Stores.{entry_in, entries_in, entities_in};
+ghost use Rattle.sb_entities.specs.Stores.{entity_in, entry_in, entries_in, entities_in};
+ghost use Rattle.sb_entities.specs.Tables.{is_earlier};
 ghost use Rattle.sb_entities.specs.Tallies.{TellsOfAll};
 
 use crate::change::EntityChange;
@@ -13,10 +16,35 @@ use crate::place::EntityPlace;
 use crate::tally::{NOTHING, Tally};
 use std::alloc::AllocError;
 
+// How many have lower numbers.
+fn entry_of(rows: &[EntityStore], number: u64) -> usize
+    requires { IsSorted is_earlier rows.now }
+    ensures place { result ≡ prefix_len (λ e. nat_lt (entity_in e).about.number number) rows.now }
+    ensures within { result ≤ length rows.now }
+{
+    rows.partition_point(|e| e.about().number < number)
+}
+
 fn place_of(rows: &[EntityStore], number: u64) -> Option<usize>
+    requires { IsSorted is_earlier rows.now }
     ensures { result ≡ position (λ e. has_number number (entry_in e)) rows.now }
 {
-    rows.iter().position(|e| e.about().number == number)
+    let place = entry_of(rows, number);
+    match rows.get(place) {
+        Some(entity) if entity.about().number == number => Some(place),
+        _ => None,
+    }
+}
+
+/// The entity of this number.
+pub fn numbered(rows: &[EntityStore], number: u64) -> Option<&EntityStore>
+    requires { IsSorted is_earlier rows.now }
+    ensures { option_map (λ e. entity_in e.now) result ≡ find (is_entity number) (entities_in rows.now) }
+{
+    match place_of(rows, number) {
+        Some(place) => Some(&rows[place]),
+        None => None,
+    }
 }
 
 /// The sum of the copy numbers given in the parts of the entities of this number.
@@ -65,6 +93,7 @@ pub fn reserve_row(
     number: u64,
     place: EntityPlace,
 ) -> Result<(), AllocError>
+    requires { IsSorted is_earlier rows.old.items }
     ensures ok { OnOk result (entries_in rows.new.items ≡ on_entry number (entry_grown place) (entries_in rows.old.items)) }
     ensures err { OnErr result (entries_in rows.new.items ≡ entries_in rows.old.items) }
     ensures entities { entities_in rows.new.items ≡ entities_in rows.old.items }
@@ -98,7 +127,8 @@ pub fn change_row(
     moment: u64,
     change: EntityChange,
 ) -> Tally
-    requires { IsReadyAt number change (entries_in rows.old.items) }
+    requires order { IsSorted is_earlier rows.old.items }
+    requires ready { IsReadyAt number change (entries_in rows.old.items) }
     ensures rows { entries_in rows.new.items ≡ on_entry number (entry_after moment change) (entries_in rows.old.items) }
     ensures tally { TellsOfAll result (entities_in rows.old.items) (entities_in rows.new.items) }
     ensures given { result.given ≤ given_in change }

@@ -16,7 +16,6 @@ use std::alloc::Global;
 pub struct SpaceStore {
     pub(crate) alloc: Global,
     pub(crate) salt: u64,
-    pub(crate) last_entity: u64,
     pub(crate) last_lock: u64,
     pub(crate) last_txn: u64,
     pub(crate) removed: u64,
@@ -45,7 +44,6 @@ impl SpaceStore {
         SpaceStore {
             alloc,
             salt,
-            last_entity: 0,
             last_lock: 0,
             last_txn: 0,
             removed: 0,
@@ -69,7 +67,7 @@ impl SpaceStore {
     pub fn last_entity(&self) -> u64
         ensures { result ≡ (space_in self.now).last_entity }
     {
-        self.last_entity
+        self.entities.last()
     }
 
     /// The last lock number given.
@@ -129,7 +127,7 @@ impl SpaceStore {
     pub fn entity(&self, number: u64) -> Option<&EntityStore>
         ensures { option_map (λ e. entity_in e.now) result ≡ spec.entity_of number (space_in self.now) }
     {
-        finding::entity_of(self.entities.as_slice(), number)
+        self.entities.numbered(number)
     }
 
     /// The open transactions.

@@ -6,7 +6,7 @@ use Rattle.sb_entities.proofs.Steps.{placed, at_placed}
 use Rattle.sb_entities.proofs.rows.change_row.Goals as goal
 
 pub change_at-requires-clause-ready : goal.change_at-requires-clause-ready
-change_at-requires-clause-ready c = at_placed (IsReady c.args.change) c.args.number c.in-Some.at c.args.rows.now.items _ c.deref.ensures.value c.in-Some.ensures c.requires
+change_at-requires-clause-ready c = at_placed (IsReady c.args.change) c.args.number c.in-Some.at c.args.rows.now.items _ c.deref.ensures.value c.in-Some.ensures c.requires.ready
 
 pub returns-in-Some-clause-rows : goal.returns-in-Some-clause-rows
 returns-in-Some-clause-rows c =
