@@ -22,7 +22,6 @@ ghost use Rattle.sb_engine.specs.Plans.{PlansRow};
 ghost use Rattle.sb_engine.specs.Small.{is_small, takes_no_memory};
 
 use crate::calls::{Verdict, client_of, judge_number};
-use crate::numbers::{live, made};
 use crate::planning::plan_row;
 use crate::ticks::plan_tick;
 use crate::watched::Watched;
@@ -260,10 +259,10 @@ impl Engine {
         ensures { result ≡ summary_of (engine_state self.now) 0 }
     {
         Summary {
-            copies: live(self.space.as_store()),
+            copies: self.space.as_store().live(),
             entities: self.space.as_store().entities().len() as u64,
             events: 0,
-            made: made(self.space.as_store()),
+            made: self.space.as_store().made(),
             now: self.moment,
         }
     }

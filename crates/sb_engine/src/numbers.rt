@@ -1,13 +1,13 @@
 // The last test of all: the numbers that changes give.
-ghost use Rattle.std.specs.Prelude.{◌≡◌, ◌≤◌, ◌<◌, ◌+◌, ◌-◌, ◌^◌, nat_le, min, sum_by, ℕ};
-ghost use Rattle.sb_entities.specs.Stores.{space_in, entity_in, entities_in as stored};
+ghost use Rattle.std.specs.Prelude.{◌≡◌, ◌≤◌, ◌<◌, ◌+◌, ◌^◌, nat_le, sum_by, ℕ};
+ghost use Rattle.sb_entities.specs.Stores.{space_in};
 ghost use Rattle.sb_machine.specs.Changes as machine;
 ghost use Rattle.sb_machine.specs.Namespace as namespace;
 ghost use Rattle.sb_engine.specs.Numbers as numbers;
 
 use crate::limits::MAX_NUMBER;
-use sb_entities::{EntityStore, SpaceStore};
-use sb_machine::{Change, Changes, LeafChange, Part};
+use sb_entities::SpaceStore;
+use sb_machine::{Change, Changes, LeafChange};
 use std::collections::VecDeque;
 
 /// What is numbered.
@@ -98,64 +98,6 @@ fn given(what: Numbered, changes: &Changes) -> u64
     one + given_by_all(what, more)
 }
 
-// ---- numbers given before
-
-// The copy numbers given in an entity's parts; 2^64 - 1 stands for more.
-fn made_in(entity: &EntityStore) -> u64
-    ensures { result ≡ min (namespace.made_in (entity_in entity.now)) (2 ^ 64 - 1) }
-{
-    let main = entity.part(Part::Main).last();
-    let dead = entity.part(Part::Dead).last();
-    let transfer = entity.part(Part::Transfer).last();
-    main.saturating_add(dead).saturating_add(transfer)
-}
-
-fn made_in_all(entities: &[EntityStore]) -> u64
-    ensures { result ≡ min (sum_by namespace.made_in (stored entities.now)) (2 ^ 64 - 1) }
-{
-    let mut made = 0_u64;
-    for entity in entities {
-        made = made.saturating_add(made_in(entity));
-    }
-    made
-}
-
-/// All copy numbers that were ever given; 2^64 - 1 stands for more.
-pub fn made(space: &SpaceStore) -> u64
-    ensures { result ≡ min (namespace.made (space_in space.now)) (2 ^ 64 - 1) }
-{
-    made_in_all(space.entities()).saturating_add(space.removed())
-}
-
-// ---- live copies
-
-// 2^64 - 1 stands for more.
-fn live_in(entity: &EntityStore) -> u64
-    ensures { result ≡ min (namespace.live_in (entity_in entity.now)) (2 ^ 64 - 1) }
-{
-    let main = entity.part(Part::Main).copies().size() as u64;
-    let dead = entity.part(Part::Dead).copies().size() as u64;
-    let transfer = entity.part(Part::Transfer).copies().size() as u64;
-    main.saturating_add(dead).saturating_add(transfer)
-}
-
-fn live_in_all(entities: &[EntityStore]) -> u64
-    ensures { result ≡ min (sum_by namespace.live_in (stored entities.now)) (2 ^ 64 - 1) }
-{
-    let mut live = 0_u64;
-    for entity in entities {
-        live = live.saturating_add(live_in(entity));
-    }
-    live
-}
-
-/// All live copies; 2^64 - 1 stands for more.
-pub fn live(space: &SpaceStore) -> u64
-    ensures { result ≡ min (namespace.live (space_in space.now)) (2 ^ 64 - 1) }
-{
-    live_in_all(space.entities())
-}
-
 // ---- the test
 
 // Whether so many numbers may be given behind the last.
@@ -171,7 +113,7 @@ fn fits(last: u64, given: u64) -> bool
 fn copies_fit(space: &SpaceStore, changes: &Changes) -> bool
     ensures { result ≡ nat_le (namespace.made (space_in space.now) + machine.numbers_given changes.now) machine.max_number }
 {
-    fits(made(space), given(Numbered::Copies, changes))
+    fits(space.made(), given(Numbered::Copies, changes))
 }
 
 fn entities_fit(space: &SpaceStore, changes: &Changes) -> bool

@@ -8,7 +8,6 @@ ghost use Rattle.sb_engine.specs.Quotas as quotas;
 ghost use Rattle.sb_engine.specs.Quotas.{AreCounted, Judges, JudgesCounts};
 
 use crate::limits::MAX_COPIES;
-use crate::numbers::live;
 use sb_entities::SpaceStore;
 use sb_machine::{Change, Changes, LeafChange, Refusal};
 use std::alloc::AllocError;
@@ -100,17 +99,6 @@ fn later(before: u64, entering: u64, ending: u64) -> Result<u64, AllocError>
     }
 }
 
-// The copies that live; memory is wanting for 2^64 - 1 and more.
-fn live_exactly(space: &SpaceStore) -> Result<u64, AllocError>
-    ensures { IfOk result (λ n. n ≡ namespace.live (space_in space.now)) }
-{
-    let live = live(space);
-    if live == u64::MAX {
-        return Err(AllocError);
-    }
-    Ok(live)
-}
-
 fn live_later(
     space: &SpaceStore,
     before: u64,
@@ -143,9 +131,7 @@ pub fn judge_quota(space: &SpaceStore, moment: u64, changes: &Changes) -> Result
     requires counted { AreCounted moment changes.now (space_in space.now) }
     ensures { Judges result (within_quota moment (space_in space.now) changes.now) }
 {
-    let Ok(before) = live_exactly(space) else {
-        return Err(Refusal::OutOfMemory);
-    };
+    let before = space.live();
     let Ok(later) = live_later(space, before, moment, changes) else {
         return Err(Refusal::OutOfMemory);
     };
