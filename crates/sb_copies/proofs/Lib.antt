@@ -1,1 +1,4 @@
+pub mod Below
+mod Mirror
+mod Order
 mod Peeking

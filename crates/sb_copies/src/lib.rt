@@ -1,10 +1,10 @@
 //! The copies that one part of an entity holds.
 //!
-//! A [`Shelf`] stands on the model alone: contracts see it as the list of its copies and a number
-//! of slots that are promised. Each finder is the model's word on that list, and each change is
-//! the case of the model's `leaf_after` that it carries out; no call asks that numbers differ or
-//! rise, since a change is of the first copy that has the number. What adds a copy takes a slot
-//! that was promised before, and so can't fail.
+//! A [`Shelf`] stands on the model and on `sb_index`: contracts see it as the list of its copies
+//! and a number of slots that are promised. Each finder is the model's word on that list, and each
+//! change is the case of the model's `leaf_after` that it carries out. Numbers rise, since a copy
+//! that is added has one above all others: so it is found by its number without a look at those
+//! before it. What adds a copy takes a slot that was promised before, and so can't fail.
 //!
 //! ```text
 //! let mut shelf = Shelf::new(alloc);
@@ -20,7 +20,9 @@
 
 mod looks;
 mod names;
+mod places;
 mod rows;
+mod searches;
 mod shelf;
 mod standings;
 

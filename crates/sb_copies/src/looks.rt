@@ -1,7 +1,9 @@
 // Looking at copies, which leaves them as they are.
 ghost use Rattle.std.specs.Prelude.{◌≡◌, IfOk};
 ghost use Rattle.sb_machine.specs.Receiving as spec;
+ghost use Rattle.sb_copies.specs.Shelf.{AreInOrder};
 
+use crate::places::place_from;
 use sb_machine::{CopyShown, CopyState, Showing, Standing, StoredCopy};
 use std::alloc::{AllocError, Global};
 use std::collections::VecDeque;
@@ -36,19 +38,18 @@ pub fn peek(
     start: u64,
     count: u64,
 ) -> Result<Vec<CopyShown>, AllocError>
+    requires { AreInOrder rows.now.items }
     ensures { IfOk result (λ v. v.items ≡ spec.peeked start count rows.now.items) }
 {
+    let first = place_from(rows, start);
     let mut seen = Vec::new(alloc);
     let mut left = count;
-    for place in 0..rows.len() {
+    for place in first..rows.len() {
         if left == 0 {
             break;
         }
-        let copy = &rows[place];
-        if copy.number >= start {
-            seen.push(browsed(copy)?)?;
-            left -= 1;
-        }
+        seen.push(browsed(&rows[place])?)?;
+        left -= 1;
     }
     Ok(seen)
 }

@@ -4,7 +4,6 @@ ghost use Rattle.sb_machine.specs.Claims as claims;
 ghost use Rattle.sb_machine.specs.Leases as spec;
 ghost use Rattle.sb_machine.specs.Leaves as leaf;
 ghost use Rattle.sb_machine.specs.Messages as messages;
-ghost use Rattle.sb_machine.specs.Receiving.{is_ready_for};
 ghost use Rattle.sb_model.specs.declared.message.SystemName.TheVariants.{SessionId};
 
 use crate::standings::{is_deferred, is_living, is_ready, is_scheduled};
@@ -36,12 +35,6 @@ pub fn is_of(copy: &StoredCopy, session: &str) -> bool
     ensures { result ≡ messages.has_text_of SessionId session.now copy.now.message }
 {
     has_text_of(&copy.message, SystemName::SessionId, session)
-}
-
-pub fn is_ready_for_any(copy: &StoredCopy) -> bool
-    ensures { result ≡ is_ready_for None copy.now }
-{
-    is_ready(copy.standing)
 }
 
 pub fn is_ready_of(copy: &StoredCopy, session: &str) -> bool

@@ -10,32 +10,41 @@ ghost use Rattle.sb_machine.specs.Messages.{has_text_of};
 ghost use Rattle.sb_machine.specs.Receiving.{is_ready_for, peeked};
 ghost use Rattle.sb_model.specs.declared.message.SystemName.TheVariants.{SessionId};
 ghost use Rattle.sb_machine.specs.declared.state.Standing.TheVariants.{Held};
+ghost use Rattle.sb_copies.specs.Shelf as shelf;
+ghost use Rattle.sb_copies.specs.Shelf.{AreBelow, AreInOrder};
 
-use crate::{looks, rows};
+use crate::places::numbered;
+use crate::standings::is_ready;
+use crate::{looks, rows, searches};
+use sb_index::{Index, Row};
 use sb_machine::{CopyShown, Hold, Session, Standing, StoredCopy, Token, Which};
 use sb_model::Rows;
 use std::alloc::{AllocError, Global};
 use std::collections::VecDeque;
 use std::marker::Model;
 
+// The last moment that there is.
+const NEVER: u64 = u64::MAX;
+
 /// The copies of one part of an entity.
 #[derive(Drop)]
 pub struct Shelf {
     alloc: Global,
     copies: VecDeque<StoredCopy>,
-    spare: usize,
+    // by number
+    order: Index,
 }
 
 impl Model for Shelf {
-    ghost use Rattle.std.specs.Prelude.{◌+◌, ◌≤◌};
+    ghost use Rattle.std.specs.Prelude.{◌≡◌, ◌+◌, ◌≤◌, ◌^◌};
     ghost use Rattle.std.specs.VecDeque.{deque_len, deque_capacity};
-    ghost use Rattle.sb_copies.specs.Shelf.{Shelved};
+    ghost use Rattle.sb_copies.specs.Shelf.{rows_of, AreBelow, Shelved};
 
     ghost Value = { Shelved };
 
-    ghost view = { λ s. record { copies = s.copies.items; spare = s.spare } };
+    ghost view = { λ s. record { copies = s.copies.items; spare = s.order.spare } };
 
-    ghost invariant = { λ s. deque_len s.copies + s.spare ≤ deque_capacity s.copies };
+    ghost invariant = { λ s. (deque_len s.copies + s.order.spare ≤ deque_capacity s.copies) × (s.order.rows ≡ rows_of s.copies.items) × AreBelow (2 ^ 64) s.copies.items };
 }
 
 impl Shelf {
@@ -47,7 +56,7 @@ impl Shelf {
         Shelf {
             alloc,
             copies: VecDeque::new(alloc),
-            spare: 0,
+            order: Index::new(alloc),
         }
     }
 
@@ -57,7 +66,7 @@ impl Shelf {
     pub fn spare(&self) -> usize
         ensures { result ≡ self.now.spare }
     {
-        self.spare
+        self.order.spare()
     }
 
     /// Promises at least so many slots; where memory is wanting, all stays.
@@ -67,10 +76,7 @@ impl Shelf {
         ensures err { OnErr result (self.new.spare ≡ self.old.spare) }
     {
         self.copies.reserve(count)?;
-        if self.spare < count {
-            self.spare = count;
-        }
-        Ok(())
+        self.order.reserve(count)
     }
 
     // ---- reading
@@ -100,42 +106,46 @@ impl Shelf {
     pub fn get(&self, number: u64) -> Option<&StoredCopy>
         ensures { option_map (λ c. c.now) result ≡ find (has_number number) self.now.copies }
     {
-        rows::numbered(&self.copies, number)
+        self.rises();
+        numbered(&self.copies, number)
     }
 
     /// The first that may be received.
     pub fn first_ready(&self) -> Option<&StoredCopy>
         ensures { option_map (λ c. c.now) result ≡ find (is_ready_for None) self.now.copies }
     {
-        rows::ready(&self.copies)
+        searches::ready(&self.copies, &self.order)
     }
 
     /// The first of the session of this id that may be received.
     pub fn first_ready_of<'a>(&'a self, session: &str) -> Option<&'a StoredCopy>
         ensures { option_map (λ c. c.now) result ≡ find (λ c. is_ready c.standing && has_text_of SessionId session.now c.message) self.now.copies }
     {
-        rows::ready_of(&self.copies, session)
+        searches::ready_of(&self.copies, session)
     }
 
     /// The deferred one of this number.
     pub fn deferred(&self, number: u64) -> Option<&StoredCopy>
         ensures { option_map (λ c. c.now) result ≡ find (λ c. is_deferred c.standing && (c.number == number) && is_of None c) self.now.copies }
     {
-        rows::deferred(&self.copies, number)
+        self.rises();
+        searches::deferred(&self.copies, number)
     }
 
     /// The deferred one of this number, of the session of this id.
     pub fn deferred_of<'a>(&'a self, number: u64, session: &str) -> Option<&'a StoredCopy>
         ensures { option_map (λ c. c.now) result ≡ find (λ c. is_deferred c.standing && (c.number == number) && has_text_of SessionId session.now c.message) self.now.copies }
     {
-        rows::deferred_of(&self.copies, number, session)
+        self.rises();
+        searches::deferred_of(&self.copies, number, session)
     }
 
     /// The scheduled one of this number.
     pub fn scheduled(&self, number: u64) -> Option<&StoredCopy>
         ensures { option_map (λ c. c.now) result ≡ find (λ c. is_scheduled c.standing && (c.number == number)) self.now.copies }
     {
-        rows::scheduled(&self.copies, number)
+        self.rises();
+        searches::scheduled(&self.copies, number)
     }
 
     /// The one that is named so and has the token's lock, which lives at `moment`, in ms since
@@ -150,8 +160,9 @@ impl Shelf {
     ) -> Option<&'a StoredCopy>
         ensures { option_map (λ c. c.now) result ≡ (if token.salt == salt then find (λ c. is_living moment sessions.now token.lock c.standing && is_named which.now c) self.now.copies else None) }
     {
+        self.rises();
         if token.salt == salt {
-            rows::leased(&self.copies, moment, sessions, token.lock, which)
+            searches::leased(&self.copies, moment, sessions, token.lock, which)
         } else {
             None
         }
@@ -161,6 +172,7 @@ impl Shelf {
     pub fn peek(&self, start: u64, count: u64) -> Result<Rows<CopyShown>, AllocError>
         ensures { IfOk result (λ seen. seen ≡ peeked start count self.now.copies) }
     {
+        self.rises();
         let seen = looks::peek(self.alloc, &self.copies, start, count)?;
         Ok(Rows::from_vec(seen))
     }
@@ -170,11 +182,12 @@ impl Shelf {
     /// Puts a copy behind all others, in a slot that was promised.
     pub fn push(&mut self, copy: StoredCopy)
         requires room { 1 ≤ self.old.spare }
+        requires above { AreBelow copy.number self.old.copies }
         ensures copies { self.new.copies ≡ self.old.copies ++ copy ∷ [] }
         ensures spare { self.new.spare ≡ self.old.spare - 1 }
     {
+        self.order.insert(row_of(&copy));
         self.copies.push_back_reserved(copy);
-        self.spare -= 1;
     }
 
     /// Takes out the copy of this number.
@@ -183,6 +196,8 @@ impl Shelf {
         ensures copies { self.new.copies ≡ changed (has_number number) (λ c. []) self.old.copies }
         ensures spare { self.new.spare ≡ self.old.spare }
     {
+        self.rises();
+        let _ = self.order.remove(u128::from(number));
         rows::take_row(&mut self.copies, number)
     }
 
@@ -191,6 +206,9 @@ impl Shelf {
         ensures copies { self.new.copies ≡ changed (has_number number) (λ c. record c { count = count; standing = standing } ∷ []) self.old.copies }
         ensures spare { self.new.spare ≡ self.old.spare }
     {
+        self.rises();
+        self.order
+            .change(u128::from(number), is_ready(standing), NEVER);
         rows::stand_row(&mut self.copies, number, count, standing);
     }
 
@@ -199,6 +217,8 @@ impl Shelf {
         ensures copies { self.new.copies ≡ changed (has_number number) (λ c. record c { standing = Held lock hold (is_deferred c.standing) } ∷ []) self.old.copies }
         ensures spare { self.new.spare ≡ self.old.spare }
     {
+        self.rises();
+        self.order.change(u128::from(number), false, NEVER);
         rows::hold_row(&mut self.copies, number, lock, hold);
     }
 
@@ -207,6 +227,28 @@ impl Shelf {
         ensures copies { self.new.copies ≡ changed (has_number number) (λ c. record c { standing = prolonged_standing until c.standing } ∷ []) self.old.copies }
         ensures spare { self.new.spare ≡ self.old.spare }
     {
+        self.rises();
         rows::prolong_row(&mut self.copies, number, until);
+    }
+
+    // ---- their order
+
+    // Their numbers rise: for the proofs of what looks for one.
+    fn rises(&self)
+        ensures { AreInOrder self.now.copies }
+    {
+        self.order.rises();
+    }
+}
+
+// The row of a copy in the index by number.
+fn row_of(copy: &StoredCopy) -> Row
+    ensures { result ≡ shelf.row_of copy.now }
+{
+    Row {
+        key: u128::from(copy.number),
+        value: 0,
+        marked: is_ready(copy.standing),
+        due: NEVER,
     }
 }

@@ -1,10 +1,7 @@
 // One part of an entity: its last number, its copies, its sessions.
-ghost use Rattle.std.specs.Prelude.{◌≡◌, ◌+◌, ◌-◌, ◌≤◌, ◌++◌, ◌∷◌, [], OnOk, OnErr};
-ghost use Rattle.sb_machine.specs.Changes.{max_number};
+ghost use Rattle.std.specs.Prelude.{◌≡◌, ◌+◌, OnOk, OnErr};
 ghost use Rattle.sb_machine.specs.Leaves as leaves;
-ghost use Rattle.sb_machine.specs.Namespace.{empty_leaf};
-ghost use Rattle.sb_entities.specs.Rooms.{part_grown, part_used, HasPartRoom};
-ghost use Rattle.sb_entities.specs.Stores.{leaf_in, part_room_in};
+ghost use Rattle.sb_copies.specs.Shelf.{AreBelow};
 
 use crate::place::PartPlace;
 use crate::slots::one_more;
@@ -19,9 +16,18 @@ pub struct PartStore {
     last: u64,
     copies: Shelf,
     sessions: Sessions,
+    // No copy's number is above the last that was given.
+    ghost numbered: { AreBelow (last + 1) copies.copies },
 }
 
 impl PartStore {
+    ghost use Rattle.std.specs.Prelude.{◌≡◌, ◌+◌, ◌-◌, ◌≤◌, ◌++◌, ◌∷◌, [], OnOk, OnErr};
+    ghost use Rattle.sb_machine.specs.Changes.{max_number};
+    ghost use Rattle.sb_machine.specs.Leaves as leaves;
+    ghost use Rattle.sb_machine.specs.Namespace.{empty_leaf};
+    ghost use Rattle.sb_entities.specs.Rooms.{part_grown, part_used, HasPartRoom};
+    ghost use Rattle.sb_entities.specs.Stores.{leaf_in, part_room_in};
+
     /// The last number given there.
     pub fn last(&self) -> u64
         ensures { result ≡ (leaf_in self.now).last }

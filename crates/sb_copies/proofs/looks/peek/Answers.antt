@@ -1,20 +1,13 @@
-use Rattle.std.proofs.Common.{◌≡◌, ◌++◌, ◌∷◌, [], ◌∙◌, ap, arith}
+use Rattle.std.proofs.Common.{◌≡◌, ◌++◌, ◌∷◌, [], ◌-◌, ◌∙◌, ap, arith}
 use Rattle.sb_machine.specs.Receiving.{browsed}
-use Rattle.sb_copies.proofs.Peeking.{seen_one, seen_none}
+use Rattle.sb_copies.proofs.Peeking.{begins, seen_one}
 use Rattle.sb_copies.proofs.looks.peek.Goals as goal
-use Rattle.sb_copies.proofs.looks.peek.Goals.{then-copy-start+in_ok-browsed+in_ok-push, else-copy-start}
+
+pub loop-place-init : goal.loop-place-init
+loop-place-init c = rw c.new-seen.ensures.items (begins c.args.rows.now.items c.place_from-first.result c.args.start c.args.count c.requires c.place_from-first.ensures)
 
 pub loop-place-preserved : goal.loop-place-preserved
 loop-place-preserved c =
-    let xs = c.args.rows.now.items in
-    let i = c.loop-place.place in
-    let x = c.index-copy.result.now in
-    elim c.if-copy-start.branch [
-      | then-copy-start+in_ok-browsed+in_ok-push w ↦
-          let one = seen_one xs i c.args.start c.loop-place.left c.if-copy-start.left x c.loop-place.seen.items _ (omega arith) c.index-copy.ensures (omega arith) w.if-copy-start.true c.loop-place.invariant in
-          let gained : c.if-copy-start.seen.items ≡ c.loop-place.seen.items ++ browsed x ∷ [] = ap (λ v. v.items) w.seen-is ∙ w.in_ok-push.ensures.items ∙ ap (λ s. c.loop-place.seen.items ++ s ∷ []) w.in_ok-browsed.ensures in
-          rw gained one
-      | else-copy-start w ↦
-          let none = seen_none xs i c.args.start c.loop-place.left x c.loop-place.seen.items _ (omega arith) c.index-copy.ensures (omega arith) c.loop-place.invariant in
-          rw (w.seen-is, w.left-is) none
-    ]
+    let x = c.index.result.now in
+    let gained : c.push.new.self.items ≡ c.loop-place.seen.items ++ browsed x ∷ [] = c.in_ok-push.ensures.items ∙ ap (λ s. c.loop-place.seen.items ++ s ∷ []) c.in_ok-browsed.ensures in
+    rw gained (seen_one c.args.rows.now.items c.loop-place.place c.loop-place.left (c.loop-place.left - 1) x c.loop-place.seen.items _ (omega arith) c.index.ensures (omega arith) c.loop-place.invariant)

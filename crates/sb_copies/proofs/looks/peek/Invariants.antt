@@ -1,7 +1,7 @@
-use Rattle.std.proofs.Common.{◌≡◌, ◌++◌, drop}
-use Rattle.sb_machine.specs.Receiving.{peeked}
+use Rattle.std.proofs.Common.{◌≡◌, ◌++◌, drop, map, take}
+use Rattle.sb_machine.specs.Receiving.{browsed, peeked}
 use Rattle.sb_copies.proofs.looks.peek.Given as goal
 
 -- those seen and those that are still to be seen are all
 abbrev pub invariant-loop-place : goal.invariant-loop-place
-invariant-loop-place l = l.seen.items ++ peeked l.start l.left (drop l.place l.rows.items) ≡ peeked l.start l.count l.rows.items
+invariant-loop-place l = l.seen.items ++ map browsed (take l.left (drop l.place l.rows.items)) ≡ peeked l.start l.count l.rows.items

@@ -1,0 +1,19 @@
+use Rattle.std.proofs.Common.{◌∙◌, ap, refl, sym, subst, arith, false}
+use Rattle.sb_index.specs.Rows.{changed}
+use Rattle.sb_machine.specs.Leaves.{is_deferred}
+use Rattle.sb_machine.specs.declared.state.Standing.TheVariants.{Held}
+use Rattle.sb_machine.specs.declared.state.StoredCopy.{StoredCopy}
+use Rattle.sb_copies.specs.Shelf.{AreInOrder, Shelved, never}
+use Rattle.sb_copies.proofs.Below.{below_changed}
+use Rattle.sb_copies.proofs.Mirror.{row_told}
+use Rattle.sb_copies.proofs.shelf.Shelf.hold.Goals as goal
+
+pub invariant_of-self : goal.invariant_of-self
+invariant_of-self c =
+    let s = c.self.inside in
+    let ordered : AreInOrder s.copies.items = subst (λ (v : Shelved). AreInOrder v.copies) (sym c.self.view_is) c.rises.ensures in
+    let g : StoredCopy → StoredCopy = λ x. record x { standing = Held c.args.lock c.args.hold (is_deferred x.standing) } in (
+      omega (arith, c.self.invariant.0, c.change.ensures.spare, c.hold_row.ensures.len, c.hold_row.ensures.capacity),
+      row_told c.args.number false never g (λ x. refl) s.order.rows c.change.new.self.rows s.copies.items c.hold_row.new.rows.items c.self.invariant.1 ordered (c.change.ensures.rows ∙ ap (λ n. changed n false never s.order.rows) c.from.ensures) c.hold_row.ensures.rows,
+      below_changed c.args.number g 18446744073709551616 (λ x. refl) s.copies.items c.hold_row.new.rows.items c.self.invariant.2 c.hold_row.ensures.rows,
+    )
