@@ -83,18 +83,17 @@ impl<R: std::rt::Clock + Drop> Hall<R> {
         places: usize,
     ) -> io::Result<Hall<R>> {
         let start = Instant::now(&system)?;
-        let poll = Poll::new(net)?;
-        let registry = poll.registry().try_clone()?;
-        let waker = Waker::new(&registry, WAKER)?;
-        let events = Events::with_capacity(alloc, EVENTS)?;
+        let seats = seats(alloc, places)?;
+        let (called, wanting, greeters) = queues(alloc, places)?;
+        let (registry, waker, watch) = watched(net, alloc)?;
         Ok(Hall {
             system,
             start,
             registry,
-            seats: seats(alloc, places)?,
-            called: Queue::new(alloc, places)?,
-            wanting: Queue::new(alloc, places)?,
-            greeters: Queue::new(alloc, places)?,
+            seats,
+            called,
+            wanting,
+            greeters,
             served: AtomicBool::new(false),
             arrivals: Arrivals::new(),
             next_rung: AtomicUsize::new(0),
@@ -106,7 +105,7 @@ impl<R: std::rt::Clock + Drop> Hall<R> {
             looks_ms: AtomicU64::new(0),
             looked: AtomicBool::new(false),
             crowded: AtomicBool::new(false),
-            watch: Mutex::new(Watch { poll, events }),
+            watch: Mutex::new(watch),
         })
     }
 
@@ -411,4 +410,21 @@ fn seats(alloc: Global, places: usize) -> io::Result<Vec<Seat>> {
         seats.push(Seat::new())?;
     }
     Ok(seats)
+}
+
+// The queues of those who are called, who want a connection, and who are to take one, for so many seats.
+fn queues(alloc: Global, places: usize) -> io::Result<(Queue, Queue, Queue)> {
+    let called = Queue::new(alloc, places)?;
+    let wanting = Queue::new(alloc, places)?;
+    let greeters = Queue::new(alloc, places)?;
+    Ok((called, wanting, greeters))
+}
+
+// What is watched, what ends the wait from another thread, and the wait itself.
+fn watched<N: Net>(net: &N, alloc: Global) -> io::Result<(Registry, Waker, Watch)> {
+    let events = Events::with_capacity(alloc, EVENTS)?;
+    let poll = Poll::new(net)?;
+    let registry = poll.registry().try_clone()?;
+    let waker = Waker::new(&registry, WAKER)?;
+    Ok((registry, waker, Watch { poll, events }))
 }
