@@ -1,4 +1,7 @@
 pub mod Below
+mod BySession
 mod Mirror
 mod Order
 mod Peeking
+mod SessionChanges
+mod SessionFinds

@@ -121,7 +121,7 @@ above_found n p c (y ∷ ys) a found = at (p y) refl (above_found n p c ys a.1) 
   at false e ih = ih (rw e at found)
 
 -- what is found is found by its number
-own_found : (p : StoredCopy → Bool) (c : StoredCopy) (cs : List StoredCopy) → AreInOrder cs → find p cs ≡ Some c → find (has_number c.number) cs ≡ Some c
+pub own_found : (p : StoredCopy → Bool) (c : StoredCopy) (cs : List StoredCopy) → AreInOrder cs → find p cs ≡ Some c → find (has_number c.number) cs ≡ Some c
 own_found p c [] s found = absurd cc
 own_found p c (y ∷ ys) s found = at (p y) refl (own_found p c ys s.1) where
   itself : (n : ℕ) → (n == n) ≡ true
@@ -167,7 +167,7 @@ key_below m row (x ∷ xs) found = at (is_marked_within 0 m x) refl (key_below m
 
 -- ---- a lock that lives longer
 
-still_marked : (until : ℕ) (s : Standing) → is_ready (prolonged_standing until s) ≡ is_ready s
+pub still_marked : (until : ℕ) (s : Standing) → is_ready (prolonged_standing until s) ≡ is_ready s
 still_marked until Ready = refl
 still_marked until Deferred = refl
 still_marked until (Held lock hold deferred) = refl

@@ -23,6 +23,7 @@ mod names;
 mod places;
 mod rows;
 mod searches;
+mod sessions;
 mod shelf;
 mod standings;
 

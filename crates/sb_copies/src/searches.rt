@@ -1,5 +1,5 @@
 // Searches among copies whose numbers rise.
-ghost use Rattle.std.specs.Prelude.{◌≡◌, ◌==◌, ◌&&◌, ◌^◌, ◌<◌, find, position, None};
+ghost use Rattle.std.specs.Prelude.{◌≡◌, ◌==◌, ◌&&◌, ◌+◌, ◌*◌, ◌^◌, ◌<◌, find, position, None};
 ghost use Rattle.std.specs.Option.{option_map};
 ghost use Rattle.sb_index.specs.Rows.{is_marked_within};
 ghost use Rattle.sb_machine.specs.Claims.{is_of};
@@ -8,10 +8,12 @@ ghost use Rattle.sb_machine.specs.Leaves.{has_number, is_deferred};
 ghost use Rattle.sb_machine.specs.Messages.{has_text_of};
 ghost use Rattle.sb_machine.specs.Receiving.{is_ready_for};
 ghost use Rattle.sb_model.specs.declared.message.SystemName.TheVariants.{SessionId};
+ghost use Rattle.sb_copies.specs.BySession.{session_hash, span, HoldsSessions};
 ghost use Rattle.sb_copies.specs.Shelf.{row_of, rows_of, AreBelow, AreInOrder};
 
 use crate::names;
 use crate::places::numbered;
+use crate::sessions::{SPAN, session_hash};
 use crate::standings::is_living;
 use sb_index::{Index, Row};
 use sb_machine::{Session, StoredCopy, Which};
@@ -47,8 +49,40 @@ fn place_ready_of(rows: &VecDeque<StoredCopy>, session: &str) -> Option<usize>
     rows.iter().position(|c| names::is_ready_of(c, session))
 }
 
-/// The first of the session of this id that may be received.
-pub fn ready_of<'a>(rows: &'a VecDeque<StoredCopy>, session: &str) -> Option<&'a StoredCopy>
+/// The first of the session of this id that may be received, by the index that has their rows.
+///
+/// Where another session's id comes to the same hash, and the first is that one's, all are looked at.
+pub fn ready_of<'a>(
+    rows: &'a VecDeque<StoredCopy>,
+    by_session: &Index,
+    session: &str,
+) -> Option<&'a StoredCopy>
+    requires order { AreInOrder rows.now.items }
+    requires holds { HoldsSessions by_session.now.rows rows.now.items }
+    ensures { option_map (λ c. c.now) result ≡ find (λ c. lease.is_ready c.standing && has_text_of SessionId session.now c.message) rows.now.items }
+{
+    let Some(row) = first_under(by_session, session) else {
+        return None;
+    };
+    let Some(copy) = numbered(rows, row.value) else {
+        return ready_somewhere(rows, session);
+    };
+    if names::is_of(copy, session) {
+        Some(copy)
+    } else {
+        ready_somewhere(rows, session)
+    }
+}
+
+// The first marked row of those whose session's id comes to the same as this one.
+fn first_under(by_session: &Index, session: &str) -> Option<Row>
+    ensures { result ≡ find (is_marked_within (session_hash session.now * span) (session_hash session.now * span + span)) by_session.now.rows }
+{
+    let from = u128::from(session_hash(session)) * SPAN;
+    by_session.first_marked(from, from + SPAN)
+}
+
+fn ready_somewhere<'a>(rows: &'a VecDeque<StoredCopy>, session: &str) -> Option<&'a StoredCopy>
     ensures { option_map (λ c. c.now) result ≡ find (λ c. lease.is_ready c.standing && has_text_of SessionId session.now c.message) rows.now.items }
 {
     match place_ready_of(rows, session) {

@@ -15,7 +15,7 @@ ghost use Rattle.sb_copies.specs.Shelf.{AreBelow, AreInOrder};
 
 use crate::places::numbered;
 use crate::standings::is_ready;
-use crate::{looks, rows, searches};
+use crate::{looks, rows, searches, sessions};
 use sb_index::{Index, Row};
 use sb_machine::{CopyShown, Hold, Session, Standing, StoredCopy, Token, Which};
 use sb_model::Rows;
@@ -33,18 +33,21 @@ pub struct Shelf {
     copies: VecDeque<StoredCopy>,
     // by number
     order: Index,
+    // by session, then number
+    by_session: Index,
 }
 
 impl Model for Shelf {
     ghost use Rattle.std.specs.Prelude.{◌≡◌, ◌+◌, ◌≤◌, ◌^◌};
     ghost use Rattle.std.specs.VecDeque.{deque_len, deque_capacity};
+    ghost use Rattle.sb_copies.specs.BySession.{HoldsSessions};
     ghost use Rattle.sb_copies.specs.Shelf.{rows_of, AreBelow, Shelved};
 
     ghost Value = { Shelved };
 
     ghost view = { λ s. record { copies = s.copies.items; spare = s.order.spare } };
 
-    ghost invariant = { λ s. (deque_len s.copies + s.order.spare ≤ deque_capacity s.copies) × (s.order.rows ≡ rows_of s.copies.items) × AreBelow (2 ^ 64) s.copies.items };
+    ghost invariant = { λ s. (deque_len s.copies + s.order.spare ≤ deque_capacity s.copies) × (s.order.rows ≡ rows_of s.copies.items) × AreBelow (2 ^ 64) s.copies.items × (s.order.spare ≤ s.by_session.spare) × HoldsSessions s.by_session.rows s.copies.items };
 }
 
 impl Shelf {
@@ -57,6 +60,7 @@ impl Shelf {
             alloc,
             copies: VecDeque::new(alloc),
             order: Index::new(alloc),
+            by_session: Index::new(alloc),
         }
     }
 
@@ -76,6 +80,7 @@ impl Shelf {
         ensures err { OnErr result (self.new.spare ≡ self.old.spare) }
     {
         self.copies.reserve(count)?;
+        self.by_session.reserve(count)?;
         self.order.reserve(count)
     }
 
@@ -121,7 +126,8 @@ impl Shelf {
     pub fn first_ready_of<'a>(&'a self, session: &str) -> Option<&'a StoredCopy>
         ensures { option_map (λ c. c.now) result ≡ find (λ c. is_ready c.standing && has_text_of SessionId session.now c.message) self.now.copies }
     {
-        searches::ready_of(&self.copies, session)
+        self.rises();
+        searches::ready_of(&self.copies, &self.by_session, session)
     }
 
     /// The deferred one of this number.
@@ -186,6 +192,8 @@ impl Shelf {
         ensures copies { self.new.copies ≡ self.old.copies ++ copy ∷ [] }
         ensures spare { self.new.spare ≡ self.old.spare - 1 }
     {
+        self.by_session.rises();
+        sessions::put(&mut self.by_session, &copy);
         self.order.insert(row_of(&copy));
         self.copies.push_back_reserved(copy);
     }
@@ -197,6 +205,8 @@ impl Shelf {
         ensures spare { self.new.spare ≡ self.old.spare }
     {
         self.rises();
+        let hash = sessions::hash_at(&self.copies, number);
+        sessions::take(&mut self.by_session, hash, number);
         let _ = self.order.remove(u128::from(number));
         rows::take_row(&mut self.copies, number)
     }
@@ -207,8 +217,10 @@ impl Shelf {
         ensures spare { self.new.spare ≡ self.old.spare }
     {
         self.rises();
-        self.order
-            .change(u128::from(number), is_ready(standing), NEVER);
+        let hash = sessions::hash_at(&self.copies, number);
+        let marked = is_ready(standing);
+        sessions::mark(&mut self.by_session, hash, number, marked);
+        self.order.change(u128::from(number), marked, NEVER);
         rows::stand_row(&mut self.copies, number, count, standing);
     }
 
@@ -218,6 +230,8 @@ impl Shelf {
         ensures spare { self.new.spare ≡ self.old.spare }
     {
         self.rises();
+        let hash = sessions::hash_at(&self.copies, number);
+        sessions::mark(&mut self.by_session, hash, number, false);
         self.order.change(u128::from(number), false, NEVER);
         rows::hold_row(&mut self.copies, number, lock, hold);
     }

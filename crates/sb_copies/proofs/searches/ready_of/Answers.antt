@@ -1,12 +1,9 @@
-use Rattle.std.proofs.Common.{◌&&◌}
-use Rattle.sb_machine.specs.Leases as lease
-use Rattle.sb_machine.specs.Messages.{has_text_of}
-use Rattle.sb_model.specs.declared.message.SystemName.TheVariants.{SessionId}
-use Rattle.sb_machine.proofs.Places.{found_at, found_none}
+use Rattle.std.proofs.Common.{sym}
+use Rattle.sb_copies.proofs.SessionFinds.{ready_nowhere, ready_there}
 use Rattle.sb_copies.proofs.searches.ready_of.Goals as goal
 
-pub returns-in-Some : goal.returns-in-Some
-returns-in-Some c = found_at (λ x. lease.is_ready x.standing && has_text_of SessionId c.args.session.now x.message) c.args.rows.now.items c.in-Some.place c.index.result.now c.in-Some.ensures c.index.ensures
+pub returns-in_default : goal.returns-in_default
+returns-in_default c = ready_nowhere c.args.session.now c.args.by_session.now.rows c.args.rows.now.items c.requires.holds c.in_default.ensures
 
-pub returns-in-None : goal.returns-in-None
-returns-in-None c = found_none (λ x. lease.is_ready x.standing && has_text_of SessionId c.args.session.now x.message) c.args.rows.now.items c.in-None.ensures
+pub returns-then-is_of : goal.returns-then-is_of
+returns-then-is_of c = ready_there c.args.session.now c.in-Some.row c.args.by_session.now.rows c.args.rows.now.items c.in-Some-numbered.copy.now c.requires.holds c.requires.order c.in-Some.ensures c.in-Some-numbered.ensures (sym c.if-is_of.ensures)

@@ -6,6 +6,7 @@ use Rattle.sb_machine.specs.declared.state.StoredCopy.{StoredCopy}
 use Rattle.sb_copies.specs.Shelf.{AreInOrder, Shelved, never}
 use Rattle.sb_copies.proofs.Below.{below_changed}
 use Rattle.sb_copies.proofs.Mirror.{row_told}
+use Rattle.sb_copies.proofs.SessionChanges.{told_so}
 use Rattle.sb_copies.proofs.shelf.Shelf.hold.Goals as goal
 
 pub invariant_of-self : goal.invariant_of-self
@@ -16,4 +17,6 @@ invariant_of-self c =
       omega (arith, c.self.invariant.0, c.change.ensures.spare, c.hold_row.ensures.len, c.hold_row.ensures.capacity),
       row_told c.args.number false never g (λ x. refl) s.order.rows c.change.new.self.rows s.copies.items c.hold_row.new.rows.items c.self.invariant.1 ordered (c.change.ensures.rows ∙ ap (λ n. changed n false never s.order.rows) c.from.ensures) c.hold_row.ensures.rows,
       below_changed c.args.number g 18446744073709551616 (λ x. refl) s.copies.items c.hold_row.new.rows.items c.self.invariant.2 c.hold_row.ensures.rows,
+      omega (arith, c.self.invariant.3, c.mark.ensures.spare, c.change.ensures.spare),
+      told_so c.args.number g (λ k x. refl) false never (λ h x. refl) c.hash_at-hash.result s.by_session.rows c.mark.new.by_session.rows s.copies.items c.hold_row.new.rows.items (omega arith) ordered c.self.invariant.2 c.hash_at-hash.ensures c.self.invariant.4 c.mark.ensures.rows c.hold_row.ensures.rows,
     )
