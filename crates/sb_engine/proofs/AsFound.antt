@@ -32,7 +32,7 @@ use Rattle.sb_machine.specs.declared.state.StoredCopy.{StoredCopy}
 use Rattle.sb_model.specs.declared.message.Message.{Message}
 use Rattle.sb_model.specs.declared.message.SystemName.TheVariants.{MessageId}
 use Rattle.sb_engine.specs.Commits.{AsFound, is_settled, lookup}
-use Rattle.sb_engine.specs.declared.committing.SettledCopy.{SettledCopy}
+use Rattle.sb_engine.specs.declared.deliver.committing.SettledCopy.{SettledCopy}
 
 -- ---- changes that touch no copy under a lock, but those that are settled
 

@@ -31,7 +31,7 @@ use Rattle.sb_model.specs.declared.message.Message.{Message}
 use Rattle.sb_engine.specs.Commits.{Acts, AsFound, IsItself, goes_well}
 use Rattle.sb_engine.specs.Growing.{Stands}
 use Rattle.sb_engine.specs.Quotas.{AreCounted}
-use Rattle.sb_engine.specs.declared.committing.SettledCopy.{SettledCopy}
+use Rattle.sb_engine.specs.declared.deliver.committing.SettledCopy.{SettledCopy}
 use Rattle.sb_engine.specs.Sendings.{IsThere, SendsAll, StandsAt, StandsSeen, Told, View, seen_in, space_at}
 use Rattle.sb_engine.proofs.CountedCommits.{commits_are_counted}
 use Rattle.sb_engine.proofs.Growing.{after_both}

@@ -25,7 +25,7 @@ use Rattle.sb_fanout.proofs.Keeping.{numbers_stand}
 use Rattle.sb_laws.proofs.Eachs.{each_append}
 use Rattle.sb_engine.specs.Growing.{IsGrown, Stands}
 use Rattle.sb_engine.specs.Sweeps.{found_in, found_of, is_looked_for, item}
-use Rattle.sb_engine.specs.declared.finding.Search.{Search}
+use Rattle.sb_engine.specs.declared.time.finding.Search.{Search}
 use Rattle.sb_engine.proofs.Growing.{grown_more}
 
 -- ---- rows that are read as items, each with its changes

@@ -4,7 +4,7 @@ use Rattle.std.specs.Prelude.{IsErr, IsErrAnd, MatchResult}
 use Rattle.sb_machine.specs.Rows.{Row, refuses}
 use Rattle.sb_machine.specs.declared.reply.Refusal.{Refusal}
 use Rattle.sb_engine.specs.Plans.{PlansRow}
-use Rattle.sb_engine.specs.declared.draft.Draft.{Draft}
+use Rattle.sb_engine.specs.declared.plan.draft.Draft.{Draft}
 
 pub plans_by : (r : Result Draft Refusal) (row other : Row) → row ≡ other → PlansRow r other → PlansRow r row
 plans_by r row other is plans = subst (λ (x : Row). PlansRow r x) (sym is) plans

@@ -12,7 +12,7 @@ use Rattle.sb_machine.specs.declared.state.Listed.{Listed}
 use Rattle.sb_machine.specs.declared.state.Space.{Space}
 use Rattle.sb_engine.specs.Plans.{PlansRow}
 use Rattle.sb_engine.specs.Rules.{rule_of, created_in, deleted_in}
-use Rattle.sb_engine.specs.declared.draft.Draft.{Draft}
+use Rattle.sb_engine.specs.declared.plan.draft.Draft.{Draft}
 
 -- a search in the same rules for the same name
 pub same_search : (found : Option Rule) (rules seen : List Rule) (name asked : List ℕ) → seen ≡ rules → asked ≡ name → found ≡ rule_of asked seen → rule_of name rules ≡ found

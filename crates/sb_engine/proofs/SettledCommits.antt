@@ -37,7 +37,7 @@ use Rattle.sb_model.specs.declared.message.Message.{Message}
 use Rattle.sb_engine.specs.Commits.{Acts, AsFound, is_settled, lookup}
 use Rattle.sb_engine.specs.Growing.{IsGrown}
 use Rattle.sb_engine.specs.Sendings.{StandsAt, StandsSeen, Told, View, seen_in, space_at}
-use Rattle.sb_engine.specs.declared.committing.SettledCopy.{SettledCopy}
+use Rattle.sb_engine.specs.declared.deliver.committing.SettledCopy.{SettledCopy}
 use Rattle.sb_engine.proofs.AsFound.{calm_handed, calm_sends, found_later, is_calm, is_calm_in}
 use Rattle.sb_engine.proofs.Growing.{after_both}
 use Rattle.sb_engine.proofs.SendIds.{seen_leaf}

@@ -13,7 +13,7 @@ use Rattle.sb_machine.specs.declared.state.Operation.{Operation}
 use Rattle.sb_machine.specs.declared.state.Operation.TheVariants.{Send, Settle}
 use Rattle.sb_machine.specs.declared.state.Space.{Space}
 use Rattle.sb_machine.specs.declared.state.StoredCopy.{StoredCopy}
-use Rattle.sb_engine.specs.declared.committing.SettledCopy.{SettledCopy}
+use Rattle.sb_engine.specs.declared.deliver.committing.SettledCopy.{SettledCopy}
 use Rattle.sb_engine.specs.Sendings.{Told, IsUnderWay, space_at}
 
 -- These changes of the namespace that a plan leads to stand behind those of the plan.

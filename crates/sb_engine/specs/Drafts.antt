@@ -3,7 +3,7 @@ use Rattle.std.specs.Prelude.{◌≡◌, Bool, true, false, Result, Ok, Err}
 use Rattle.sb_machine.specs.Rows.{Row, answers}
 use Rattle.sb_machine.specs.declared.call.How.{How}
 use Rattle.sb_machine.specs.declared.call.How.TheVariants.{Complete, Abandon, Defer, DeadLetter}
-use Rattle.sb_engine.specs.declared.draft.Draft.{Draft}
+use Rattle.sb_engine.specs.declared.plan.draft.Draft.{Draft}
 
 -- what was planned is what the row answers and changes; a failure says nothing
 abbrev pub DraftsRow : {E : Type 0} → Result Draft E → Row → Type 0

@@ -8,7 +8,7 @@ use Rattle.sb_machine.specs.declared.call.Token.{Token}
 use Rattle.sb_machine.specs.declared.reply.Refusal.{Refusal}
 use Rattle.sb_machine.specs.declared.state.Entity.{Entity}
 use Rattle.sb_machine.specs.declared.state.Space.{Space}
-use Rattle.sb_engine.specs.declared.claims.Claim.{Claim}
+use Rattle.sb_engine.specs.declared.find.claims.Claim.{Claim}
 
 -- whatever is done with what is found is done with this
 abbrev pub Passes : {X : Type 0} → ((X → Row) → Row) → X → Type 0

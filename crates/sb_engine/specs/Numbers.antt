@@ -4,8 +4,8 @@ use Rattle.sb_machine.specs.Changes.{numbers_in}
 use Rattle.sb_machine.specs.Leaves.{locks_given}
 use Rattle.sb_machine.specs.declared.change.Change.{Change}
 use Rattle.sb_machine.specs.declared.change.Change.TheVariants.{InLeaf, Makes, Begins}
-use Rattle.sb_engine.specs.declared.numbers.Numbered.{Numbered}
-use Rattle.sb_engine.specs.declared.numbers.Numbered.TheVariants.{Copies, Entities, Locks, Transactions}
+use Rattle.sb_engine.specs.declared.plan.numbers.Numbered.{Numbered}
+use Rattle.sb_engine.specs.declared.plan.numbers.Numbered.TheVariants.{Copies, Entities, Locks, Transactions}
 
 -- how many entity numbers a change gives
 abbrev pub entities_in : Change → ℕ

@@ -3,7 +3,7 @@ use Rattle.std.specs.Prelude.{◌≡◌, ◌⊎◌, Option, Some, None, Result, 
 use Rattle.sb_machine.specs.Rows.{Row, refuses, answers}
 use Rattle.sb_machine.specs.declared.reply.Refusal.{Refusal}
 use Rattle.sb_machine.specs.declared.reply.Refusal.TheVariants.{OutOfMemory}
-use Rattle.sb_engine.specs.declared.draft.Draft.{Draft}
+use Rattle.sb_engine.specs.declared.plan.draft.Draft.{Draft}
 
 -- the row's reply and changes, or its refusal; want of memory may come in place of each
 abbrev pub PlansRow : Result Draft Refusal → Row → Type 0

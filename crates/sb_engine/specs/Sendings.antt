@@ -16,7 +16,7 @@ use Rattle.sb_machine.specs.declared.state.Space.{Space}
 use Rattle.sb_model.specs.declared.message.Message.{Message}
 use Rattle.sb_model.specs.declared.message.SystemName.TheVariants.{MessageId}
 use Rattle.sb_engine.specs.Growing.{Stands}
-use Rattle.sb_engine.specs.declared.sending.Sending.{Sending}
+use Rattle.sb_engine.specs.declared.deliver.sending.Sending.{Sending}
 
 -- ---- ids
 

@@ -15,9 +15,9 @@ use Rattle.sb_machine.specs.declared.state.StoredCopy.{StoredCopy}
 use Rattle.sb_fanout.specs.Lasts.{Given}
 use Rattle.sb_entities.specs.Stores.{entity_in}
 use Rattle.sb_engine.specs.Growing.{Stands}
-use Rattle.sb_engine.specs.declared.finding.Found.{Found}
-use Rattle.sb_engine.specs.declared.finding.Search.{Search}
-use Rattle.sb_engine.specs.declared.finding.Search.TheVariants.{Ended, Expired, Come}
+use Rattle.sb_engine.specs.declared.time.finding.Found.{Found}
+use Rattle.sb_engine.specs.declared.time.finding.Search.{Search}
+use Rattle.sb_engine.specs.declared.time.finding.Search.TheVariants.{Ended, Expired, Come}
 
 -- ---- items
 

@@ -21,10 +21,10 @@ ghost use Rattle.sb_engine.specs.Engines.{engine_state, adds_nothing, carried_ou
 ghost use Rattle.sb_engine.specs.Plans.{PlansRow};
 ghost use Rattle.sb_engine.specs.Small.{is_small, takes_no_memory};
 
-use crate::calls::{Verdict, client_of, judge_number};
-use crate::planning::plan_row;
-use crate::ticks::plan_tick;
-use crate::watched::Watched;
+use crate::plan::calls::{Verdict, client_of, judge_number};
+use crate::plan::planning::plan_row;
+use crate::time::ticks::plan_tick;
+use crate::time::watched::Watched;
 use crate::{Draft, Plan, Summary};
 use sb_machine::{Act, Answered, By, Call, Changes, Kept, Refusal, Reply};
 use sb_repeats::Clients;

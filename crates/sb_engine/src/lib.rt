@@ -20,42 +20,16 @@
 #![tactic(auto)]
 
 mod acts;
-mod arrivals;
-mod behind;
-mod calls;
-mod claims;
-mod committing;
-mod deadlines;
-mod draft;
-mod drafting;
-mod due;
+mod deliver;
 mod engine;
-mod fields;
-mod finding;
-mod handing;
-mod heads;
-mod holding;
-mod leases;
+mod find;
 mod limits;
-mod numbers;
 mod plan;
-mod planning;
-mod queueing;
-mod quota;
-mod reading;
-mod release;
-mod sending;
-mod settling;
-mod sizes;
-mod soonest;
 mod summary;
-mod sweeps;
-mod ticks;
-mod via;
-mod watched;
+mod time;
 
-pub use arrivals::mark_of;
-use draft::Draft;
+pub use deliver::arrivals::mark_of;
 pub use engine::Engine;
 pub use plan::Plan;
+use plan::draft::Draft;
 pub use summary::Summary;

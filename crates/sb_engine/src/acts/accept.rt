@@ -8,11 +8,11 @@ ghost use Rattle.sb_engine.specs.Drafts.{DraftsRow};
 ghost use Rattle.sb_engine.specs.Plans.{PlansRow};
 
 use crate::Draft;
-use crate::claims::has_sessions;
-use crate::drafting::planned;
-use crate::handing::{lock_end, next_token};
-use crate::heads::receivable_at_address;
-use crate::release::in_part;
+use crate::deliver::handing::{lock_end, next_token};
+use crate::deliver::release::in_part;
+use crate::find::claims::has_sessions;
+use crate::find::heads::receivable_at_address;
+use crate::plan::drafting::planned;
 use sb_entities::{EntityStore, PartStore, SpaceStore};
 use sb_machine::{Holder, LeafChange, Part, Path, Refusal, Reply, Session};
 use sb_model::Text;

@@ -7,8 +7,8 @@ ghost use Rattle.sb_entities.specs.Stores.{entity_in, leaf_in, space_in};
 ghost use Rattle.sb_engine.specs.Plans.{PlansRow};
 
 use crate::Draft;
-use crate::heads::entity_at_address;
-use crate::release::in_part;
+use crate::deliver::release::in_part;
+use crate::find::heads::entity_at_address;
 use sb_entities::{EntityStore, PartStore, SpaceStore};
 use sb_machine::{Cause, LeafChange, Part, Path, Refusal, Reply, StoredCopy};
 use std::alloc::Global;

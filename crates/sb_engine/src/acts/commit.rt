@@ -12,12 +12,12 @@ ghost use Rattle.sb_engine.specs.Commits as commits;
 ghost use Rattle.sb_engine.specs.Commits.{IsItself};
 ghost use Rattle.sb_engine.specs.Plans.{PlansRow};
 
-use crate::committing::act_all;
-use crate::draft::Draft;
-use crate::leases::leased;
-use crate::quota::judge_quota;
-use crate::sending::Sending;
-use crate::settling::goes_with;
+use crate::deliver::committing::act_all;
+use crate::deliver::sending::Sending;
+use crate::deliver::settling::goes_with;
+use crate::find::leases::leased;
+use crate::plan::draft::Draft;
+use crate::plan::quota::judge_quota;
 use sb_entities::{EntityStore, SpaceStore};
 use sb_machine::{Change, Changes, Operation, Refusal, Reply, Which};
 use sb_txn::OpenTransaction;

@@ -13,7 +13,7 @@ ghost use Rattle.sb_engine.specs.Plans.{PlansRow, Passes};
 
 use crate::Draft;
 use crate::acts::kinds::is_topic;
-use crate::reading::read_condition;
+use crate::find::reading::read_condition;
 use sb_entities::SpaceStore;
 use sb_machine::{
     Change, Description, EntityKind, Listed, Part, Path, Refusal, Reply, Rule, RuleFilter,

@@ -9,10 +9,10 @@ ghost use Rattle.sb_engine.specs.Heads.{claim_in};
 ghost use Rattle.sb_engine.specs.Plans.{PlansRow};
 
 use crate::Draft;
-use crate::claims::Claim;
-use crate::drafting::planned;
-use crate::handing::handed_out;
-use crate::holding::claimed_at_address;
+use crate::deliver::handing::handed_out;
+use crate::find::claims::Claim;
+use crate::find::holding::claimed_at_address;
+use crate::plan::drafting::planned;
 use sb_entities::{EntityStore, SpaceStore};
 use sb_machine::{Mode, Part, Path, Refusal, Reply, StoredCopy, Token};
 use std::alloc::{AllocError, Global};

@@ -14,11 +14,11 @@ ghost use Rattle.sb_engine.specs.Drafts.{DraftsRow};
 ghost use Rattle.sb_engine.specs.Plans.{PlansRow};
 
 use crate::Draft;
-use crate::claims::{Claim, is_main};
-use crate::drafting::planned;
-use crate::handing::handed_out;
-use crate::holding::claimed_at_address;
-use crate::release::{expired, is_expired};
+use crate::deliver::handing::handed_out;
+use crate::deliver::release::{expired, is_expired};
+use crate::find::claims::{Claim, is_main};
+use crate::find::holding::claimed_at_address;
+use crate::plan::drafting::planned;
 use sb_entities::{EntityStore, SpaceStore};
 use sb_fanout::Lasts;
 use sb_machine::{Changes, Mode, Part, Path, Refusal, Reply, StoredCopy, Token};

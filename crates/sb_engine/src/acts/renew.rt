@@ -6,11 +6,11 @@ ghost use Rattle.sb_entities.specs.Stores.{entity_in, leaf_in, space_in};
 ghost use Rattle.sb_engine.specs.Plans.{PlansRow};
 
 use crate::Draft;
-use crate::claims::has_sessions;
-use crate::handing::lock_end;
-use crate::heads::entity_at_address;
-use crate::leases::leased;
-use crate::release::in_part;
+use crate::deliver::handing::lock_end;
+use crate::deliver::release::in_part;
+use crate::find::claims::has_sessions;
+use crate::find::heads::entity_at_address;
+use crate::find::leases::leased;
 use sb_copies::is_until;
 use sb_entities::{EntityStore, SpaceStore};
 use sb_machine::{LeafChange, Part, Path, Refusal, Reply, StoredCopy, Token, Which};

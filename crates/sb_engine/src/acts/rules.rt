@@ -12,9 +12,9 @@ ghost use Rattle.sb_engine.specs.Rules.{rule_of, read_in, created_in, deleted_in
 
 use crate::Draft;
 use crate::acts::create::subscription_path;
+use crate::find::reading::{read_action, read_filter};
 use crate::limits::MAX_PROPERTY_BYTES;
-use crate::reading::{read_action, read_filter};
-use crate::sizes::conditions_size;
+use crate::plan::sizes::conditions_size;
 use sb_entities::SpaceStore;
 use sb_machine::{Change, Effect, FilterText, Listed, Refusal, Reply, Rule, RuleFilter};
 use sb_model::{Name, Text};

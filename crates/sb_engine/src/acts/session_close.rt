@@ -14,9 +14,9 @@ ghost use Rattle.sb_engine.specs.Growing.{IsGrown};
 ghost use Rattle.sb_engine.specs.Plans.{PlansRow};
 
 use crate::Draft;
-use crate::drafting::planned;
-use crate::holding::held_at_address;
-use crate::release::{push_in, released};
+use crate::deliver::release::{push_in, released};
+use crate::find::holding::held_at_address;
+use crate::plan::drafting::planned;
 use sb_copies::is_under_session;
 use sb_entities::{EntityStore, SpaceStore};
 use sb_fanout::Lasts;

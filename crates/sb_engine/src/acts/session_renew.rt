@@ -5,9 +5,9 @@ ghost use Rattle.sb_entities.specs.Stores.{space_in};
 ghost use Rattle.sb_engine.specs.Plans.{PlansRow};
 
 use crate::Draft;
-use crate::handing::lock_end;
-use crate::holding::{Held, held_at_address};
-use crate::release::in_part;
+use crate::deliver::handing::lock_end;
+use crate::deliver::release::in_part;
+use crate::find::holding::{Held, held_at_address};
 use sb_entities::SpaceStore;
 use sb_machine::{LeafChange, Path, Refusal, Reply, Session, Token};
 use std::alloc::Global;

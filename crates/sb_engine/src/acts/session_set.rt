@@ -12,10 +12,10 @@ ghost use Rattle.sb_engine.specs.Plans.{PlansRow};
 
 use crate::Draft;
 use crate::acts::session_state::copied;
-use crate::drafting::planned;
-use crate::holding::{Held, held_at_address};
+use crate::deliver::release::in_part;
+use crate::find::holding::{Held, held_at_address};
 use crate::limits::MAX_STATE;
-use crate::release::in_part;
+use crate::plan::drafting::planned;
 use sb_entities::{EntityStore, SpaceStore};
 use sb_machine::{LeafChange, Part, Path, Refusal, Reply, Token};
 use sb_model::Rows;

@@ -8,8 +8,8 @@ ghost use Rattle.sb_engine.specs.Drafts.{DraftsRow};
 ghost use Rattle.sb_engine.specs.Plans.{PlansRow};
 
 use crate::Draft;
-use crate::drafting::planned;
-use crate::holding::{Held, held_at_address};
+use crate::find::holding::{Held, held_at_address};
+use crate::plan::drafting::planned;
 use sb_entities::SpaceStore;
 use sb_machine::{Path, Refusal, Reply, Token};
 use sb_model::Rows;

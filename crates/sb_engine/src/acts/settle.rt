@@ -15,12 +15,12 @@ ghost use Rattle.sb_engine.specs.Drafts.{DraftsRow, copies_nothing};
 ghost use Rattle.sb_engine.specs.Plans.{PlansRow};
 
 use crate::Draft;
-use crate::claims::{check_session, claim_by};
-use crate::drafting::planned;
-use crate::heads::receivable_at_address;
-use crate::leases::leased;
-use crate::queueing::{has_room_in, is_on, open_in, queueing};
-use crate::settling::{goes_with, settled};
+use crate::deliver::queueing::{has_room_in, is_on, open_in, queueing};
+use crate::deliver::settling::{goes_with, settled};
+use crate::find::claims::{check_session, claim_by};
+use crate::find::heads::receivable_at_address;
+use crate::find::leases::leased;
+use crate::plan::drafting::planned;
 use sb_entities::{EntityStore, SpaceStore};
 use sb_fanout::Lasts;
 use sb_machine::{Changes, How, Operation, Part, Path, Refusal, Reply, StoredCopy, Token, Which};

@@ -1,6 +1,0 @@
-use Rattle.sb_entities.specs.Stores.{space_in}
-use Rattle.sb_engine.proofs.Numbering.{entities_after, fits_as}
-use Rattle.sb_engine.proofs.numbers.entities_fit.Goals as goal
-
-pub returns : goal.returns
-returns c t = fits_as c.last_entity.result c.given.result _ _ _ c.fits.ensures c.last_entity.ensures c.given.ensures (entities_after t c.args.changes.now (space_in c.args.space.now))

@@ -1,0 +1,239 @@
+// What the queued operations of a transaction do as they act, one after another.
+ghost use Rattle.std.specs.Prelude.{◌≡◌, OnOk};
+ghost use Rattle.sb_entities.specs.Stores.{entity_in, space_in};
+ghost use Rattle.sb_machine.specs.Changes.{in_turn};
+ghost use Rattle.sb_machine.specs.Names as names;
+ghost use Rattle.sb_machine.specs.Sending.{send_changes};
+ghost use Rattle.sb_machine.specs.Transactions as spec;
+ghost use Rattle.sb_machine.specs.declared.state.Operation.TheVariants.{Send, Settle};
+ghost use Rattle.sb_engine.specs.Commits as commits;
+ghost use Rattle.sb_engine.specs.Commits.{Acts, AsFound};
+ghost use Rattle.sb_engine.specs.Sendings.{IsUnderWay, space_at, told};
+
+use crate::deliver::sending::{Sending, copy_of, send_all};
+use crate::deliver::settling::{goes_with, settled};
+use crate::find::leases::leased;
+use crate::find::via::is_same_entity;
+use sb_entities::{EntityStore, SpaceStore};
+use sb_fanout::hand_on;
+use sb_machine::{How, Operation, Part, Path, Token, Which};
+use sb_model::Message;
+use std::alloc::{AllocError, Global};
+
+// A message is handed on from the transaction's entity.
+fn hand_one(
+    alloc: Global,
+    space: &SpaceStore,
+    sending: &mut Sending,
+    entity: &EntityStore,
+    moment: u64,
+    to: &str,
+    message: &Message,
+) -> Result<(), AllocError>
+    requires { IsUnderWay moment (space_in space.now) (entity_in entity.now).about.number (told sending.old) }
+    ensures { OnOk result (Acts moment (space_in space.now) (entity_in entity.now).about.number (spec.handed_on (entity_in entity.now) to.now message.now) (told sending.old) (told sending.new)) }
+{
+    let copy = copy_of(message)?;
+    hand_on(
+        alloc,
+        space,
+        &mut sending.lasts,
+        &mut sending.changes,
+        entity.about(),
+        to,
+        copy,
+    )
+}
+
+fn hand_all(
+    alloc: Global,
+    space: &SpaceStore,
+    sending: &mut Sending,
+    entity: &EntityStore,
+    moment: u64,
+    to: &str,
+    messages: &[Message],
+) -> Result<(), AllocError>
+    requires { IsUnderWay moment (space_in space.now) (entity_in entity.now).about.number (told sending.old) }
+    ensures { OnOk result (Acts moment (space_in space.now) (entity_in entity.now).about.number (in_turn (spec.handed_on (entity_in entity.now) to.now) moment messages.now) (told sending.old) (told sending.new)) }
+{
+    for message in messages {
+        hand_one(alloc, space, sending, entity, moment, to, message)?;
+    }
+    Ok(())
+}
+
+fn send_own(
+    alloc: Global,
+    space: &SpaceStore,
+    sending: &mut Sending,
+    entity: &EntityStore,
+    moment: u64,
+    messages: &[Message],
+) -> Result<(), AllocError>
+    requires { IsUnderWay moment (space_in space.now) (entity_in entity.now).about.number (told sending.old) }
+    ensures { OnOk result (Acts moment (space_in space.now) (entity_in entity.now).about.number (send_changes moment (entity_in entity.now) messages.now) (told sending.old) (told sending.new)) }
+{
+    send_all(alloc, space, sending, entity, moment, messages)
+}
+
+fn send_queued(
+    alloc: Global,
+    space: &SpaceStore,
+    sending: &mut Sending,
+    entity: &EntityStore,
+    moment: u64,
+    to: &Path,
+    messages: &[Message],
+) -> Result<(), AllocError>
+    requires { IsUnderWay moment (space_in space.now) (entity_in entity.now).about.number (told sending.old) }
+    ensures { OnOk result (Acts moment (space_in space.now) (entity_in entity.now).about.number (spec.operation_changes moment (entity_in entity.now) (Send to.now messages.now)) (told sending.old) (told sending.new)) }
+{
+    if is_same_entity(to, &entity.about().path) {
+        return send_own(alloc, space, sending, entity, moment, messages);
+    }
+    hand_all(
+        alloc,
+        space,
+        sending,
+        entity,
+        moment,
+        to.name.as_str(),
+        messages,
+    )
+}
+
+// ---- settlements
+
+/// A copy that a commit has settled.
+#[derive(Clone, Copy, PartialEq, Eq)]
+pub struct SettledCopy {
+    pub part: Part,
+    pub number: u64,
+}
+
+fn is_same_part(a: Part, b: Part) -> bool
+    ensures { result ≡ names.is_same_part a b }
+{
+    match (a, b) {
+        (Part::Main, Part::Main) => true,
+        (Part::Dead, Part::Dead) => true,
+        (Part::Transfer, Part::Transfer) => true,
+        _ => false,
+    }
+}
+
+fn is_settled(settled: &[SettledCopy], part: Part, number: u64) -> bool
+    ensures { result ≡ commits.is_settled settled.now part number }
+{
+    settled
+        .iter()
+        .any(|x| is_same_part(x.part, part) && x.number == number)
+}
+
+// A queued settlement. Memory is wanting where the copy was settled before, which no consistent
+// namespace leads to: a lock is queued once, and holds one copy.
+fn settle_queued(
+    alloc: Global,
+    space: &SpaceStore,
+    sending: &mut Sending,
+    done: &mut Vec<SettledCopy>,
+    entity: &EntityStore,
+    moment: u64,
+    from: &Path,
+    number: u64,
+    token: Token,
+    session: Option<Token>,
+    how: &How,
+) -> Result<(), AllocError>
+    requires under_way { IsUnderWay moment (space_in space.now) (entity_in entity.now).about.number (told sending.old) }
+    requires found { AsFound moment (space_in space.now) (entity_in entity.now) done.old.items (space_at moment (space_in space.now) (told sending.old)) }
+    ensures acts { OnOk result (Acts moment (space_in space.now) (entity_in entity.now).about.number (spec.operation_changes moment (entity_in entity.now) (Settle from.now number token session how.now)) (told sending.old) (told sending.new)) }
+    ensures found { OnOk result (AsFound moment (space_in space.now) (entity_in entity.now) done.new.items (space_at moment (space_in space.now) (told sending.new))) }
+{
+    if !goes_with(how, from.part) {
+        return Err(AllocError);
+    }
+    if is_settled(done.as_slice(), from.part, number) {
+        return Err(AllocError);
+    }
+    let which = Which::Number(number);
+    let part = entity.part(from.part);
+    let Some(copy) = leased(space, moment, token, &which, part) else {
+        return Ok(());
+    };
+    done.push(SettledCopy {
+        part: from.part,
+        number: copy.number,
+    })?;
+    settled(
+        alloc,
+        space,
+        &mut sending.lasts,
+        &mut sending.changes,
+        moment,
+        entity,
+        from.part,
+        copy,
+        how,
+    )
+}
+
+// ---- all of them
+
+fn act_one(
+    alloc: Global,
+    space: &SpaceStore,
+    sending: &mut Sending,
+    done: &mut Vec<SettledCopy>,
+    entity: &EntityStore,
+    moment: u64,
+    operation: &Operation,
+) -> Result<(), AllocError>
+    requires under_way { IsUnderWay moment (space_in space.now) (entity_in entity.now).about.number (told sending.old) }
+    requires found { AsFound moment (space_in space.now) (entity_in entity.now) done.old.items (space_at moment (space_in space.now) (told sending.old)) }
+    ensures acts { OnOk result (Acts moment (space_in space.now) (entity_in entity.now).about.number (spec.operation_changes moment (entity_in entity.now) operation.now) (told sending.old) (told sending.new)) }
+    ensures found { OnOk result (AsFound moment (space_in space.now) (entity_in entity.now) done.new.items (space_at moment (space_in space.now) (told sending.new))) }
+{
+    match operation {
+        Operation::Send { to, messages } => send_queued(
+            alloc,
+            space,
+            sending,
+            entity,
+            moment,
+            to,
+            messages.as_slice(),
+        ),
+        Operation::Settle {
+            from,
+            number,
+            token,
+            session,
+            how,
+        } => settle_queued(
+            alloc, space, sending, done, entity, moment, from, *number, *token, *session, how,
+        ),
+    }
+}
+
+/// The operations of a transaction on an entity act at `moment`, in ms since 1970, one after
+/// another: changes behind those of a plan. Where memory is wanting, the plan is lost.
+pub fn act_all(
+    alloc: Global,
+    space: &SpaceStore,
+    sending: &mut Sending,
+    done: &mut Vec<SettledCopy>,
+    entity: &EntityStore,
+    moment: u64,
+    operations: &[Operation],
+) -> Result<(), AllocError>
+    requires under_way { IsUnderWay moment (space_in space.now) (entity_in entity.now).about.number (told sending.old) }
+    requires found { AsFound moment (space_in space.now) (entity_in entity.now) done.old.items (space_at moment (space_in space.now) (told sending.old)) }
+    ensures { OnOk result (Acts moment (space_in space.now) (entity_in entity.now).about.number (in_turn (spec.operation_changes moment (entity_in entity.now)) moment operations.now) (told sending.old) (told sending.new)) }
+{
+    for operation in operations {
+        act_one(alloc, space, sending, done, entity, moment, operation)?;
+    }
+    Ok(())
+}

@@ -1,0 +1,83 @@
+// Whether something is due.
+ghost use Rattle.std.specs.Prelude.{◌≡◌, nat_le};
+ghost use Rattle.std.specs.List.{list_any};
+ghost use Rattle.sb_machine.specs.Due as machine;
+ghost use Rattle.sb_entities.specs.Stores.{leaf_in, entity_in, entities_in, space_in};
+ghost use Rattle.sb_txn.specs.Txns.{transactions_of};
+ghost use Rattle.sb_engine.specs.Deadlines as spec;
+
+use crate::time::deadlines::{copy_deadline, has_passed, session_deadline};
+use sb_entities::{EntityStore, PartStore, SpaceStore};
+use sb_machine::{Part, Session, StoredCopy};
+use sb_txn::OpenTransaction;
+
+fn copy_comes(part: Part, copy: &StoredCopy, moment: u64) -> bool
+    ensures { result ≡ spec.has_passed moment (spec.copy_deadline part copy.now) }
+{
+    has_passed(copy_deadline(part, copy), moment)
+}
+
+fn any_copy(part: Part, copies: &[StoredCopy], moment: u64) -> bool
+    ensures { result ≡ list_any (λ c. spec.has_passed moment (spec.copy_deadline part c)) copies.now }
+{
+    copies.iter().any(|c| copy_comes(part, c, moment))
+}
+
+fn any_session(sessions: &[Session], moment: u64) -> bool
+    ensures { result ≡ list_any (λ x. spec.has_passed moment (spec.session_deadline x)) sessions.now }
+{
+    sessions
+        .iter()
+        .any(|x| has_passed(session_deadline(x), moment))
+}
+
+fn comes_in(part: Part, store: &PartStore, moment: u64) -> bool
+    ensures { result ≡ spec.comes_in moment part (leaf_in store.now) }
+{
+    let (front, back) = store.copies().as_slices();
+    any_session(store.sessions().as_slice(), moment)
+        || (any_copy(part, front, moment) || any_copy(part, back, moment))
+}
+
+fn comes_of(entity: &EntityStore, moment: u64) -> bool
+    ensures { result ≡ spec.comes_of moment (entity_in entity.now) }
+{
+    comes_in(Part::Main, entity.part(Part::Main), moment)
+        || comes_in(Part::Dead, entity.part(Part::Dead), moment)
+        || comes_in(Part::Transfer, entity.part(Part::Transfer), moment)
+}
+
+fn any_entity(entities: &[EntityStore], moment: u64) -> bool
+    ensures { result ≡ list_any (spec.comes_of moment) (entities_in entities.now) }
+{
+    for entity in entities {
+        if comes_of(entity, moment) {
+            return true;
+        }
+    }
+    false
+}
+
+fn any_transaction(rows: &[OpenTransaction], moment: u64) -> bool
+    ensures { result ≡ list_any (λ x. nat_le x.deadline moment) (transactions_of rows.now) }
+{
+    for row in rows {
+        if row.deadline() <= moment {
+            return true;
+        }
+    }
+    false
+}
+
+fn comes(space: &SpaceStore, moment: u64) -> bool
+    ensures { result ≡ spec.comes moment (space_in space.now) }
+{
+    any_entity(space.entities(), moment) || any_transaction(space.txns().as_slice(), moment)
+}
+
+/// Whether something is due at `moment`, in ms since 1970: this looks at each copy.
+pub fn is_due(space: &SpaceStore, moment: u64) -> bool
+    ensures { result ≡ machine.is_due moment (space_in space.now) }
+{
+    comes(space, moment)
+}

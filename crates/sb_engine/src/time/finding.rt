@@ -1,0 +1,144 @@
+// The copies that the sweeps of a tick look for, where they stand.
+ghost use Rattle.std.specs.Prelude.{◌≡◌, [], ◌++◌, map, filter, IfOk};
+ghost use Rattle.std.specs.List.{flat_map};
+ghost use Rattle.sb_machine.specs.declared.call.Part.TheVariants.{Main as MainPart};
+ghost use Rattle.sb_entities.specs.Stores.{entity_in, entities_in, space_in};
+ghost use Rattle.sb_engine.specs.Sweeps as spec;
+
+use crate::deliver::release::is_expired;
+use sb_copies::{has_come, has_ended, is_ready};
+use sb_entities::{EntityStore, SpaceStore};
+use sb_machine::{Part, Session, StoredCopy};
+use std::alloc::{AllocError, Global};
+
+/// What a sweep looks for.
+#[derive(Clone, Copy)]
+pub enum Search {
+    /// Copies under a lock that has ended.
+    Ended,
+    /// Copies that may be received and have expired.
+    Expired,
+    /// Scheduled copies whose moment has come.
+    Come,
+}
+
+/// A copy where it was found.
+#[derive(Clone, Copy)]
+pub struct Found<'a> {
+    pub entity: &'a EntityStore,
+    pub part: Part,
+    pub copy: &'a StoredCopy,
+}
+
+fn is_looked_for(search: Search, moment: u64, sessions: &[Session], copy: &StoredCopy) -> bool
+    ensures { result ≡ spec.is_looked_for search moment sessions.now copy.now }
+{
+    match search {
+        Search::Ended => has_ended(copy.standing, moment, sessions),
+        Search::Expired => is_ready(copy.standing) && is_expired(copy, moment),
+        Search::Come => has_come(copy.standing, moment),
+    }
+}
+
+fn with_copies<'a>(
+    found: Vec<Found<'a>>,
+    search: Search,
+    moment: u64,
+    entity: &'a EntityStore,
+    part: Part,
+    sessions: &[Session],
+    copies: &'a [StoredCopy],
+) -> Result<Vec<Found<'a>>, AllocError>
+    ensures { IfOk result (λ v. spec.items_in v.items ≡ spec.items_in found.entry.items ++ map (spec.item (entity_in entity.now) part) (filter (spec.is_looked_for search moment sessions.now) copies.now)) }
+{
+    let mut found = found;
+    for copy in copies {
+        if is_looked_for(search, moment, sessions, copy) {
+            found.push(Found { entity, part, copy })?;
+        }
+    }
+    Ok(found)
+}
+
+fn with_part<'a>(
+    found: Vec<Found<'a>>,
+    search: Search,
+    moment: u64,
+    entity: &'a EntityStore,
+    part: Part,
+) -> Result<Vec<Found<'a>>, AllocError>
+    ensures { IfOk result (λ v. spec.items_in v.items ≡ spec.items_in found.entry.items ++ spec.found_in search moment (entity_in entity.now) part) }
+{
+    let store = entity.part(part);
+    let sessions = store.sessions().as_slice();
+    let (front, back) = store.copies().as_slices();
+    let found = with_copies(found, search, moment, entity, part, sessions, front)?;
+    with_copies(found, search, moment, entity, part, sessions, back)
+}
+
+fn with_entity<'a>(
+    found: Vec<Found<'a>>,
+    search: Search,
+    moment: u64,
+    entity: &'a EntityStore,
+) -> Result<Vec<Found<'a>>, AllocError>
+    ensures { IfOk result (λ v. spec.items_in v.items ≡ spec.items_in found.entry.items ++ spec.found_of search moment (entity_in entity.now)) }
+{
+    let found = with_part(found, search, moment, entity, Part::Main)?;
+    let found = with_part(found, search, moment, entity, Part::Dead)?;
+    with_part(found, search, moment, entity, Part::Transfer)
+}
+
+fn find_in_parts<'a>(
+    alloc: Global,
+    entities: &'a [EntityStore],
+    search: Search,
+    moment: u64,
+) -> Result<Vec<Found<'a>>, AllocError>
+    ensures { IfOk result (λ v. spec.items_in v.items ≡ flat_map (spec.found_of search moment) (entities_in entities.now)) }
+{
+    let mut found = Vec::new(alloc);
+    for entity in entities {
+        found = with_entity(found, search, moment, entity)?;
+    }
+    Ok(found)
+}
+
+fn find_in_mains<'a>(
+    alloc: Global,
+    entities: &'a [EntityStore],
+    search: Search,
+    moment: u64,
+) -> Result<Vec<Found<'a>>, AllocError>
+    ensures { IfOk result (λ v. spec.items_in v.items ≡ flat_map (λ e. spec.found_in search moment e MainPart) (entities_in entities.now)) }
+{
+    let mut found = Vec::new(alloc);
+    for entity in entities {
+        found = with_part(found, search, moment, entity, Part::Main)?;
+    }
+    Ok(found)
+}
+
+/// What is found in all parts, by entity, then part, then number.
+pub fn find_all<'a>(
+    alloc: Global,
+    space: &'a SpaceStore,
+    search: Search,
+    moment: u64,
+) -> Result<Vec<Found<'a>>, AllocError>
+    ensures { IfOk result (λ v. spec.items_in v.items ≡ flat_map (spec.found_of search moment) (space_in space.now).entities) }
+{
+    find_in_parts(alloc, space.entities(), search, moment)
+}
+
+/// What is found in main parts alone, by entity, then number.
+pub fn find_main<'a>(
+    alloc: Global,
+    space: &'a SpaceStore,
+    search: Search,
+    moment: u64,
+) -> Result<Vec<Found<'a>>, AllocError>
+    ensures { IfOk result (λ v. spec.items_in v.items ≡ flat_map (λ e. spec.found_in search moment e MainPart) (space_in space.now).entities) }
+{
+    find_in_mains(alloc, space.entities(), search, moment)
+}
