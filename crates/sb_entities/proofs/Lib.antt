@@ -7,6 +7,7 @@ pub mod Promised
 pub mod Rising
 pub mod Bisecting
 pub mod InOrder
+pub mod ByName
 pub mod Numbering
 pub mod Stocking
 pub mod Carried

@@ -4,6 +4,7 @@ ghost use Rattle.std.specs.List.{prefix_len};
 ghost use Rattle.std.specs.Option.{option_map};
 ghost use Rattle.sb_machine.specs.Names as names;
 ghost use Rattle.sb_machine.specs.Visits as visits;
+ghost use Rattle.sb_entities.specs.Names.{AreByName};
 ghost use Rattle.sb_entities.specs.Stores.{entities_in, entity_in};
 
 use crate::entity::EntityStore;
@@ -74,17 +75,27 @@ fn own_name(entity: &Listed) -> &str
     }
 }
 
+fn before_name(found: &[&Listed], name: &str) -> usize
+    requires { AreByName (map (λ e. e.now) found.now) }
+    ensures value { result ≡ prefix_len (λ q. names.is_before (visits.own_name q.now) name.now) found.now }
+    ensures within { result ≤ length found.now }
+{
+    found.partition_point(|q| own_name(q) < name)
+}
+
 // How many of them stand before this one by name.
 fn place_by_name(found: &[&Listed], entity: &Listed) -> usize
+    requires { AreByName (map (λ e. e.now) found.now) }
     ensures value { result ≡ prefix_len (λ q. names.is_before (visits.own_name q.now) (visits.own_name entity.now)) found.now }
     ensures within { result ≤ length found.now }
 {
-    let name = own_name(entity);
-    found.iter().take_while(|q| own_name(q) < name).count()
+    before_name(found, own_name(entity))
 }
 
 fn with_next<'a>(found: Vec<&'a Listed>, entity: &'a Listed) -> Result<Vec<&'a Listed>, AllocError>
-    ensures { IfOk result (λ v. map (λ e. e.now) v.items ≡ visits.with_next (map (λ e. e.now) found.entry.items) entity.now) }
+    requires { AreByName (map (λ e. e.now) found.items) }
+    ensures found { IfOk result (λ v. map (λ e. e.now) v.items ≡ visits.with_next (map (λ e. e.now) found.entry.items) entity.now) }
+    ensures order { IfOk result (λ v. AreByName (map (λ e. e.now) v.items)) }
 {
     let place = place_by_name(&found, entity);
     let mut found = found;
