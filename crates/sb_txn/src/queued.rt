@@ -8,11 +8,11 @@ use crate::OpenTransaction;
 use sb_index::{Index, Row};
 use sb_machine::Operation;
 
-// So far stand the keys of one lock from those of the next.
+// How far the keys of one lock stand from those of the next.
 const LOCK_STRIDE: u128 = 1 << 64;
 
-/// An operation is queued in the transaction of this number; a promised node is taken where it is
-/// a settlement that stood not there yet.
+/// An operation is queued in the transaction of this number; where it is a settlement whose key
+/// isn't there yet, that takes a promised node.
 pub fn note(index: &mut Index, number: u64, operation: &Operation)
     requires room { 1 ≤ index.old.spare }
     ensures keys { (k : ℕ) → list_any (is_at k) index.new.rows ≡ (spec.is_keyed number k operation.now || list_any (is_at k) index.old.rows) }
