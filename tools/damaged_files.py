@@ -259,14 +259,14 @@ def head_fault(data):
         return 18
     if not 1 <= number_at(data, 26, 8) <= MAX_COUNT:
         return 26
-    if number_at(data, 34, 8) != 0:
-        return 42
     return None
 
 
 def records_in(data):
     """The records behind open gates, each with the place of its gate, and the place of the end gate."""
-    gate, number, records = 42, number_at(data, 26, 8), []
+    gate, number, records = 42 + number_at(data, 34, 8), number_at(data, 26, 8), []
+    if gate > len(data):
+        raise Damaged(42)
     while gate < len(data) and data[gate] == 1:
         size = number_at(data, gate + 1, 4)
         whole = gate + 13 + size <= len(data)
@@ -289,6 +289,8 @@ def read_journal(data):
         if place is not None:
             raise Damaged(place)
         records, end = records_in(data)
+        if number_at(data, 34, 8) != 0:
+            raise Damaged(42)
         namespace = Namespace()
         for gate, payload in records:
             try:

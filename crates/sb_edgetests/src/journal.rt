@@ -183,7 +183,7 @@ fn tells_the_place_of_damage(rt: HostRuntime) -> Result<(), Fail> {
         (9, 2, 9),
         (18, 255, 18),
         (33, 0, 26),
-        (41, 1, 42),
+        (41, 16, 42),
         (46, 3, 42),
         (54, 9, 42),
     ];

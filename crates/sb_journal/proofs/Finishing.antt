@@ -112,9 +112,9 @@ read_file bytes e f whole spells made closed end next = record {
 }
 
 -- where a whole file was read of it
-pub read_stand : {J : Type 0} (G : Ghosts J) (bytes : List ℕ) (s : Stand J) (ps : List (List ℕ)) (e : Ending) → IsWholeStand s ps bytes → IsStand G s ps → e.made ≡ true → e.closed ≡ s.closed → e.end ≡ s.end → e.next ≡ s.next → IsRead (at_rest bytes) e
-read_stand G bytes s ps e read stand made closed end next =
-    read_file bytes e (stand_file s ps) read.whole read.spells made (closed ∙ read.closed ∙ ap (λ n. is_shut n bytes) (sym end)) (end ∙ stand.end_is) (next ∙ stand.next_is)
+pub read_stand : {J : Type 0} (G : Ghosts J) (bytes : List ℕ) (s : Stand J) (base : List ℕ) (ps : List (List ℕ)) (e : Ending) → IsWholeStand s base ps bytes → IsStand G s base ps → e.made ≡ true → e.closed ≡ s.closed → e.end ≡ s.end → e.next ≡ s.next → IsRead (at_rest bytes) e
+read_stand G bytes s base ps e read stand made closed end next =
+    read_file bytes e (stand_file s base ps) read.whole read.spells made (closed ∙ read.closed ∙ ap (λ n. is_shut n bytes) (sym end)) (end ∙ stand.end_is) (next ∙ stand.next_is)
 
 -- a disk that was synced and then only read is as its bytes rest
 pub rests_synced : (p0 p1 : List Held) (h0 h1 h2 : Held) → Moves p0 h0 p1 h1 (at_rest h0.seen) → h2 ≡ h1 → at_rest h1.seen ≡ h2
@@ -204,7 +204,7 @@ some_is salt h e file read is stands = file_is salt h.seen file (sym read.made �
 pub new_rests_there : (salt : ℕ) (h0 h1 : Held) (e : Ending) (file : File) → IsRead h0 e → framing h0.seen ≡ Uncreated → opened_alone salt (framing h0.seen) ≡ Stands A file → salt < 2 ^ 64 → h1 ≡ at_rest (new_bytes salt 1 1 []) → Rests h1 e.end e.next file
 new_rests_there salt h0 h1 e file read none stands fits made =
     let is = new_file_is salt (framing h0.seen) file none stands in
-    let rests = new_rests h1 salt 1 1 fits (omega arith) (omega arith) (omega arith) (omega arith) made in
+    let rests = new_rests h1 salt 1 1 [] fits (omega arith) (omega arith) (omega arith) (omega arith) (omega arith) made in
     record {
       tail = [];
       held_is = made ∙ ap (λ f. at_rest (file_text f ++ 0 ∷ [])) (sym is);
@@ -227,5 +227,5 @@ new_found salt a x fits none left =
     by_place : (framing x ≡ Uncreated) ⊎ (x ≡ new_bytes salt 1 1 []) → opened_alone salt (framing x) ≡ Stands A (new_file salt 1 1 [])
     by_place (inl still) = ap (opened_alone salt) still
     by_place (inr new) =
-        let rests = new_rests (at_rest (file_text (new_file salt 1 1 []) ++ 0 ∷ [])) salt 1 1 fits (omega arith) (omega arith) (omega arith) (omega arith) refl in
+        let rests = new_rests (at_rest (file_text (new_file salt 1 1 []) ++ 0 ∷ [])) salt 1 1 [] fits (omega arith) (omega arith) (omega arith) (omega arith) (omega arith) refl in
         ap (λ (l : List ℕ). opened_alone salt (framing l)) new ∙ ap (opened_alone salt) (reads_closed (new_file salt 1 1 []) 0 [] rests.within (omega arith))

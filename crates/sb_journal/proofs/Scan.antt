@@ -1,14 +1,15 @@
 -- What stands at a place, by a part that begins there.
-use Rattle.std.proofs.Common.{◌≡◌, ◌≢◌, ◌⊎◌, inl, inr, ℕ, ◌+◌, ◌-◌, ◌^◌, ◌≤◌, List, [], ◌∷◌, ◌++◌, length, get_or, take, drop, true, false, refl, sym, ◌∙◌, ap, subst, arith, append_assoc, length-append, length-drop, take-append-drop, w32, w64}
-use Rattle.std.specs.Prelude.{Err}
+use Rattle.std.proofs.Common.{◌≡◌, ◌≢◌, ◌⊎◌, inl, inr, ℕ, ◌+◌, ◌-◌, ◌^◌, ◌≤◌, List, [], ◌∷◌, ◌++◌, length, get_or, take, drop, true, false, refl, sym, ◌∙◌, ap, subst, arith, append_assoc, length-append, length-drop, length-take, take-append-drop, w32, w64}
+use Rattle.std.specs.Prelude.{min, Err}
 use Rattle.std.specs.Int.{from_be_bytes}
-use Rattle.std.proofs.lemmas.List.{drop-drop, drop-append-le, drop_more, drop_all, drop_at, take-append-le, append-nil}
+use Rattle.std.proofs.lemmas.List.{drop-drop, get_or-drop, drop-append-le, drop_more, drop_all, drop_at, take-append-le, append-nil}
 use Rattle.std.proofs.lemmas.Bool.Decides.{nat_tests}
 use Rattle.sb_journal.specs.Text.{max_payload, records, framed, AreShort, Ends, AreBytes, Spelled}
 use Rattle.sb_journal.specs.Framing.{payload_length, is_record, read}
+use Rattle.sb_journal.specs.Opened.{is_shut}
 use Rattle.sb_journal.specs.Pieces.{BeginsWith}
 use Rattle.sb_journal.proofs.Frames.{length-framed, length-records, length-records_from, records-push, read_broken}
-use Rattle.sb_journal.proofs.Parts.{tests, record_text}
+use Rattle.sb_journal.proofs.Parts.{tests, record_text, part as cut_part}
 
 -- a piece of the bytes from one place on is a part from a later place on
 pub begins : (piece bytes : List ℕ) (from place : ℕ) → piece ≡ take (length piece) (drop from bytes) → from ≤ place → place ≤ from + length piece
@@ -82,26 +83,54 @@ module _ (part bytes : List ℕ) (starts : BeginsWith part bytes) where
       some_or_none [] = inr refl
       some_or_none (x ∷ xs) = inl (omega arith)
 
--- these records stand behind the head, up to this place
-module _ (first place number : ℕ) (ps : List (List ℕ)) (bytes : List ℕ) (text : drop 42 bytes ≡ records first ps ++ drop place bytes)
-    (place_is : place ≡ 42 + length (records first ps)) (number_is : number ≡ first + length ps) where
+-- a closed gate at a place, by the part that begins there
+pub shut_by : (part bytes : List ℕ) (place : ℕ) → BeginsWith part (drop place bytes) → is_shut 0 part ≡ is_shut place bytes
+shut_by [] bytes place starts =
+    let none = ap length (none_there [] (drop place bytes) starts refl) in
+    let long = length-drop place bytes in
+    grind (arith, nat_tests, none, long)
+shut_by (x ∷ xs) bytes place starts =
+    let here = ap length starts.is in
+    let long = length-drop place bytes in
+    let first : x ≡ get_or bytes place 0 = sym (ap (λ (l : List ℕ). get_or l 0 0) starts.is) ∙ get_or-drop place bytes 0 0 ∙ ap (λ n. get_or bytes n 0) (let e : place + 0 ≡ place = omega arith in e) in
+    grind (arith, nat_tests, here, long, first)
+
+-- at most so many bytes of what is seen at a place
+pub length-part : (rest : List ℕ) (most : ℕ) (part : List ℕ) → part ≡ take (min most (length rest)) rest → length part ≡ min most (length rest)
+length-part rest most part is = omega (arith, ap length is, length-take (min most (length rest)) rest)
+
+pub part_at : (rest bytes : List ℕ) (place most : ℕ) (part : List ℕ) → BeginsWith rest (drop place bytes) → part ≡ take (min most (length rest)) rest → drop place bytes ≡ part ++ drop (place + length part) bytes
+part_at rest bytes place most part starts is =
+    let n = min most (length rest) in
+    cut_part place n bytes
+    ∙ ap (λ (l : List ℕ). l ++ drop (place + n) bytes) (ap (take n) starts.is ∙ take-append-le n rest starts.tail (omega arith) ∙ sym is)
+    ∙ ap (λ k. part ++ drop (place + k) bytes) (sym (length-part rest most part is))
+
+pub some_part : (rest bytes : List ℕ) (place most : ℕ) (part : List ℕ) → BeginsWith rest (drop place bytes) → part ≡ take (min most (length rest)) rest → length part ≡ 0 → 1 ≤ most → place + 1 ≤ length bytes → ⊥
+some_part rest bytes place most part starts is none some left =
+    let empty : length rest ≡ 0 = omega (arith, length-part rest most part is, none, some) in
+    omega (arith, left, length-drop place bytes, ap length (none_there rest (drop place bytes) starts empty))
+
+-- these records stand from the first gate on, up to this place
+module _ (gate first place number : ℕ) (ps : List (List ℕ)) (bytes : List ℕ) (text : drop gate bytes ≡ records first ps ++ drop place bytes)
+    (place_is : place ≡ gate + length (records first ps)) (number_is : number ≡ first + length ps) where
   -- one more
-  pub one_more : (p : List ℕ) → drop place bytes ≡ 1 ∷ (framed number p ++ drop (13 + length p) (drop place bytes)) → drop 42 bytes ≡ records first (ps ++ p ∷ []) ++ drop (place + (13 + length p)) bytes
+  pub one_more : (p : List ℕ) → drop place bytes ≡ 1 ∷ (framed number p ++ drop (13 + length p) (drop place bytes)) → drop gate bytes ≡ records first (ps ++ p ∷ []) ++ drop (place + (13 + length p)) bytes
   one_more p here =
       text
       ∙ ap (λ (l : List ℕ). records first ps ++ l) (here ∙ ap (λ (l : List ℕ). 1 ∷ (framed number p ++ l)) (drop-drop (13 + length p) place bytes) ∙ ap (λ n. 1 ∷ (framed n p ++ drop (place + (13 + length p)) bytes)) number_is)
       ∙ sym (records-push ps first p (drop (place + (13 + length p)) bytes))
 
-  pub all_read : AreShort ps → Ends (drop place bytes) → Spelled first ps (drop 42 bytes)
+  pub all_read : AreShort ps → Ends (drop place bytes) → Spelled first ps (drop gate bytes)
   all_read short ends = record { rest = drop place bytes; is = text; ends = ends; short = short }
 
-  pub breaks : (rest : List ℕ) → first ≤ 2 ^ 62 → length bytes ≤ 2 ^ 62 → AreShort ps → drop place bytes ≡ 1 ∷ rest → is_record number rest ≡ false → read (length bytes) 42 first (drop 42 bytes) ≡ Err place
+  pub breaks : (rest : List ℕ) → first ≤ 2 ^ 62 → length bytes ≤ 2 ^ 62 → AreShort ps → drop place bytes ≡ 1 ∷ rest → is_record number rest ≡ false → read (length bytes) gate first (drop gate bytes) ≡ Err place
   breaks rest low small short here isnt =
       let long = length-drop place bytes in
       let some = ap length here in
-      ap (read (length bytes) 42 first) (text ∙ ap (λ (l : List ℕ). records first ps ++ l) here)
-      ∙ read_broken ps (length bytes) 42 first rest (omega (arith, length-records ps first, place_is, long, some)) (omega (arith, low, small, length-records ps first, place_is, long, some)) short (subst (λ n. is_record n rest ≡ false) number_is isnt)
-      ∙ ap Err (sym (place_is ∙ length-records_from ps 42 first))
+      ap (read (length bytes) gate first) (text ∙ ap (λ (l : List ℕ). records first ps ++ l) here)
+      ∙ read_broken ps (length bytes) gate first rest (omega (arith, length-records ps first, place_is, long, some)) (omega (arith, low, small, length-records ps first, place_is, long, some)) short (subst (λ n. is_record n rest ≡ false) number_is isnt)
+      ∙ ap Err (sym (place_is ∙ length-records_from ps gate first))
 
 pub length-records-push : (ps : List (List ℕ)) (first : ℕ) (p : List ℕ) → length (records first (ps ++ p ∷ [])) ≡ length (records first ps) + (13 + length p)
 length-records-push ps first p =

@@ -46,7 +46,7 @@ has_text f bytes spells =
       generation_greatest = spells.within.generation_greatest;
       first_least = spells.within.first_least;
       first_greatest = spells.within.first_greatest;
-      no_base = spells.within.no_base;
+      base_fits = spells.within.base_fits;
       few = spells.within.few;
       short = each_short f.payloads spells.within.short;
     }
@@ -62,7 +62,7 @@ spells_text f bytes has = record {
     generation_greatest = has.generation_greatest;
     first_least = has.first_least;
     first_greatest = has.first_greatest;
-    no_base = has.no_base;
+    base_fits = has.base_fits;
     few = has.few;
     short = all_short f.payloads has.short;
   };

@@ -36,15 +36,26 @@ number_at place bytes = from_be_bytes w64 (take 8 (drop place bytes))
 abbrev pub is_count : ℕ → Bool
 is_count n = nat_le 1 n && nat_le n max_count
 
--- magic, version, generation, first number, base length
+-- magic, version, generation, first number
 unfoldable pub head_fault : List ℕ → Option ℕ
 head_fault bytes = first_failing (
     (bytes_eq (take 8 (drop 1 bytes)) magic, 1)
     ∷ (slice_index bytes 9 == 1, 9)
     ∷ (is_count (number_at 18 bytes), 18)
     ∷ (is_count (number_at 26 bytes), 26)
-    ∷ (number_at 34 bytes == 0, 42)
     ∷ [])
+
+-- the length of the base, as the head says it
+abbrev pub base_length : List ℕ → ℕ
+base_length bytes = number_at 34 bytes
+
+-- the base
+abbrev pub base_in : List ℕ → List ℕ
+base_in bytes = take (base_length bytes) (drop 42 bytes)
+
+-- the place behind it, where the first gate is
+abbrev pub behind_base : List ℕ → ℕ
+behind_base bytes = 42 + base_length bytes
 
 -- the length that is said behind a gate
 abbrev pub payload_length : List ℕ → ℕ
@@ -71,13 +82,16 @@ read (suc turns) place number (gate ∷ rest) =
     else Err place)
     else Ok []
 
--- the payloads of a file without a base
+-- The payloads behind the base; or the place of damage: a base that is cut off is damaged at its own place.
 unfoldable pub payloads_in : List ℕ → Result (List (List ℕ)) ℕ
-payloads_in bytes = read (length bytes) 42 (number_at 26 bytes) (drop 42 bytes)
+payloads_in bytes =
+    if nat_le (behind_base bytes) (length bytes)
+    then read (length bytes) (behind_base bytes) (number_at 26 bytes) (drop (behind_base bytes) bytes)
+    else Err 42
 
 -- a file with this head and these payloads
 abbrev pub file_with : List ℕ → List (List ℕ) → File
-file_with bytes payloads = record { salt = number_at 10 bytes; generation = number_at 18 bytes; first = number_at 26 bytes; base = []; payloads = payloads }
+file_with bytes payloads = record { salt = number_at 10 bytes; generation = number_at 18 bytes; first = number_at 26 bytes; base = base_in bytes; payloads = payloads }
 
 -- a file of these payloads, or the place of its damage
 abbrev pub whole_or_damaged : List ℕ → Result (List (List ℕ)) ℕ → Framing

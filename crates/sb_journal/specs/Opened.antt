@@ -1,5 +1,5 @@
 -- What two disks stand for, and what an opening says of it.
-use Rattle.std.specs.Prelude.{◌≡◌, ◌⊎◌, ◌≤◌, ◌<◌, ◌+◌, ◌&&◌, ◌==◌, ◌^◌, ℕ, Bool, List, [], ◌∷◌, Some, None, length, drop, nat_lt, slice_index, true, false}
+use Rattle.std.specs.Prelude.{◌≡◌, ◌⊎◌, ◌≤◌, ◌<◌, ◌+◌, ◌&&◌, ◌==◌, ◌^◌, ℕ, Bool, List, [], ◌∷◌, ◌++◌, Some, None, length, drop, nat_lt, slice_index, true, false}
 use Rattle.sb_outside.specs.Held.{Held, at_rest}
 use Rattle.sb_journal.specs.declared.found.Side.{Side}
 use Rattle.sb_journal.specs.declared.found.Side.TheVariants.{A}
@@ -9,14 +9,15 @@ use Rattle.sb_journal.specs.declared.reading.HeadFault.{HeadFault}
 use Rattle.sb_journal.specs.declared.reading.HeadFault.TheVariants.{NoHead, OtherHead, BadHead}
 use Rattle.sb_journal.specs.declared.judge.Judge.{Ghosts}
 use Rattle.sb_journal.specs.declared.judge.Judged.{Judged}
+use Rattle.sb_journal.specs.declared.base.Based.{Based}
 use Rattle.sb_journal.specs.declared.reading.Stand.{Stand}
 use Rattle.sb_journal.specs.declared.reading.Records.{Records}
 use Rattle.sb_journal.specs.declared.reading.Ending.{Ending}
 use Rattle.sb_journal.specs.declared.reading.Reading.{Reading}
 use Rattle.sb_journal.specs.declared.reading.Reading.TheVariants.{NoFile, OtherFile, AFile, BadFile, RefusedFile}
-use Rattle.sb_journal.specs.Judges.{IsRefused}
+use Rattle.sb_journal.specs.Judges.{IsRefused, IsFileRefused, IsVerdict}
 use Rattle.sb_journal.specs.Text.{File, new_file, file_text, first_gate, gate_after, records, with_payloads, IsWithin, Spelled, Spells, HasText}
-use Rattle.sb_journal.specs.Framing.{Framing, Uncreated, Occupied, Whole, Damaged, framing, is_created, new_length, head_fault, number_at}
+use Rattle.sb_journal.specs.Framing.{Framing, Uncreated, Occupied, Whole, Damaged, framing, is_created, new_length, head_fault, number_at, base_length}
 
 -- what an opening finds
 pub data Opened : Type 0 where
@@ -52,75 +53,92 @@ FindsEither file payload a b = FindsNoneOrAll file (payload ∷ []) a b
 abbrev pub found_file : Found → File
 found_file found = record { salt = found.salt; generation = found.generation; first = found.first; base = found.base; payloads = found.payloads.items }
 
--- the file that was judged, with these payloads
-abbrev pub judged_file : {J : Type 0} → Judged J → List (List ℕ) → File
-judged_file j payloads = record { salt = j.salt; generation = j.generation; first = j.first; base = []; payloads = payloads }
+-- the file that was judged, with this base and these payloads
+abbrev pub judged_file : {J : Type 0} → Judged J → List ℕ → List (List ℕ) → File
+judged_file j base payloads = record { salt = j.salt; generation = j.generation; first = j.first; base = base; payloads = payloads }
 
--- The judge has taken all payloads of the file that was found. What was found is said only where the disks are honest.
+-- The judge has taken the base and all payloads of the file that was found. What was found is said only where the disks are honest.
 pub record IsJudged {J : Type 0} (G : Ghosts J) (honest : Type 0) (found : Opened) (j : Judged J) : Type 0 where
+  pub base : List ℕ
   pub payloads : List (List ℕ)
-  pub stands : honest → found ≡ Stands j.disk (judged_file j payloads)
-  pub within : honest → IsWithin (judged_file j payloads)
-  pub taken : G.taken j.judge j.salt payloads
+  pub stands : honest → found ≡ Stands j.disk (judged_file j base payloads)
+  pub within : honest → IsWithin (judged_file j base payloads)
+  pub taken : G.taken j.judge j.salt base payloads
   pub next_is : j.next ≡ j.first + length payloads
   -- the gates of all records lie within the longest file
-  pub gates : gate_after (first_gate (judged_file j payloads)) payloads ≤ 2 ^ 62
+  pub gates : gate_after (first_gate (judged_file j base payloads)) payloads ≤ 2 ^ 62
 
 -- Why the file on this disk can't be trusted from this place on: it can't be read there, or, where it can be read to its end, the judge
--- refuses the payload behind the gate there.
+-- refuses the base, which is there, or the payload behind the gate there.
 abbrev pub IsDamagedFor : {J : Type 0} (G : Ghosts J) → Opened → Side → ℕ → Type 0
-IsDamagedFor G found side place = (found ≡ Damage side place) ⊎ ((file : File) × (found ≡ Stands side file) × IsRefused G file.salt (first_gate file) place file.payloads)
+IsDamagedFor G found side place = (found ≡ Damage side place) ⊎ ((file : File) × (found ≡ Stands side file) × IsFileRefused G place file)
 
 -- whether this place has a closed gate
 abbrev pub is_shut : ℕ → List ℕ → Bool
 is_shut place bytes = nat_lt place (length bytes) && (slice_index bytes place == 0)
 
--- the file that was read, with these payloads
-abbrev pub stand_file : {J : Type 0} → Stand J → List (List ℕ) → File
-stand_file s payloads = record { salt = s.salt; generation = s.generation; first = s.first; base = []; payloads = payloads }
+-- the file that was read, with this base and these payloads
+abbrev pub stand_file : {J : Type 0} → Stand J → List ℕ → List (List ℕ) → File
+stand_file s base payloads = record { salt = s.salt; generation = s.generation; first = s.first; base = base; payloads = payloads }
 
 -- the same file as one that was judged
 abbrev pub judged_of : {J : Type 0} → Stand J → Judged J
 judged_of s = record { disk = A; generation = s.generation; salt = s.salt; first = s.first; next = s.next; judge = s.judge }
 
--- The judge has taken these payloads; where the end gate of their file is, and which number comes next.
-pub record IsStand {J : Type 0} (G : Ghosts J) (s : Stand J) (payloads : List (List ℕ)) : Type 0 where
-  pub taken : G.taken s.judge s.salt payloads
-  pub end_is : s.end ≡ length (file_text (stand_file s payloads))
+-- The judge has taken this base and these payloads; where the end gate of their file is, and which number comes next.
+pub record IsStand {J : Type 0} (G : Ghosts J) (s : Stand J) (base : List ℕ) (payloads : List (List ℕ)) : Type 0 where
+  pub taken : G.taken s.judge s.salt base payloads
+  pub end_is : s.end ≡ length (file_text (stand_file s base payloads))
   pub end_fits : s.end ≤ 2 ^ 62
   pub next_is : s.next ≡ s.first + length payloads
   pub next_fits : s.next ≤ 2 ^ 62 + s.end
 
 -- a file was read to its end: which one, and whether its end gate is closed
-pub record IsWholeStand {J : Type 0} (s : Stand J) (payloads : List (List ℕ)) (bytes : List ℕ) : Type 0 where
-  pub whole : framing bytes ≡ Whole (stand_file s payloads)
-  pub spells : Spells (stand_file s payloads) bytes
+pub record IsWholeStand {J : Type 0} (s : Stand J) (base : List ℕ) (payloads : List (List ℕ)) (bytes : List ℕ) : Type 0 where
+  pub whole : framing bytes ≡ Whole (stand_file s base payloads)
+  pub spells : Spells (stand_file s base payloads) bytes
   pub closed : s.closed ≡ is_shut s.end bytes
 
--- The judge refuses a payload of the file that the bytes stand for, behind the gate at this place.
+-- The judge refuses the file that the bytes stand for, at this place.
 abbrev pub IsRefusedIn : {J : Type 0} (G : Ghosts J) → List ℕ → ℕ → Type 0
-IsRefusedIn G bytes place = (file : File) × (framing bytes ≡ Whole file) × IsRefused G file.salt (first_gate file) place file.payloads
+IsRefusedIn G bytes place = (file : File) × (framing bytes ≡ Whole file) × IsFileRefused G place file
 
 -- What was read is what the bytes stand for. Whatever they are, the judge has taken what was read of a file.
 abbrev pub IsReading : {J : Type 0} (G : Ghosts J) → Type 0 → List ℕ → Reading J → Type 0
 IsReading G honest bytes NoFile = honest → framing bytes ≡ Uncreated
 IsReading G honest bytes OtherFile = honest → framing bytes ≡ Occupied
-IsReading G honest bytes (AFile s) = (payloads : List (List ℕ)) × IsStand G s payloads × (honest → IsWholeStand s payloads bytes)
+IsReading G honest bytes (AFile s) = (base : List ℕ) × (payloads : List (List ℕ)) × IsStand G s base payloads × (honest → IsWholeStand s base payloads bytes)
 IsReading G honest bytes (BadFile place) = honest → framing bytes ≡ Damaged place
 IsReading G honest bytes (RefusedFile place) = honest → IsRefusedIn G bytes place
 
--- The judge has taken the records that stand behind the head of a file of this salt, from this first number on.
-pub record AreRecords {J : Type 0} (G : Ghosts J) (honest : Type 0) (bytes : List ℕ) (salt first : ℕ) (r : Records J) : Type 0 where
+-- This base stands behind the head, up to this place.
+pub record HasBase (bytes : List ℕ) (gate : ℕ) (base : List ℕ) : Type 0 where
+  pub text : drop 42 bytes ≡ base ++ drop gate bytes
+  pub gate_is : gate ≡ 42 + length base
+
+-- The judge was given the base that stands behind the head of a file of this salt, up to this place, and what it said of it.
+pub record IsBased {J : Type 0} (G : Ghosts J) (honest : Type 0) (bytes : List ℕ) (salt gate : ℕ) (b : Based J) : Type 0 where
+  pub base : List ℕ
+  pub verdict : IsVerdict G b.judge b.refused salt base []
+  pub gate_is : b.gate ≡ 42 + length base
+  pub gate_fits : b.gate ≤ 2 ^ 62
+  pub stands : honest → HasBase bytes gate base
+
+-- The judge has taken the base and the records that stand behind the head of a file of this salt, from this first number on; the first
+-- gate is at this place.
+pub record AreRecords {J : Type 0} (G : Ghosts J) (honest : Type 0) (bytes : List ℕ) (salt first gate : ℕ) (r : Records J) : Type 0 where
+  pub base : List ℕ
   pub payloads : List (List ℕ)
-  pub taken : G.taken r.judge salt payloads
-  pub spelled : honest → Spelled first payloads (drop 42 bytes)
-  pub end_is : r.end ≡ 42 + length (records first payloads)
+  pub taken : G.taken r.judge salt base payloads
+  pub stands : honest → HasBase bytes gate base
+  pub spelled : honest → Spelled first payloads (drop gate bytes)
+  pub end_is : r.end ≡ 42 + length base + length (records first payloads)
   pub end_fits : r.end ≤ 2 ^ 62
   pub next_is : r.next ≡ first + length payloads
 
--- Or it refuses one of them, behind the gate at this place.
-abbrev pub HasRefused : {J : Type 0} (G : Ghosts J) → List ℕ → (salt first place : ℕ) → Type 0
-HasRefused G bytes salt first place = (payloads : List (List ℕ)) × Spelled first payloads (drop 42 bytes) × IsRefused G salt 42 place payloads
+-- Or it refuses one of them, at this place.
+abbrev pub HasRefused : {J : Type 0} (G : Ghosts J) → List ℕ → (salt first gate place : ℕ) → Type 0
+HasRefused G bytes salt first gate place = (base : List ℕ) × (payloads : List (List ℕ)) × HasBase bytes gate base × Spelled first payloads (drop gate bytes) × IsRefused G salt place base payloads
 
 -- the head of a file that can be read so far
 pub record IsHead (h : Head) (bytes : List ℕ) : Type 0 where
@@ -130,6 +148,7 @@ pub record IsHead (h : Head) (bytes : List ℕ) : Type 0 where
   pub salt_is : h.salt ≡ number_at 10 bytes
   pub generation_is : h.generation ≡ number_at 18 bytes
   pub first_is : h.first ≡ number_at 26 bytes
+  pub base_is : h.base_length ≡ base_length bytes
   pub first_fits : h.first ≤ 2 ^ 62
 
 -- why there is none

@@ -121,7 +121,7 @@ pub fn create<D: Disk>(
     requires first_greatest { first ≤ 2 ^ 62 }
     ensures honesty { D.honest disk.new ≡ D.honest disk.old }
     ensures ok { IsTrue (D.honest disk.old) → OnOk result (D.held disk.new ≡ at_rest (new_bytes salt generation first base.now)) }
-    ensures reads { IsTrue (D.honest disk.old) → base.now ≡ [] → OnOk result (framing (D.held disk.new).seen ≡ Whole (new_file salt generation first [])) }
+    ensures reads { IsTrue (D.honest disk.old) → OnOk result (framing (D.held disk.new).seen ≡ Whole (new_file salt generation first base.now)) }
 
     // From the first sync on a crash leaves the old bytes, no file, or the whole new one, where the file's gate was open or closed or
     // the bytes were too few for a file.

@@ -7,8 +7,8 @@
 //! with all of them. That is what `add` and `seal` say, and `append` of one record; `open` says that
 //! it reads exactly what the bytes stand for, and names the place of damage where they can't be
 //! read. Who judges the payloads too before anything is written opens in two parts:
-//! `Unopened::read_by`, which has each payload judged by a `Judge` as it is read and keeps none, and
-//! then `finish`. `look_by` says what such an opening would find, and does nothing to the disks. `read`,
+//! `Unopened::read_by`, which has the base and each payload judged by a `Judge` as they are read and
+//! keeps none, and then `finish`. `look_by` says what such an opening would find, and does nothing to the disks. `read`,
 //! `open` and `look` do the same with a judge that takes and keeps all.
 //!
 //! ```text
@@ -22,6 +22,7 @@
 #![tactic(auto)]
 
 mod append;
+mod base;
 mod collecting;
 mod creating;
 mod found;

@@ -1,5 +1,5 @@
 // What an opening would find, with nothing done to the disks.
-ghost use Rattle.std.specs.Prelude.{◌≡◌, ◌≢◌, ◌≤◌, ◌^◌, ℕ, [], IfOk, IfErr, OnOk};
+ghost use Rattle.std.specs.Prelude.{◌≡◌, ◌≢◌, ◌≤◌, ◌^◌, ℕ, IfOk, IfErr, OnOk};
 ghost use Rattle.sb_journal.specs.Text.{IsWithin, first_gate, gate_after};
 ghost use Rattle.sb_journal.specs.Opened.{Stands, Damage, found_file, IsJudged, IsDamagedFor};
 ghost use Rattle.sb_journal.specs.Disks.{disks_of, opened_on, AreHonest, AreStill, AreQuiet, HaveFailed, NoneFell, SameHonesty};
@@ -8,12 +8,12 @@ ghost use Rattle.sb_journal.specs.declared.found.Side.TheVariants.{A};
 
 use crate::opening::look_at;
 use crate::unopened::found_in;
-use crate::{Bytes, Found, Judge, Judged, OpenWhy};
+use crate::{Found, Judge, Judged, OpenWhy};
 use sb_outside::Disk;
 use std::alloc::Global;
 
-/// What an opening of these disks would find, with all payloads of the file that counts judged one after
-/// another: one piece of the file is in memory, and else what the judge keeps. Where disk a has none,
+/// What an opening of these disks would find, with the base and then all payloads of the file that counts
+/// judged one after another: one piece of the file is in memory, and else what the judge keeps. Where disk a has none,
 /// that is the new file of this salt that an opening makes. `Damaged` where an opening says so, with
 /// that judge; `DiskFault` only where a call of a disk failed. The disks are read alone: nothing is
 /// written and nothing made, and what isn't safe yet stays so. Disk b isn't touched.
@@ -41,7 +41,7 @@ pub fn look_by<D: Disk, J: Judge>(
     }
 }
 
-/// What an opening of these disks would find: the file that counts, and the payloads in it, all of them
+/// What an opening of these disks would find: the file that counts, its base and the payloads in it, all
 /// in memory; where disk a has none, the new file of this salt that an opening makes. `Damaged` where an opening says so,
 /// `DiskFault` only where a call of a disk failed. The disks are read alone: nothing is written and
 /// nothing made, and what isn't safe yet stays so. Disk b isn't touched.
@@ -55,7 +55,7 @@ pub fn look<D: Disk>(
     ensures within { IfOk result (λ f. AreHonest (disks_of D.Disk disk_a.old disk_b.old) → IsWithin (found_file f)) }
 
     // The gates of all records lie within the longest file.
-    ensures gates { IfOk result (λ f. ((found_file f).base ≡ []) × (gate_after (first_gate (found_file f)) (found_file f).payloads ≤ 2 ^ 62)) }
+    ensures gates { IfOk result (λ f. gate_after (first_gate (found_file f)) (found_file f).payloads ≤ 2 ^ 62) }
     ensures damaged { IfErr result (λ e. AreHonest (disks_of D.Disk disk_a.old disk_b.old) → (side : Side) (place : ℕ) → e ≡ OpenWhy.Damaged side place
         → opened_on (disks_of D.Disk disk_a.old disk_b.old) salt ≡ Damage side place) }
     ensures still { AreHonest (disks_of D.Disk disk_a.old disk_b.old) → AreStill (disks_of D.Disk disk_a.old disk_b.old) (disks_of D.Disk disk_a.new disk_b.new) }
@@ -66,11 +66,8 @@ pub fn look<D: Disk>(
     ensures honesty { SameHonesty (disks_of D.Disk disk_a.old disk_b.old) (disks_of D.Disk disk_a.new disk_b.new) }
     ensures disk_b { disk_b.new ≡ disk_b.old }
 {
-    let Ok(base) = Bytes::of(alloc, &[]) else {
-        return Err(OpenWhy::OutOfMemory);
-    };
     match look_by(alloc, disk_a, disk_b, salt) {
-        Ok(judged) => Ok(found_in(judged, base)),
+        Ok(judged) => Ok(found_in(judged)),
         Err(why) => Err(why),
     }
 }

@@ -64,6 +64,13 @@ impl Piece {
         })
     }
 
+    // How many bytes the disk has.
+    pub(crate) fn total(&self) -> usize
+        ensures { result ≡ self.now.total }
+    {
+        self.total
+    }
+
     // Goes on, unless all of a record is seen that is at this place.
     pub(crate) fn look_on<D: Disk>(&mut self, disk: &mut D, place: usize) -> Result<(), DiskFault>
         requires { HasPlace self.old place }

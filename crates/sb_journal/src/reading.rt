@@ -1,5 +1,5 @@
 // What the bytes of a disk stand for: they are read a piece at a time, and each record once.
-ghost use Rattle.std.specs.Prelude.{◌≡◌, ◌≢◌, ◌≤◌, ◌+◌, ◌++◌, ◌∷◌, [], ◌^◌, List, ℕ, IsTrue, length, take, drop, slice_index, true, false, Err, IfOk, IfErr, IfSome, IfNone, OnOk};
+ghost use Rattle.std.specs.Prelude.{◌≡◌, ◌≢◌, ◌≤◌, ◌<◌, ◌+◌, ◌++◌, ◌∷◌, [], ◌^◌, List, ℕ, IsTrue, length, take, drop, slice_index, true, false, Err, IfOk, IfErr, IfSome, IfNone, OnOk};
 ghost use Rattle.std.specs.Int.{w32, w64, from_be_bytes};
 ghost use Rattle.std.specs.Str.{bytes_eq};
 ghost use Rattle.sb_outside.specs.Causes.{RoseByOne};
@@ -11,6 +11,7 @@ ghost use Rattle.sb_journal.specs.Pieces.{HasPlace, IsPiece};
 ghost use Rattle.sb_journal.specs.declared.reading.RecordsFault.TheVariants.{Broken, Refused, Unread};
 
 use crate::Judge;
+use crate::base::base_of;
 use crate::piece::{BytesFault, Piece};
 use sb_outside::Disk;
 use std::alloc::{AllocError, Global};
@@ -87,9 +88,6 @@ fn damage_of_head(bytes: &[u8]) -> Option<u64>
     if !is_counted(number_at(bytes, 26)) {
         return Some(26);
     }
-    if number_at(bytes, 34) != 0 {
-        return Some(42);
-    }
     None
 }
 
@@ -99,6 +97,8 @@ pub(crate) struct Head {
     pub(crate) salt: u64,
     pub(crate) generation: u64,
     pub(crate) first: u64,
+    // How many bytes the base has.
+    pub(crate) base_length: u64,
 }
 
 #[derive(Clone, Copy)]
@@ -130,7 +130,20 @@ fn head_of(bytes: &[u8]) -> Result<Head, HeadFault>
         salt: number_at(bytes, 10),
         generation: number_at(bytes, 18),
         first: number_at(bytes, 26),
+        base_length: number_at(bytes, 34),
     })
+}
+
+// The place of the first gate in a file of so many bytes, whose base has this length; none where the base is cut off.
+fn gate_behind(base_length: u64, total: usize) -> Option<usize>
+    requires { 42 ≤ total }
+    ensures some { IfSome result (λ g. (g ≡ 42 + base_length) × (g ≤ total)) }
+    ensures none { IfNone result (total < 42 + base_length) }
+{
+    if base_length > (total - HEAD_BYTES) as u64 {
+        return None;
+    }
+    Some(HEAD_BYTES + base_length as usize)
 }
 
 // Whether an open gate stands there.
@@ -184,9 +197,9 @@ fn judge_one<J: Judge>(
     place: u64,
     payload: &[u8],
 ) -> Result<Option<u64>, AllocError>
-    requires { (salt : ℕ) × (start : ℕ) × (before : List (List ℕ)) × IsVerdict J.Judge judge.old refused salt start before }
-    ensures { (salt start : ℕ) (before : List (List ℕ)) → place ≡ gate_after start before → IsVerdict J.Judge judge.old refused salt start before
-        → IfOk result (λ r. IsVerdict J.Judge judge.new r salt start (before ++ payload.now ∷ [])) }
+    requires { (salt : ℕ) × (base : List ℕ) × (before : List (List ℕ)) × IsVerdict J.Judge judge.old refused salt base before }
+    ensures { (salt : ℕ) (base : List ℕ) (before : List (List ℕ)) → place ≡ gate_after (42 + length base) before → IsVerdict J.Judge judge.old refused salt base before
+        → IfOk result (λ r. IsVerdict J.Judge judge.new r salt base (before ++ payload.now ∷ [])) }
 {
     if let Some(first) = refused {
         return Ok(Some(first));
@@ -198,8 +211,8 @@ fn judge_one<J: Judge>(
     }
 }
 
-// The records of a file, all of whose payloads a judge has taken: the place of its end gate, whether that is
-// closed, and the number that comes next.
+// The records of a file, whose base and all of whose payloads a judge has taken: the place of its end gate,
+// whether that is closed, and the number that comes next.
 #[derive(Drop)]
 pub(crate) struct Records<J> {
     pub(crate) judge: J,
@@ -212,30 +225,34 @@ pub(crate) struct Records<J> {
 pub(crate) enum RecordsFault {
     // The place of the gate of a record that can't be.
     Broken(u64),
-    // All can be, and this is the place of the gate of the first that the judge refuses.
+    // All can be, and this is the place of the base, or of the gate of the first record, that the judge refuses.
     Refused(u64),
     Unread(BytesFault),
 }
 
-// The records behind the head, of which this is the first piece; each payload goes to a judge and is kept by
-// nobody else. A record that can't be is told also behind one that is refused.
+// The records from the first gate on, at this place, behind the base. This is the file's first piece; the base
+// and each payload go to a judge and are kept by nobody else. A record that can't be is told also behind what is
+// refused.
 fn records_of<D: Disk, J: Judge>(
     alloc: Global,
     disk: &mut D,
     piece: Piece,
     salt: u64,
     first: u64,
+    gate: usize,
 ) -> Result<Records<J>, RecordsFault>
     requires first { first ≤ 2 ^ 62 }
+    requires gate { 42 ≤ gate }
+    requires inside { gate ≤ piece.total }
     requires place { HasPlace piece 42 }
     requires piece { IsTrue (D.honest disk.old) → IsPiece piece (D.held disk.old).seen }
     ensures honesty { D.honest disk.new ≡ D.honest disk.old }
-    ensures records { IfOk result (λ r. AreRecords J.Judge (IsTrue (D.honest disk.old)) (D.held disk.old).seen salt first r) }
+    ensures records { IfOk result (λ r. AreRecords J.Judge (IsTrue (D.honest disk.old)) (D.held disk.old).seen salt first gate r) }
     ensures closed { IsTrue (D.honest disk.old) → IfOk result (λ r. r.closed ≡ is_shut r.end (D.held disk.old).seen) }
     ensures broken { IsTrue (D.honest disk.old) → IfErr result (λ e. (place : ℕ) → e ≡ Broken place
-        → read (length (D.held disk.old).seen) 42 first (drop 42 (D.held disk.old).seen) ≡ Err place) }
+        → read (length (D.held disk.old).seen) gate first (drop gate (D.held disk.old).seen) ≡ Err place) }
     ensures refused { IsTrue (D.honest disk.old) → IfErr result (λ e. (place : ℕ) → e ≡ Refused place
-        → HasRefused J.Judge (D.held disk.old).seen salt first place) }
+        → HasRefused J.Judge (D.held disk.old).seen salt first gate place) }
     ensures same { IsTrue (D.honest disk.old) → (D.held disk.new ≡ D.held disk.old) × (D.past disk.new ≡ D.past disk.old) }
     ensures later { D.count disk.old ≤ D.count disk.new }
     ensures passed { OnOk result (D.count disk.new ≡ D.count disk.old) }
@@ -243,9 +260,13 @@ fn records_of<D: Disk, J: Judge>(
     ensures others { IfErr result (λ e. e ≢ Unread BytesFault.Disk → D.count disk.new ≡ D.count disk.old) }
 {
     let mut piece = piece;
-    let mut judge = J::begin(alloc, salt);
-    let mut refused = None;
-    let mut place = HEAD_BYTES;
+    let based = match base_of(alloc, disk, &mut piece, salt, gate) {
+        Ok(based) => based,
+        Err(fault) => return Err(RecordsFault::Unread(fault)),
+    };
+    let mut judge = based.judge;
+    let mut refused = based.refused;
+    let mut place = based.gate;
     let mut number = first;
     let Ok(()) = piece.look_on(disk, place) else {
         return Err(RecordsFault::Unread(BytesFault::Disk));
@@ -276,7 +297,7 @@ fn records_of<D: Disk, J: Judge>(
     })
 }
 
-// A file that can be read, all of whose payloads a judge has taken.
+// A file that can be read, whose base and all of whose payloads a judge has taken.
 #[derive(Drop)]
 pub(crate) struct Stand<J> {
     pub(crate) salt: u64,
@@ -311,7 +332,7 @@ pub(crate) enum Reading<J> {
     AFile(Stand<J>),
     // The place of the damage.
     BadFile(u64),
-    // It can be read, and this is the place of the gate of the first record that the judge refuses.
+    // It can be read, and this is the place of the base, or of the gate of the first record, that the judge refuses.
     RefusedFile(u64),
 }
 
@@ -359,7 +380,10 @@ pub(crate) fn reading_of<D: Disk, J: Judge>(
         Err(HeadFault::OtherHead) => return Ok(Reading::OtherFile),
         Err(HeadFault::BadHead(place)) => return Ok(Reading::BadFile(place)),
     };
-    match records_of(alloc, disk, piece, head.salt, head.first) {
+    let Some(gate) = gate_behind(head.base_length, piece.total()) else {
+        return Ok(Reading::BadFile(HEAD_BYTES as u64));
+    };
+    match records_of(alloc, disk, piece, head.salt, head.first, gate) {
         Ok(records) => Ok(Reading::AFile(stand_of(head, records))),
         Err(RecordsFault::Broken(place)) => Ok(Reading::BadFile(place)),
         Err(RecordsFault::Refused(place)) => Ok(Reading::RefusedFile(place)),

@@ -1,12 +1,13 @@
 -- Payloads one after another, with the places of their gates.
-use Rattle.std.proofs.Common.{◌≡◌, ℕ, ◌+◌, List, [], ◌∷◌, ◌++◌, length, Bool, true, false, Option, Some, None, Result, Ok, Err, ◌∙◌, ap}
+use Rattle.std.proofs.Common.{◌≡◌, ℕ, ◌+◌, List, [], ◌∷◌, ◌++◌, length, Bool, true, false, Option, Some, None, Result, Ok, Err, sym, ◌∙◌, ap, arith}
 use Rattle.std.specs.Bool.{MatchBool}
-use Rattle.std.specs.Prelude.{IfOk}
+use Rattle.std.specs.Prelude.{◌==◌, IfOk}
+use Rattle.std.proofs.lemmas.Bool.Decides.{nat_tests}
 use Rattle.sb_journal.specs.Text.{gate_after}
 use Rattle.sb_codec.specs.EventBytes.{read_event}
 use Rattle.sb_machine.specs.Namespace.{empty_state}
 use Rattle.sb_machine.specs.declared.state.State.{State}
-use Rattle.sb_node.specs.Recovery.{next_state, replay, reaches, breaks, Replayed, IsReplayed, BreaksReplay}
+use Rattle.sb_node.specs.Recovery.{base_state, next_state, replay, replay_from, reaches, breaks, Replayed, IsReplayed, BreaksReplay}
 
 -- the first of these payloads is none that is carried out
 pub one_refused : (p : List ℕ) (ps : List (List ℕ)) (s : State) (gate : ℕ) → next_state s (read_event p) ≡ None → replay s gate (p ∷ ps) ≡ breaks gate
@@ -38,9 +39,31 @@ replay-append s next place (p ∷ ps) qs leads =
     by_next None on e = absurd cc
     by_next (Some x) on e = on x e
 
+-- ---- behind a base
+
+pub replay_from-push : (o : Option State) (next after : State) (place : ℕ) (ps : List (List ℕ)) (p : List ℕ) → replay_from o place ps ≡ reaches next → next_state next (read_event p) ≡ Some after → replay_from o place (ps ++ p ∷ []) ≡ reaches after
+replay_from-push None next after place ps p leads taken = absurd cc
+replay_from-push (Some s) next after place ps p leads taken = replay-push s next after place ps p leads taken
+
+pub replay_from-append : (o : Option State) (next : State) (place : ℕ) (ps qs : List (List ℕ)) → replay_from o place ps ≡ reaches next → replay_from o place (ps ++ qs) ≡ replay next (gate_after place ps) qs
+replay_from-append None next place ps qs leads = absurd cc
+replay_from-append (Some s) next place ps qs leads = replay-append s next place ps qs leads
+
 -- a payload that was carried out behind others, or wasn't
-pub taken_on : {E : Type 0} (s after : State) (salt : ℕ) (before : List (List ℕ)) (p : List ℕ) (r : Result Bool E) → IsReplayed s salt before → IfOk r (λ b. MatchBool b (next_state s (read_event p) ≡ Some after) (next_state s (read_event p) ≡ None))
-    → IfOk r (λ b. MatchBool b (IsReplayed after salt (before ++ p ∷ [])) (BreaksReplay salt before p))
-taken_on s after salt before p (Ok true) leads next = λ place. replay-push (empty_state salt) s after place before p (leads place) next
-taken_on s after salt before p (Ok false) leads next = λ place behind. replay-append (empty_state salt) s place before (p ∷ behind) (leads place) ∙ one_refused p behind s (gate_after place before) next
-taken_on s after salt before p (Err e) leads next = tt
+pub taken_on : {E : Type 0} (s after : State) (salt : ℕ) (base : List ℕ) (before : List (List ℕ)) (p : List ℕ) (r : Result Bool E) → IsReplayed s salt base before
+    → IfOk r (λ b. MatchBool b (next_state s (read_event p) ≡ Some after) (next_state s (read_event p) ≡ None)) → IfOk r (λ b. MatchBool b (IsReplayed after salt base (before ++ p ∷ [])) (BreaksReplay salt base before p))
+taken_on s after salt base before p (Ok true) leads next = λ place. replay_from-push (base_state salt base) s after place before p (leads place) next
+taken_on s after salt base before p (Ok false) leads next = λ place behind. replay_from-append (base_state salt base) s place before (p ∷ behind) (leads place) ∙ one_refused p behind s (gate_after place before) next
+taken_on s after salt base before p (Err e) leads next = tt
+
+-- no byte of a base is given, or it is refused whatever stands behind it
+pub given_on : (s : State) (salt : ℕ) (base piece : List ℕ) (none : Bool) → none ≡ (length piece == 0) → (s ≡ empty_state salt) × (base ≡ [])
+    → MatchBool none ((s ≡ empty_state salt) × (base ++ piece ≡ [])) ((rest : List ℕ) → base_state salt ((base ++ piece) ++ rest) ≡ None)
+given_on s salt base [] true e is = (is.0, ap (λ (l : List ℕ). l ++ []) is.1)
+given_on s salt base [] false e is = absurd cc
+given_on s salt base (byte ∷ bytes) true e is = absurd (let none : length (byte ∷ bytes) ≡ 0 = grind (arith, nat_tests, e) in omega (arith, none))
+given_on s salt base (byte ∷ bytes) false e is = λ rest. ap (λ (l : List ℕ). base_state salt ((l ++ byte ∷ bytes) ++ rest)) is.1
+
+-- where there is none, a file begins with an empty namespace
+pub begins_empty : (s : State) (salt : ℕ) (base : List ℕ) → s ≡ empty_state salt → base ≡ [] → IsReplayed s salt base []
+begins_empty s salt base same none = λ place. ap (λ (l : List ℕ). replay_from (base_state salt l) place []) none ∙ ap reaches (sym same)

@@ -9,7 +9,7 @@ use Rattle.sb_machine.specs.Namespace.{empty_state}
 use Rattle.sb_machine.specs.declared.call.Event.{Event}
 use Rattle.sb_machine.specs.declared.call.Event.TheVariants.{Tick, Called}
 use Rattle.sb_machine.specs.declared.state.State.{State}
-use Rattle.sb_node.specs.Recovery.{next_state, replay, reaches, breaks, Replayed, recovered, recovered_from, reached, recovers, Recovers}
+use Rattle.sb_node.specs.Recovery.{base_state, next_state, replay, replay_from, replay_file, reaches, breaks, Replayed, recovered, recovered_from, reached, recovers, Recovers}
 use Rattle.sb_laws.proofs.StaysWhole.{stays_consistent, ticks_consistent}
 use Rattle.sb_node.proofs.Order.{IsEventInOrder, read_in_order}
 use Rattle.sb_node.proofs.Taking.{tick_says, call_says}
@@ -70,15 +70,16 @@ reached_consistent : (side : Side) (file : File) (r : Replayed) (s : State) (las
 reached_consistent side file (breaks place) s last on e = absurd cc
 reached_consistent side file (reaches x) s last on e = let same : x ≡ s = cc in subst IsConsistent same (on x refl)
 
--- carried out from an empty namespace on
-pub events_consistent : (salt : ℕ) (place : ℕ) (ps : List (List ℕ)) (s : State) → replay (empty_state salt) place ps ≡ reaches s → IsConsistent s
-events_consistent salt place ps s leads = replay_consistent (empty_state salt) s place ps (starts salt) leads
+-- carried out behind a base
+pub events_consistent : (salt : ℕ) (base : List ℕ) (place : ℕ) (ps : List (List ℕ)) (s : State) → replay_from (base_state salt base) place ps ≡ reaches s → IsConsistent s
+events_consistent salt [] place ps s leads = replay_consistent (empty_state salt) s place ps (starts salt) leads
+events_consistent salt (byte ∷ bytes) place ps s leads = absurd cc
 
 opened_consistent : (o : Opened) (s : State) (last : ℕ) → recovered_from o ≡ recovers s last → IsConsistent s
 opened_consistent (Damage side place) s last e = absurd cc
 opened_consistent (Stands side file) s last e =
-    reached_consistent side file (replay (empty_state file.salt) (first_gate file) file.payloads) s last
-    (λ x leads. events_consistent file.salt (first_gate file) file.payloads x leads) e
+    reached_consistent side file (replay_file file) s last
+    (λ x leads. events_consistent file.salt file.base (first_gate file) file.payloads x leads) e
 
 pub recovers_consistent : (a b : List ℕ) (salt : ℕ) (s : State) → Recovers (recovered a b salt) s → IsConsistent s
 recovers_consistent a b salt s r = opened_consistent (opened a b salt) s r.0 r.1

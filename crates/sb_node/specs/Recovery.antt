@@ -1,4 +1,4 @@
--- What a journal stands for: the state that its events lead to, or where it is damaged.
+-- What a journal stands for: the state that its base and its events lead to, or where it is damaged.
 use Rattle.std.specs.Prelude.{◌≡◌, ℕ, ◌+◌, ◌-◌, ◌&&◌, not, Bool, List, [], ◌∷◌, ◌++◌, length, nat_le, if◌then◌else◌, Option, Some, None}
 use Rattle.sb_machine.specs.Answers.{state_of, is_change, max_moment}
 use Rattle.sb_machine.specs.Due.{is_due}
@@ -36,7 +36,7 @@ next_state s (Some (Called t call)) = if is_next_call s t call then Some (state_
 -- where payloads lead
 pub data Replayed : Type 0 where
   reaches : State → Replayed
-  -- the place of the gate of the first that is no changing event
+  -- the place of the gate of the first that is no changing event, or of a base that stands for no state
   breaks : ℕ → Replayed
 
 -- the payloads behind the gate at this place, each the next event
@@ -44,13 +44,28 @@ abbrev pub replay : State → ℕ → List (List ℕ) → Replayed
 replay s place [] = reaches s
 replay s place (p ∷ ps) = elim (next_state s (read_event p)) [ Some next ↦ replay next (next_gate place p) ps | None ↦ breaks place ]
 
--- these payloads lead from an empty namespace of this salt to this state, wherever the first one's gate is
-abbrev pub IsReplayed : State → (salt : ℕ) → List (List ℕ) → Type 0
-IsReplayed s salt payloads = (place : ℕ) → replay (empty_state salt) place payloads ≡ reaches s
+-- The state for which a base stands in a file of this salt, and with which its events begin: no base stands for an empty namespace, and
+-- none is written yet for another.
+abbrev pub base_state : (salt : ℕ) → List ℕ → Option State
+base_state salt [] = Some (empty_state salt)
+base_state salt (byte ∷ bytes) = None
+
+-- the payloads behind the gate at this place, from the state of a base on; where it stands for none, its place is damaged
+abbrev pub replay_from : Option State → ℕ → List (List ℕ) → Replayed
+replay_from None place payloads = breaks 42
+replay_from (Some s) place payloads = replay s place payloads
+
+-- all payloads of a file, behind its base
+abbrev pub replay_file : File → Replayed
+replay_file file = replay_from (base_state file.salt file.base) (first_gate file) file.payloads
+
+-- in a file of this salt and base these payloads lead to this state, wherever the first one's gate is
+abbrev pub IsReplayed : State → (salt : ℕ) → List ℕ → List (List ℕ) → Type 0
+IsReplayed s salt base payloads = (place : ℕ) → replay_from (base_state salt base) place payloads ≡ reaches s
 
 -- the first that is no changing event is the one behind these, whatever stands behind it
-abbrev pub BreaksReplay : (salt : ℕ) → List (List ℕ) → List ℕ → Type 0
-BreaksReplay salt before payload = (place : ℕ) (behind : List (List ℕ)) → replay (empty_state salt) place (before ++ payload ∷ behind) ≡ breaks (gate_after place before)
+abbrev pub BreaksReplay : (salt : ℕ) → List ℕ → List (List ℕ) → List ℕ → Type 0
+BreaksReplay salt base before payload = (place : ℕ) (behind : List (List ℕ)) → replay_from (base_state salt base) place (before ++ payload ∷ behind) ≡ breaks (gate_after place before)
 
 -- what an opening recovers
 pub data Recovered : Type 0 where
@@ -59,14 +74,14 @@ pub data Recovered : Type 0 where
   -- this disk can't be trusted from this place on
   damaged : Side → ℕ → Recovered
 
--- a file whose payloads are all events in order leads to a state; otherwise it is damaged
+-- a file whose base stands for a state, and whose payloads are all events in order, leads to a state; otherwise it is damaged
 abbrev pub reached : Side → File → Replayed → Recovered
 reached side file (reaches s) = recovers s (file.first - 1 + length file.payloads)
 reached side file (breaks place) = damaged side place
 
 -- what is recovered from what was found
 abbrev pub recovered_from : Opened → Recovered
-recovered_from (Stands side file) = reached side file (replay (empty_state file.salt) (first_gate file) file.payloads)
+recovered_from (Stands side file) = reached side file (replay_file file)
 recovered_from (Damage side place) = damaged side place
 
 -- what two disks stand for; the salt is a new namespace's

@@ -34,6 +34,7 @@ pub fn worked_journal()
     ensures generation { (recovered (with_byte 25 0) [] 0 ≡ damaged A 18) × (recovered (with_byte 18 0x40) [] 0 ≡ damaged A 18) }
     ensures first { (recovered (with_byte 33 0) [] 0 ≡ damaged A 26) × (recovered (with_byte 26 0x40) [] 0 ≡ damaged A 26) }
     ensures base { recovered (with_byte 41 1) [] 0 ≡ damaged A 42 }
+    ensures base_cut { recovered (with_byte 40 1) [] 0 ≡ damaged A 42 }
     ensures cut { (recovered (take 85 worked_file) [] 0 ≡ damaged A 42) × (recovered (take 43 worked_file) [] 0 ≡ damaged A 42) }
     ensures too_long { recovered (with_byte 44 0x11) [] 0 ≡ damaged A 42 }
     ensures number { recovered (with_byte 54 2) [] 0 ≡ damaged A 42 }

@@ -1,12 +1,13 @@
 // Carrying out again what a journal says.
 ghost use Rattle.std.specs.Bool.{MatchBool};
-ghost use Rattle.std.specs.Prelude.{◌≡◌, ◌≢◌, false, Some, None, IfOk, OnOk};
+ghost use Rattle.std.specs.Prelude.{◌≡◌, ◌≢◌, [], false, Some, None, IfOk, OnOk};
 ghost use Rattle.sb_codec.specs.EventBytes.{read_event};
 ghost use Rattle.sb_engine.specs.Engines.{engine_state, carried_out, IsSound};
 ghost use Rattle.sb_laws.specs.Sweepable.{IsSweepable};
+ghost use Rattle.sb_machine.specs.Namespace.{empty_state};
 ghost use Rattle.sb_machine.specs.declared.call.Event.TheVariants.{Tick, Called};
 ghost use Rattle.sb_machine.specs.declared.reply.Refusal.TheVariants.{OutOfMemory};
-ghost use Rattle.sb_node.specs.Recovery.{next_state, IsReplayed, BreaksReplay};
+ghost use Rattle.sb_node.specs.Recovery.{base_state, next_state, IsReplayed, BreaksReplay};
 
 use sb_codec::decode_event;
 use sb_engine::{Engine, Plan};
@@ -112,21 +113,34 @@ fn take_payload(alloc: Global, engine: &mut Engine, payload: &[u8]) -> Result<bo
 }
 
 /// An engine that carries out what a journal says while it is read, and lets each payload go then. It takes
-/// the events that change its state, in order.
+/// no base yet, and the events that change its state, in order.
 #[derive(Drop)]
 pub(crate) struct Replaying {
     pub(crate) engine: Engine,
 }
 
 impl Judge for Replaying {
-    ghost taken = { λ r salt payloads. IsReplayed (engine_state r.engine) salt payloads };
+    ghost given = { λ r salt base. (engine_state r.engine ≡ empty_state salt) × (base ≡ []) };
 
-    ghost refuses = { λ salt before payload. BreaksReplay salt before payload };
+    ghost taken = { λ r salt base payloads. IsReplayed (engine_state r.engine) salt base payloads };
+
+    ghost refuses_base = { λ salt base. base_state salt base ≡ None };
+
+    ghost refuses = { λ salt base before payload. BreaksReplay salt base before payload };
 
     fn begin(alloc: Global, salt: u64) -> Self {
         Replaying {
             engine: Engine::new(alloc, salt),
         }
+    }
+
+    // None is read yet but the empty one.
+    fn take_base(&mut self, _alloc: Global, piece: &[u8]) -> Result<bool, AllocError> {
+        Ok(piece.is_empty())
+    }
+
+    fn end_base(&mut self, _alloc: Global) -> Result<bool, AllocError> {
+        Ok(true)
     }
 
     fn take(&mut self, alloc: Global, payload: &[u8]) -> Result<bool, AllocError> {

@@ -19,7 +19,7 @@ returns-in-Ok-AFile-clause-ok g c =
     let honest = IsTrue (g.D.Disk.honest c.args.disk.now) in
     let s = c.in-Ok-AFile.stand in
     let found = subst (λ r. IsReading g.J.Judge honest bytes r) c.in-Ok-AFile.field-0-is c.in-Ok-AFile.ensures.reading in
-    subst (λ j. IsJudged g.J.Judge honest (opened_alone c.args.salt (framing bytes)) j) (sym c.seen_as-in-Ok-AFile.ensures.judged) (judging.judged_stand g.J.Judge honest bytes c.args.salt s found.0 found.1 found.2)
+    subst (λ j. IsJudged g.J.Judge honest (opened_alone c.args.salt (framing bytes)) j) (sym c.seen_as-in-Ok-AFile.ensures.judged) (judging.judged_stand g.J.Judge honest bytes c.args.salt s found.0 found.1 found.2 found.3)
 
 pub returns-in-Ok-NoFile-clause-read : goal.returns-in-Ok-NoFile-clause-read
 returns-in-Ok-NoFile-clause-read g c honest =
@@ -32,4 +32,4 @@ returns-in-Ok-AFile-clause-read g c honest =
     let s = c.in-Ok-AFile.stand in
     let found = subst (λ r. IsReading g.J.Judge (IsTrue (g.D.Disk.honest c.args.disk.now)) (g.D.Disk.held c.args.disk.now).seen r) c.in-Ok-AFile.field-0-is c.in-Ok-AFile.ensures.reading in
     let e = c.seen_as-in-Ok-AFile.ensures in
-    read_stand g.J.Judge _ s found.0 c.seen_as-in-Ok-AFile.result.ending (found.2 honest) found.1 e.made e.closed e.end e.next
+    read_stand g.J.Judge _ s found.0 found.1 c.seen_as-in-Ok-AFile.result.ending (found.3 honest) found.2 e.made e.closed e.end e.next

@@ -21,7 +21,8 @@ returns-in_default-record_behind-clause-broken g c honest place is =
     let small : length bytes ≤ 2 ^ 62 = omega (arith, (c.records.invariant.piece honest).0.total_is, c.records.piece.small) in
     let same_place : c.records.place ≡ place = cc in
     let so = c.records.invariant.so_far in
-    scan.breaks c.args.first c.records.place c.records.number so.payloads bytes (so.text honest) so.place_is so.number_is broken.0 c.requires.first small so.short broken.1 broken.2
+    let place_is = judging.place_by g.J.Judge _ bytes c.args.salt c.args.first c.args.gate c.records.place c.records.number c.records.judge c.records.refused so honest in
+    scan.breaks c.args.gate c.args.first c.records.place c.records.number so.payloads bytes (so.text honest) place_is so.number_is broken.0 c.requires.first small so.short broken.1 broken.2
     ∙ ap Err same_place
 
 pub records-preserved : goal.records-preserved
@@ -40,24 +41,24 @@ records-preserved g c =
     let Onward : List ℕ → Type 0 = λ s. IsPiece c.records.piece s → IsPiece c.look_on-in-records.new.self s × BeginsWith (seen_from next c.look_on-in-records.new.self) (drop next s) in
     record {
       honesty = c.look_on-in-records.ensures.honesty ∙ c.records.invariant.honesty;
-      so_far = judging.one_more g.J.Judge _ bytes c.args.salt c.args.first c.records.place c.records.number c.records.judge c.records.refused so next (c.records.number + 1) _ _ p refl refl c.in-Some.ensures.short (λ honest.
+      so_far = judging.one_more g.J.Judge _ bytes c.args.salt c.args.first c.args.gate c.records.place c.records.number c.records.judge c.records.refused so next (c.records.number + 1) _ _ p refl refl c.in-Some.ensures.short (λ honest.
           let starts : BeginsWith part there = subst (λ (l : List ℕ). BeginsWith l there) (sym c.rest.ensures) (c.records.invariant.piece honest).1 in
           scan.record_at part there starts c.records.number p opened.0 opened.1 found.0 are found.1)
-          (c.in-Ok-judge_one.ensures c.args.salt 42 so.payloads (judging.at_gate g.J.Judge _ bytes c.args.salt c.args.first c.records.place c.records.number c.records.judge c.records.refused so) so.verdict);
+          (c.in-Ok-judge_one.ensures c.args.salt so.base so.payloads (judging.at_gate g.J.Judge _ bytes c.args.salt c.args.first c.args.gate c.records.place c.records.number c.records.judge c.records.refused so) so.verdict);
       piece = λ honest.
           let seen : (g.D.Disk.held c.records.disk).seen ≡ bytes = ap (λ h. h.seen) (c.records.invariant.same honest).0 in
-          subst Onward seen (c.in-Ok-look_on.ensures.piece (subst IsTrue (sym c.records.invariant.honesty) honest)) (c.records.invariant.piece honest).0;
-      place = c.in-Ok-look_on.ensures.place;
+          subst Onward seen (c.in-Ok-look_on-2.ensures.piece (subst IsTrue (sym c.records.invariant.honesty) honest)) (c.records.invariant.piece honest).0;
+      place = c.in-Ok-look_on-2.ensures.place;
       few = omega (arith, c.records.invariant.few);
       same = λ honest.
           let still = c.look_on-in-records.ensures.same (subst IsTrue (sym c.records.invariant.honesty) honest) in
           let was = c.records.invariant.same honest in
           (still.0 ∙ was.0, still.1 ∙ was.1);
-      count = c.in-Ok-look_on.ensures.cause.passed ∙ c.records.invariant.count;
+      count = c.in-Ok-look_on-2.ensures.cause.passed ∙ c.records.invariant.count;
     }
 
 pub judge_one-requires : goal.judge_one-requires
-judge_one-requires g c = let so = c.records.invariant.so_far in (c.args.salt, 42, so.payloads, so.verdict)
+judge_one-requires g c = let so = c.records.invariant.so_far in (c.args.salt, so.base, so.payloads, so.verdict)
 
 pub returns-in-Some-refused-clause-refused : goal.returns-in-Some-refused-clause-refused
 returns-in-Some-refused-clause-refused g c honest place is =
@@ -67,7 +68,7 @@ returns-in-Some-refused-clause-refused g c honest place is =
     let starts : BeginsWith part there = subst (λ (l : List ℕ). BeginsWith l there) (sym c.rest.ensures) (c.records.invariant.piece honest).1 in
     let so = c.records.invariant.so_far in
     let same : c.in-Some-refused.place ≡ place = cc in
-    judging.has_refused g.J.Judge _ bytes c.args.salt c.args.first c.records.place c.records.number c.records.judge c.records.refused so place (c.in-Some-refused.is ∙ ap Some same) honest (scan.ends_at part there starts (c.is_open.ensures.not c.records-test.false))
+    judging.has_refused g.J.Judge _ bytes c.args.salt c.args.first c.args.gate c.records.place c.records.number c.records.judge c.records.refused so place (c.in-Some-refused.is ∙ ap Some same) honest (scan.ends_at part there starts (c.is_open.ensures.not c.records-test.false))
 
 pub returns-clause-records : goal.returns-clause-records
 returns-clause-records g c =
@@ -75,6 +76,14 @@ returns-clause-records g c =
     let there = drop c.records.place bytes in
     let part = c.rest.result.now in
     let fits : c.records.place ≤ 2 ^ 62 = omega (arith, c.records.invariant.place.greatest, c.records.piece.inside, c.records.piece.small) in
-    judging.all_taken g.J.Judge (IsTrue (g.D.Disk.honest c.args.disk.now)) bytes c.args.salt c.args.first c.records.place c.records.number c.records.judge c.records.refused c.records.invariant.so_far (record { judge = c.records.judge; end = c.records.place; closed = c.is_closed-closed.result; next = c.records.number }) (judging.none_given c.records.refused c.in_default-refused.not-Some) (λ honest.
+    judging.all_taken g.J.Judge (IsTrue (g.D.Disk.honest c.args.disk.now)) bytes c.args.salt c.args.first c.args.gate c.records.place c.records.number c.records.judge c.records.refused c.records.invariant.so_far (record { judge = c.records.judge; end = c.records.place; closed = c.is_closed-closed.result; next = c.records.number }) (judging.none_given c.records.refused c.in_default-refused.not-Some) (λ honest.
     let starts : BeginsWith part there = subst (λ (l : List ℕ). BeginsWith l there) (sym c.rest.ensures) (c.records.invariant.piece honest).1 in
     scan.ends_at part there starts (c.is_open.ensures.not c.records-test.false)) refl refl refl fits
+
+pub returns-clause-closed : goal.returns-clause-closed
+returns-clause-closed g c honest =
+    let bytes = (g.D.Disk.held c.args.disk.now).seen in
+    let there = drop c.records.place bytes in
+    let part = c.rest-2.result.now in
+    let starts : BeginsWith part there = subst (λ (l : List ℕ). BeginsWith l there) (sym c.rest-2.ensures) (c.records.invariant.piece honest).1 in
+    c.is_closed-closed.ensures ∙ scan.shut_by part bytes c.records.place starts

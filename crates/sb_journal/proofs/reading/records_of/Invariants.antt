@@ -8,7 +8,7 @@ use Rattle.sb_journal.proofs.reading.records_of.Given as goal
 abbrev pub invariant-records : goal.invariant-records
 invariant-records g l = record {
   honesty : g.D.Disk.honest l.disk ≡ g.D.Disk.honest l.fn.disk;
-  so_far : IsSoFar g.J.Judge (IsTrue (g.D.Disk.honest l.fn.disk)) (g.D.Disk.held l.fn.disk).seen l.salt l.first l.place l.number l.judge l.refused;
+  so_far : IsSoFar g.J.Judge (IsTrue (g.D.Disk.honest l.fn.disk)) (g.D.Disk.held l.fn.disk).seen l.salt l.first l.gate l.place l.number l.judge l.refused;
   piece : IsTrue (g.D.Disk.honest l.fn.disk) → IsPiece l.piece (g.D.Disk.held l.fn.disk).seen × BeginsWith (seen_from l.place l.piece) (drop l.place (g.D.Disk.held l.fn.disk).seen);
   place : HasPlace l.piece l.place;
   few : l.number ≤ l.first + l.place;

@@ -51,6 +51,10 @@ pub returns-clause-base : goal.returns-clause-base
 unfolding framing head_fault is_record payloads_in
 returns-clause-base c = refl
 
+pub returns-clause-base_cut : goal.returns-clause-base_cut
+unfolding framing head_fault is_record payloads_in
+returns-clause-base_cut c = refl
+
 pub returns-clause-cut : goal.returns-clause-cut
 unfolding framing head_fault is_record payloads_in
 returns-clause-cut c = (refl, refl)

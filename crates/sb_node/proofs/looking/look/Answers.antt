@@ -11,7 +11,7 @@ returns-clause-seen g c =
     let j = c.in-Ok.judged in
     let is = c.in-Ok.ensures.ok in
     let s = engine_state c.reached_by-reached.result.engine in
-    let leads : IsReplayed s j.salt is.payloads = λ place. is.taken place ∙ ap (λ e. reaches (engine_state e)) (sym c.reached_by-reached.ensures.engine) in
+    let leads : IsReplayed s j.salt is.base is.payloads = λ place. is.taken place ∙ ap (λ e. reaches (engine_state e)) (sym c.reached_by-reached.ensures.engine) in
     record {
       start = s;
       last = c.reached_by-reached.result.last;
@@ -23,7 +23,7 @@ returns-clause-seen g c =
 pub returns-in-Err-clause-broken : goal.returns-in-Err-clause-broken
 returns-in-Err-clause-broken g c honest side place is =
     let was = disks_of g.D.Disk c.args.disk_a.now c.args.disk_b.now in
-    judged_damaged _ (opened_on was c.args.salt) side place (c.in-Err.ensures.damaged honest side place is) (λ salt before p refused. refused)
+    judged_damaged _ (opened_on was c.args.salt) side place (c.in-Err.ensures.damaged honest side place is) (λ salt base refused. refused) (λ salt base before p refused. refused)
 
 pub numbers_of-numbers-requires : goal.numbers_of-numbers-requires
 numbers_of-numbers-requires g c =
@@ -31,5 +31,5 @@ numbers_of-numbers-requires g c =
     let j = c.in-Ok.judged in
     let is = c.in-Ok.ensures.ok in
     let s = engine_state c.reached_by-reached.result.engine in
-    let leads : IsReplayed s j.salt is.payloads = λ place. is.taken place ∙ ap (λ e. reaches (engine_state e)) (sym c.reached_by-reached.ensures.engine) in
+    let leads : IsReplayed s j.salt is.base is.payloads = λ place. is.taken place ∙ ap (λ e. reaches (engine_state e)) (sym c.reached_by-reached.ensures.engine) in
     ∣ judged_consistent _ _ (opened_on was c.args.salt) j is s leads ∣₁

@@ -6,7 +6,10 @@ returns-in-Err-clause-damaged g c honest side place is =
     let damaged = c.in-Err.ensures.damaged honest side place is in (
       elim damaged.0 [
         | inl framed ↦ framed
-        | inr refused ↦ absurd refused.2.refused
+        | inr refused ↦ elim refused.2 [
+          | inl base ↦ absurd base.1
+          | inr payload ↦ absurd payload.refused
+        ]
       ],
       damaged.1,
     )

@@ -18,7 +18,7 @@ returns-in-Ok-finish-clause-found g c honest =
     let j = c.in-Ok.read.1 in
     let is = c.in-Ok.ensures.ok in
     let s = engine_state c.reached_by-engine.result.engine in
-    let leads : IsReplayed s j.salt is.payloads = λ place. is.taken place ∙ ap (λ e. reaches (engine_state e)) (sym c.reached_by-engine.ensures.engine) in
+    let leads : IsReplayed s j.salt is.base is.payloads = λ place. is.taken place ∙ ap (λ e. reaches (engine_state e)) (sym c.reached_by-engine.ensures.engine) in
     (c.reached_by-engine.result.last, judged_recovers _ _ (opened_on was c.args.salt) j is s leads c.reached_by-engine.result.last c.reached_by-engine.ensures.last honest)
 
 pub returns-in-Ok-finish-clause-consistent : goal.returns-in-Ok-finish-clause-consistent
@@ -27,7 +27,7 @@ returns-in-Ok-finish-clause-consistent g c =
     let j = c.in-Ok.read.1 in
     let is = c.in-Ok.ensures.ok in
     let s = engine_state c.reached_by-engine.result.engine in
-    let leads : IsReplayed s j.salt is.payloads = λ place. is.taken place ∙ ap (λ e. reaches (engine_state e)) (sym c.reached_by-engine.ensures.engine) in
+    let leads : IsReplayed s j.salt is.base is.payloads = λ place. is.taken place ∙ ap (λ e. reaches (engine_state e)) (sym c.reached_by-engine.ensures.engine) in
     judged_consistent _ _ (opened_on was c.args.salt) j is s leads
 
 pub returns-in-Ok-finish-clause-kept : goal.returns-in-Ok-finish-clause-kept
@@ -35,9 +35,9 @@ returns-in-Ok-finish-clause-kept g c honest =
     let was = disks_of g.D.Disk c.args.disk_a c.args.disk_b in
     let j = c.in-Ok.read.1 in
     let is = c.in-Ok.ensures.ok in
-    let file = judged_file j is.payloads in
+    let file = judged_file j is.base is.payloads in
     let s = engine_state c.reached_by-engine.result.engine in
-    let leads : IsReplayed s j.salt is.payloads = λ place. is.taken place ∙ ap (λ e. reaches (engine_state e)) (sym c.reached_by-engine.ensures.engine) in
+    let leads : IsReplayed s j.salt is.base is.payloads = λ place. is.taken place ∙ ap (λ e. reaches (engine_state e)) (sym c.reached_by-engine.ensures.engine) in
     let honest_1 = still_honest was (unopened_disks c.in-Ok.read.0) c.in-Ok.ensures.honesty honest in
     let holds = c.in-Ok-finish.ensures.ok j.disk file honest_1 (c.in-Ok.ensures.stands honest ∙ is.stands honest) in
     record {
@@ -87,7 +87,7 @@ returns-in_default-clause-any_moment g c honest =
 pub returns-in-Err-clause-broken : goal.returns-in-Err-clause-broken
 returns-in-Err-clause-broken g c honest side place is =
     let was = disks_of g.D.Disk c.args.disk_a c.args.disk_b in
-    judged_damaged _ (opened_on was c.args.salt) side place (c.in-Err.ensures.damaged honest side place is).0 (λ salt before p refused. refused)
+    judged_damaged _ (opened_on was c.args.salt) side place (c.in-Err.ensures.damaged honest side place is).0 (λ salt base refused. refused) (λ salt base before p refused. refused)
 
 pub invariant_of-result : goal.invariant_of-result
 invariant_of-result g c =
@@ -95,7 +95,7 @@ invariant_of-result g c =
     let j = c.in-Ok.read.1 in
     let is = c.in-Ok.ensures.ok in
     let s = engine_state c.reached_by-engine.result.engine in
-    let leads : IsReplayed s j.salt is.payloads = λ place. is.taken place ∙ ap (λ e. reaches (engine_state e)) (sym c.reached_by-engine.ensures.engine) in
+    let leads : IsReplayed s j.salt is.base is.payloads = λ place. is.taken place ∙ ap (λ e. reaches (engine_state e)) (sym c.reached_by-engine.ensures.engine) in
     record {
       buffer_fits = c.in-Ok-with_capacity.ensures.capacity;
       runs = λ none. c.in-Ok-finish.ensures.running;

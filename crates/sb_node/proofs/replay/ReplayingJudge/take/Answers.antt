@@ -7,7 +7,7 @@ use Rattle.sb_node.proofs.replay.ReplayingJudge.take.Goals as goal
 pub take_payload-requires : goal.take_payload-requires
 take_payload-requires c =
     let s = engine_state c.args.self.now.engine in
-    sweepable s (events_consistent c.requires.0 42 c.requires.1 s (c.requires.2 42))
+    sweepable s (events_consistent c.requires.0 c.requires.1 42 c.requires.2 s (c.requires.3 42))
 
 pub returns : goal.returns
-returns c salt before taken = taken_on (engine_state c.args.self.now.engine) _ salt before c.args.payload.now c.take_payload.result taken c.take_payload.ensures.done
+returns c salt base before taken = taken_on (engine_state c.args.self.now.engine) _ salt base before c.args.payload.now c.take_payload.result taken c.take_payload.ensures.done
