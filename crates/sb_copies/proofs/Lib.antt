@@ -1,5 +1,6 @@
 pub mod Below
 mod BySession
+mod WhenDue
 mod Mirror
 mod Order
 mod Peeking

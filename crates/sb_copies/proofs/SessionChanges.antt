@@ -10,7 +10,8 @@ use Rattle.sb_machine.specs.Keyed.{changed}
 use Rattle.sb_machine.specs.Leaves.{has_number, prolonged_standing}
 use Rattle.sb_machine.specs.declared.state.StoredCopy.{StoredCopy}
 use Rattle.sb_copies.specs.BySession.{HoldsSessions, hash_at, is_hashed_to, is_under, session_hash_of, session_key, session_row, span, without_session}
-use Rattle.sb_copies.specs.Shelf.{AreBelow, AreInOrder, is_before, never, rows_of}
+use Rattle.sb_copies.specs.Dues.{never}
+use Rattle.sb_copies.specs.Shelf.{AreBelow, AreInOrder, is_before, rows_of}
 use Rattle.sb_copies.proofs.BySession.{hashed_so, other_hash, other_number, own_number, is_lt}
 use Rattle.sb_copies.proofs.Mirror.{still_marked}
 use Rattle.sb_copies.proofs.Order.{both, same_number}

@@ -10,7 +10,7 @@ use Rattle.sb_machine.specs.Leaves.{has_number}
 use Rattle.sb_machine.specs.Messages.{text_of}
 use Rattle.sb_machine.specs.declared.state.StoredCopy.{StoredCopy}
 use Rattle.sb_model.specs.declared.message.SystemName.TheVariants.{SessionId}
-use Rattle.sb_copies.specs.Shelf.{never}
+use Rattle.sb_copies.specs.Dues.{never}
 
 -- ---- what a session's id comes to
 

@@ -7,7 +7,7 @@
 //! before it. What adds a copy takes a slot that was promised before, and so can't fail.
 //!
 //! ```text
-//! let mut shelf = Shelf::new(alloc);
+//! let mut shelf = Shelf::new(alloc, true);               // copies expire there
 //! shelf.reserve(1)?;                                   // a slot is promised
 //! shelf.push(copy);                                    // and taken: this can't fail
 //! if let Some(first) = shelf.first_ready() {
@@ -18,6 +18,7 @@
 //! ```
 #![tactic(auto)]
 
+mod dues;
 mod looks;
 mod names;
 mod places;
@@ -27,6 +28,7 @@ mod sessions;
 mod shelf;
 mod standings;
 
+pub use dues::{expiry, hold_deadline, standing_due};
 pub use shelf::Shelf;
 pub use standings::{
     has_come, has_ended, is_deferred, is_living, is_over, is_ready, is_scheduled, is_under_session,

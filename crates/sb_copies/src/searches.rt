@@ -9,7 +9,7 @@ ghost use Rattle.sb_machine.specs.Messages.{has_text_of};
 ghost use Rattle.sb_machine.specs.Receiving.{is_ready_for};
 ghost use Rattle.sb_model.specs.declared.message.SystemName.TheVariants.{SessionId};
 ghost use Rattle.sb_copies.specs.BySession.{session_hash, span, HoldsSessions};
-ghost use Rattle.sb_copies.specs.Shelf.{row_of, rows_of, AreBelow, AreInOrder};
+ghost use Rattle.sb_copies.specs.Shelf.{rows_in, AreBelow, AreInOrder};
 
 use crate::names;
 use crate::places::numbered;
@@ -23,8 +23,12 @@ use std::collections::VecDeque;
 const BEYOND: u128 = 1 << 64;
 
 /// The first that may be received, by the index that has their rows.
-pub fn ready<'a>(rows: &'a VecDeque<StoredCopy>, order: &Index) -> Option<&'a StoredCopy>
-    requires mirrored { order.now.rows ≡ rows_of rows.now.items }
+pub fn ready<'a>(
+    rows: &'a VecDeque<StoredCopy>,
+    order: &Index,
+    expires: bool,
+) -> Option<&'a StoredCopy>
+    requires mirrored { order.now.rows ≡ rows_in expires rows.now.items }
     requires below { AreBelow (2 ^ 64) rows.now.items }
     ensures { option_map (λ c. c.now) result ≡ find (is_ready_for None) rows.now.items }
 {

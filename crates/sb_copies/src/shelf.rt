@@ -1,5 +1,5 @@
 // The copies of one part, in the order in which they were put there.
-ghost use Rattle.std.specs.Prelude.{◌≡◌, ◌==◌, ◌&&◌, ◌≤◌, ◌<◌, ◌-◌, max, [], ◌∷◌, ◌++◌, length, find, if◌then◌else◌, OnOk, OnErr, IfOk, None, Some};
+ghost use Rattle.std.specs.Prelude.{◌≡◌, ◌==◌, ◌&&◌, ◌≤◌, ◌<◌, ◌-◌, max, [], ◌∷◌, ◌++◌, length, find, map, if◌then◌else◌, OnOk, OnErr, IfOk, None, Some};
 ghost use Rattle.std.specs.List.{slice_get};
 ghost use Rattle.std.specs.Option.{option_map};
 ghost use Rattle.sb_machine.specs.Claims.{is_of};
@@ -10,12 +10,12 @@ ghost use Rattle.sb_machine.specs.Messages.{has_text_of};
 ghost use Rattle.sb_machine.specs.Receiving.{is_ready_for, peeked};
 ghost use Rattle.sb_model.specs.declared.message.SystemName.TheVariants.{SessionId};
 ghost use Rattle.sb_machine.specs.declared.state.Standing.TheVariants.{Held};
-ghost use Rattle.sb_copies.specs.Shelf as shelf;
-ghost use Rattle.sb_copies.specs.Shelf.{AreBelow, AreInOrder};
+ghost use Rattle.sb_copies.specs.Dues.{due_by, least_of};
+ghost use Rattle.sb_copies.specs.Shelf.{row_in, AreBelow, AreInOrder};
 
 use crate::places::numbered;
 use crate::standings::is_ready;
-use crate::{looks, rows, searches, sessions};
+use crate::{dues, looks, rows, searches, sessions};
 use sb_index::{Index, Row};
 use sb_machine::{CopyShown, Hold, Session, Standing, StoredCopy, Token, Which};
 use sb_model::Rows;
@@ -23,13 +23,12 @@ use std::alloc::{AllocError, Global};
 use std::collections::VecDeque;
 use std::marker::Model;
 
-// The last moment that there is.
-const NEVER: u64 = u64::MAX;
-
 /// The copies of one part of an entity.
 #[derive(Drop)]
 pub struct Shelf {
     alloc: Global,
+    // Whether its copies come due once they have expired.
+    expires: bool,
     copies: VecDeque<StoredCopy>,
     // by number
     order: Index,
@@ -41,23 +40,25 @@ impl Model for Shelf {
     ghost use Rattle.std.specs.Prelude.{◌≡◌, ◌+◌, ◌≤◌, ◌^◌};
     ghost use Rattle.std.specs.VecDeque.{deque_len, deque_capacity};
     ghost use Rattle.sb_copies.specs.BySession.{HoldsSessions};
-    ghost use Rattle.sb_copies.specs.Shelf.{rows_of, AreBelow, Shelved};
+    ghost use Rattle.sb_copies.specs.Shelf.{rows_in, AreBelow, Shelved};
 
     ghost Value = { Shelved };
 
-    ghost view = { λ s. record { copies = s.copies.items; spare = s.order.spare } };
+    ghost view = { λ s. record { copies = s.copies.items; spare = s.order.spare; expires = s.expires } };
 
-    ghost invariant = { λ s. (deque_len s.copies + s.order.spare ≤ deque_capacity s.copies) × (s.order.rows ≡ rows_of s.copies.items) × AreBelow (2 ^ 64) s.copies.items × (s.order.spare ≤ s.by_session.spare) × HoldsSessions s.by_session.rows s.copies.items };
+    ghost invariant = { λ s. (deque_len s.copies + s.order.spare ≤ deque_capacity s.copies) × (s.order.rows ≡ rows_in s.expires s.copies.items) × AreBelow (2 ^ 64) s.copies.items × (s.order.spare ≤ s.by_session.spare) × HoldsSessions s.by_session.rows s.copies.items };
 }
 
 impl Shelf {
-    /// None yet; takes no memory.
-    pub fn new(alloc: Global) -> Shelf
+    /// None yet; takes no memory. `expires` is whether copies come due there once they have expired.
+    pub fn new(alloc: Global, expires: bool) -> Shelf
         ensures copies { result.copies ≡ [] }
         ensures spare { result.spare ≡ 0 }
+        ensures expires { result.expires ≡ expires }
     {
         Shelf {
             alloc,
+            expires,
             copies: VecDeque::new(alloc),
             order: Index::new(alloc),
             by_session: Index::new(alloc),
@@ -78,10 +79,36 @@ impl Shelf {
         ensures copies { self.new.copies ≡ self.old.copies }
         ensures spare { OnOk result (self.new.spare ≡ max self.old.spare count) }
         ensures err { OnErr result (self.new.spare ≡ self.old.spare) }
+        ensures expires { self.new.expires ≡ self.old.expires }
     {
         self.copies.reserve(count)?;
         self.by_session.reserve(count)?;
         self.order.reserve(count)
+    }
+
+    // ---- when they come due
+
+    /// Whether its copies come due once they have expired.
+    pub fn expires(&self) -> bool
+        ensures { result ≡ self.now.expires }
+    {
+        self.expires
+    }
+
+    /// The least moment at which one of them comes due by itself, in ms since 1970; `u64::MAX` where
+    /// none ever does.
+    pub fn least_due(&self) -> u64
+        ensures { result ≡ least_of self.now.expires self.now.copies }
+    {
+        dues::least_due(self.expires, &self.copies, &self.order)
+    }
+
+    /// Those that have come due by `moment`, in ms since 1970, in order: no other is looked at.
+    pub fn due_by(&self, moment: u64) -> Result<Vec<&StoredCopy>, AllocError>
+        ensures { IfOk result (λ found. map (λ c. c.now) found.items ≡ due_by self.now.expires moment self.now.copies) }
+    {
+        self.rises();
+        dues::due_by(self.alloc, self.expires, &self.copies, &self.order, moment)
     }
 
     // ---- reading
@@ -119,7 +146,7 @@ impl Shelf {
     pub fn first_ready(&self) -> Option<&StoredCopy>
         ensures { option_map (λ c. c.now) result ≡ find (is_ready_for None) self.now.copies }
     {
-        searches::ready(&self.copies, &self.order)
+        searches::ready(&self.copies, &self.order, self.expires)
     }
 
     /// The first of the session of this id that may be received.
@@ -191,10 +218,11 @@ impl Shelf {
         requires above { AreBelow copy.number self.old.copies }
         ensures copies { self.new.copies ≡ self.old.copies ++ copy ∷ [] }
         ensures spare { self.new.spare ≡ self.old.spare - 1 }
+        ensures expires { self.new.expires ≡ self.old.expires }
     {
         self.by_session.rises();
         sessions::put(&mut self.by_session, &copy);
-        self.order.insert(row_of(&copy));
+        self.order.insert(row_of(self.expires, &copy));
         self.copies.push_back_reserved(copy);
     }
 
@@ -203,6 +231,7 @@ impl Shelf {
         ensures taken { result ≡ find (has_number number) self.old.copies }
         ensures copies { self.new.copies ≡ changed (has_number number) (λ c. []) self.old.copies }
         ensures spare { self.new.spare ≡ self.old.spare }
+        ensures expires { self.new.expires ≡ self.old.expires }
     {
         self.rises();
         let hash = sessions::hash_at(&self.copies, number);
@@ -215,12 +244,14 @@ impl Shelf {
     pub fn stand(&mut self, number: u64, count: u32, standing: Standing)
         ensures copies { self.new.copies ≡ changed (has_number number) (λ c. record c { count = count; standing = standing } ∷ []) self.old.copies }
         ensures spare { self.new.spare ≡ self.old.spare }
+        ensures expires { self.new.expires ≡ self.old.expires }
     {
         self.rises();
         let hash = sessions::hash_at(&self.copies, number);
         let marked = is_ready(standing);
+        let due = dues::due_at(self.expires, &self.copies, number, standing);
         sessions::mark(&mut self.by_session, hash, number, marked);
-        self.order.change(u128::from(number), marked, NEVER);
+        self.order.change(u128::from(number), marked, due);
         rows::stand_row(&mut self.copies, number, count, standing);
     }
 
@@ -228,11 +259,13 @@ impl Shelf {
     pub fn hold(&mut self, number: u64, lock: u64, hold: Hold)
         ensures copies { self.new.copies ≡ changed (has_number number) (λ c. record c { standing = Held lock hold (is_deferred c.standing) } ∷ []) self.old.copies }
         ensures spare { self.new.spare ≡ self.old.spare }
+        ensures expires { self.new.expires ≡ self.old.expires }
     {
         self.rises();
         let hash = sessions::hash_at(&self.copies, number);
+        let due = dues::moment_of(dues::hold_deadline(hold));
         sessions::mark(&mut self.by_session, hash, number, false);
-        self.order.change(u128::from(number), false, NEVER);
+        self.order.change(u128::from(number), false, due);
         rows::hold_row(&mut self.copies, number, lock, hold);
     }
 
@@ -240,14 +273,19 @@ impl Shelf {
     pub fn renew(&mut self, number: u64, until: u64)
         ensures copies { self.new.copies ≡ changed (has_number number) (λ c. record c { standing = prolonged_standing until c.standing } ∷ []) self.old.copies }
         ensures spare { self.new.spare ≡ self.old.spare }
+        ensures expires { self.new.expires ≡ self.old.expires }
     {
         self.rises();
+        let marked = dues::is_ready_at(&self.copies, number);
+        let due = dues::due_renewed(self.expires, &self.copies, number, until);
+        self.order.change(u128::from(number), marked, due);
         rows::prolong_row(&mut self.copies, number, until);
     }
 
     // ---- their order
 
     // Their numbers rise: for the proofs of what looks for one.
+    #[tactic(auto, using(crate::proofs::Mirror::in_order))]
     fn rises(&self)
         ensures { AreInOrder self.now.copies }
     {
@@ -256,13 +294,13 @@ impl Shelf {
 }
 
 // The row of a copy in the index by number.
-fn row_of(copy: &StoredCopy) -> Row
-    ensures { result ≡ shelf.row_of copy.now }
+fn row_of(expires: bool, copy: &StoredCopy) -> Row
+    ensures { result ≡ row_in expires copy.now }
 {
     Row {
         key: u128::from(copy.number),
-        value: 0,
+        value: copy.number,
         marked: is_ready(copy.standing),
-        due: NEVER,
+        due: dues::due_of(expires, copy),
     }
 }

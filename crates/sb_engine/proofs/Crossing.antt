@@ -10,7 +10,6 @@ use Rattle.sb_machine.specs.contracts.rule.Rule as rule
 use Rattle.sb_repeats.proofs.clients.Clients.TheSendSync as clients
 use Rattle.sb_index.proofs.tree.Tree.TheLaws.TheKnot as tree
 use Rattle.sb_index.specs.contracts.index.Index as index
-use Rattle.sb_index.specs.contracts.index.Index.TheInside as index_inside
 use Rattle.sb_copies.specs.contracts.shelf.Shelf as shelf
 use Rattle.sb_repeats.specs.contracts.window.Window as window
 use Rattle.sb_txn.specs.contracts.txns.Txns as txns

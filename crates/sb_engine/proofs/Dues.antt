@@ -83,7 +83,7 @@ module _ {X : Type 0} where
   any_beside true p q same xs = refl
   any_beside false p q same xs = any_same p q (same refl) xs
 
-  none_of : (p q : X → Bool) → ((x : X) → p x ≡ false → q x ≡ false) → (xs : List X) → list_any p xs ≡ false → list_any q xs ≡ false
+  pub none_of : (p q : X → Bool) → ((x : X) → p x ≡ false → q x ≡ false) → (xs : List X) → list_any p xs ≡ false → list_any q xs ≡ false
   none_of p q fewer [] none = refl
   none_of p q fewer (x ∷ xs) none =
       let its = neither (p x) (list_any p xs) none in
@@ -96,7 +96,7 @@ module _ (t : ℕ) (part : Part) where
   expires c = is_main part && (is_ready c.standing && is_expired t c)
 
   -- a session whose lock has ended is one that comes due
-  ended_holder : (l : ℕ) (o : Option Holder) → has_passed t (elim o [ Some h ↦ Some h.until | None ↦ None ]) ≡ false → ◌≡◌ {A = Bool} (elim o [ Some h ↦ (h.lock == l) && nat_le h.until t | None ↦ false ]) false
+  pub ended_holder : (l : ℕ) (o : Option Holder) → has_passed t (elim o [ Some h ↦ Some h.until | None ↦ None ]) ≡ false → ◌≡◌ {A = Bool} (elim o [ Some h ↦ (h.lock == l) && nat_le h.until t | None ↦ false ]) false
   ended_holder l None is = refl
   ended_holder l (Some h) is = go (h.lock == l) where
     go : (b : Bool) → (b && nat_le h.until t) ≡ false

@@ -22,4 +22,5 @@ pub mod Turning
 pub mod Items
 pub mod Later
 pub mod Sooner
+pub mod Told
 pub mod Crossing

@@ -6,7 +6,7 @@ use Rattle.sb_fanout.proofs.There.{both}
 use Rattle.sb_laws.proofs.Rows.{Of, answered_so, asked, found, of_numbered, refused_so, refusing, with_entity, with_receivable}
 use Rattle.sb_machine.specs.Acts.{act_row, bad_call, is_via_in, row_of}
 use Rattle.sb_machine.specs.Answers.{answer_of}
-use Rattle.sb_machine.specs.Claims.{Claim, asks_holder, asks_session, claiming, has_sessions}
+use Rattle.sb_machine.specs.Claims.{asks_holder, asks_session, claiming, has_sessions}
 use Rattle.sb_machine.specs.Fields.{bad_field, takes_number}
 use Rattle.sb_machine.specs.Leases.{held_session, leased}
 use Rattle.sb_machine.specs.Namespace.{leaf_of}
@@ -28,7 +28,7 @@ use Rattle.sb_machine.specs.declared.call.Token.{Token}
 use Rattle.sb_machine.specs.declared.call.Which.{Which}
 use Rattle.sb_machine.specs.declared.change.Change.{Change}
 use Rattle.sb_machine.specs.declared.reply.Refusal.{Refusal}
-use Rattle.sb_machine.specs.declared.reply.Refusal.TheVariants.{LockLost, SessionLost, SessionNotAllowed, SessionRequired, TxnFull, TxnNotFound, TxnScope, WrongKind}
+use Rattle.sb_machine.specs.declared.reply.Refusal.TheVariants.{SessionNotAllowed, SessionRequired, TxnNotFound, WrongKind}
 use Rattle.sb_machine.specs.declared.reply.Reply.{Reply}
 use Rattle.sb_machine.specs.declared.state.Entity.{Entity}
 use Rattle.sb_machine.specs.declared.state.Session.{Session}

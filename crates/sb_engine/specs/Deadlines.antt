@@ -1,41 +1,24 @@
 -- When each thing of a namespace comes due by itself.
-use Rattle.std.specs.Prelude.{ℕ, ◌+◌, ◌*◌, ◌||◌, nat_le, Bool, false, if◌then◌else◌, Option, Some, None}
+use Rattle.std.specs.Prelude.{ℕ, ◌&&◌, ◌||◌, not, nat_le, nat_lt, Bool, false, Option, Some, None}
 use Rattle.std.specs.List.{list_any}
 use Rattle.sb_machine.specs.Names.{is_main}
 use Rattle.sb_machine.specs.declared.call.Part.{Part}
 use Rattle.sb_machine.specs.declared.call.Part.TheVariants.{Main, Dead, Transfer}
 use Rattle.sb_machine.specs.declared.state.Entity.{Entity}
-use Rattle.sb_machine.specs.declared.state.Hold.{Hold}
-use Rattle.sb_machine.specs.declared.state.Hold.TheVariants.{Until, Session as UnderSession}
 use Rattle.sb_machine.specs.declared.state.Leaf.{Leaf}
 use Rattle.sb_machine.specs.declared.state.Session.{Session}
 use Rattle.sb_machine.specs.declared.state.Space.{Space}
 use Rattle.sb_machine.specs.declared.state.Standing.{Standing}
-use Rattle.sb_machine.specs.declared.state.Standing.TheVariants.{Ready, Deferred, Held, Scheduled}
 use Rattle.sb_machine.specs.declared.state.StoredCopy.{StoredCopy}
+use Rattle.sb_copies.specs.Dues.{standing_due}
+pub use Rattle.sb_copies.specs.Dues.{copy_expiry, expiry, hold_deadline, in_range, never}
 
 -- ---- one thing
 
--- when a message that was enqueued then has expired
-abbrev pub expiry : ℕ → Option ℕ → Option ℕ
-expiry enqueued None = None
-expiry enqueued (Some seconds) = Some (enqueued + 1000 * seconds)
-
--- when a message expires, if it has a time to live
-abbrev pub copy_expiry : StoredCopy → Option ℕ
-copy_expiry c = expiry c.enqueued c.message.ttl
-
--- when a lock on a message ends by itself; one under a session ends with that
-abbrev pub hold_deadline : Hold → Option ℕ
-hold_deadline (Until u) = Some u
-hold_deadline (UnderSession l) = None
-
--- A copy that stands so, by its expiry. One that is held with its session comes due with that one.
+-- When a copy that stands so comes due, by its expiry: in a main part alone messages expire. One that is held with its session comes due
+-- with that one.
 abbrev pub standing_deadline : Part → Option ℕ → Standing → Option ℕ
-standing_deadline part end Ready = if is_main part then end else None
-standing_deadline part end Deferred = None
-standing_deadline part end (Held lock hold deferred) = hold_deadline hold
-standing_deadline part end (Scheduled at) = Some at
+standing_deadline part end standing = standing_due (is_main part) end standing
 
 -- when a message of a part comes due, if ever
 abbrev pub copy_deadline : Part → StoredCopy → Option ℕ
@@ -47,19 +30,20 @@ session_deadline x = elim x.holder [ Some h ↦ Some h.until | None ↦ None ]
 
 -- ---- whether one has come
 
--- the greatest moment that there is
-abbrev pub never : ℕ
-never = 18446744073709551615
-
--- as far as there are such moments
-abbrev pub in_range : Option ℕ → Option ℕ
-in_range None = None
-in_range (Some d) = if nat_le d never then Some d else None
-
 -- whether a deadline is there and has come at t
 abbrev pub has_passed : ℕ → Option ℕ → Bool
 has_passed t None = false
 has_passed t (Some d) = nat_le d t
+
+-- whether messages expire where this is said of them as they do in a part
+abbrev pub expires_as : Part → Bool → Bool
+expires_as Main expires = expires
+expires_as Dead expires = not expires
+expires_as Transfer expires = not expires
+
+-- whether the least moment of a part's messages tells if one is due at t
+abbrev pub tells : Part → Bool → ℕ → Bool
+tells part expires t = expires_as part expires && nat_lt t never
 
 -- whether something of one part is due at t
 abbrev pub comes_in : ℕ → Part → Leaf → Bool

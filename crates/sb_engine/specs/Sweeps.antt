@@ -1,5 +1,6 @@
 -- What the sweeps of a tick look for, and a plan that grows by what depends on what it leads to.
-use Rattle.std.specs.Prelude.{◌≡◌, ℕ, ◌&&◌, Bool, List, ◌++◌, map, filter}
+use Rattle.std.specs.Prelude.{◌≡◌, ℕ, ◌&&◌, not, Bool, true, List, ◌++◌, map, filter}
+use Rattle.std.specs.List.{list_any}
 use Rattle.sb_machine.specs.Changes.{after_all}
 use Rattle.sb_machine.specs.Delivery.{is_expired}
 use Rattle.sb_machine.specs.Due.{Item}
@@ -14,6 +15,7 @@ use Rattle.sb_machine.specs.declared.state.Space.{Space}
 use Rattle.sb_machine.specs.declared.state.StoredCopy.{StoredCopy}
 use Rattle.sb_fanout.specs.Lasts.{Given}
 use Rattle.sb_entities.specs.Stores.{entity_in}
+use Rattle.sb_engine.specs.Deadlines.{has_passed, session_deadline}
 use Rattle.sb_engine.specs.Growing.{Stands}
 use Rattle.sb_engine.specs.declared.time.finding.Found.{Found}
 use Rattle.sb_engine.specs.declared.time.finding.Search.{Search}
@@ -26,6 +28,13 @@ abbrev pub is_looked_for : Search → ℕ → List Session → StoredCopy → Bo
 is_looked_for Ended t sessions c = has_ended t sessions c.standing
 is_looked_for Expired t sessions c = is_ready c.standing && is_expired t c
 is_looked_for Come t sessions c = has_come t c.standing
+
+-- whether the copies that a sweep looks for, in a part with these sessions, are among those that come due by themselves: under
+-- locks of sessions only where none of these has ended
+abbrev pub is_told : Search → ℕ → List Session → Bool → Bool
+is_told Ended t sessions expires = not (list_any (λ x. has_passed t (session_deadline x)) sessions)
+is_told Expired t sessions expires = expires
+is_told Come t sessions expires = true
 
 -- a message with its place
 abbrev pub item : Entity → Part → StoredCopy → Item

@@ -63,9 +63,9 @@ impl EntityStore {
         EntityStore {
             listing: Listing::new(alloc, about),
             ids: Window::new(alloc),
-            main: PartStore::new(alloc),
-            dead: PartStore::new(alloc),
-            transfer: PartStore::new(alloc),
+            main: PartStore::new(alloc, true),
+            dead: PartStore::new(alloc, false),
+            transfer: PartStore::new(alloc, false),
         }
     }
 

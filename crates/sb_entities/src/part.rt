@@ -49,13 +49,14 @@ impl PartStore {
 
     // ---- within this crate
 
-    pub(crate) fn new(alloc: Global) -> PartStore
+    // `expires` is whether its copies come due once they have expired: those of a main part alone do.
+    pub(crate) fn new(alloc: Global, expires: bool) -> PartStore
         ensures leaf { leaf_in result ≡ empty_leaf }
         ensures room { part_room_in result ≡ record { copies = 0; sessions = 0 } }
     {
         PartStore {
             last: 0,
-            copies: Shelf::new(alloc),
+            copies: Shelf::new(alloc, expires),
             sessions: Sessions::new(alloc),
         }
     }

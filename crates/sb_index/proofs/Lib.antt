@@ -1,3 +1,4 @@
+pub mod DueValues
 pub mod Finds
 pub mod Least
 pub mod Order

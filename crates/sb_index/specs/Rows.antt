@@ -56,6 +56,10 @@ Lacks key rows = list_any (is_at key) rows ≡ false
 abbrev pub least_due : List Row → Option ℕ
 least_due rows = reduce min (map (λ x. x.due) rows)
 
+-- the values of those that are due at this moment
+abbrev pub due_values : ℕ → List Row → List ℕ
+due_values moment rows = map (λ x. x.value) (filter (is_due moment) rows)
+
 -- with one more, behind those of lower keys
 abbrev pub with_row : Row → List Row → List Row
 with_row x rows = insert rows (prefix_len (is_below x.key) rows) x

@@ -1,9 +1,10 @@
 // An index: a tree in order, and the nodes that are promised to it.
-ghost use Rattle.std.specs.Prelude.{◌≡◌, ◌≤◌, ◌-◌, [], find, length, max, OnOk, OnErr, vec_len};
-ghost use Rattle.sb_index.specs.Rows.{changed, is_at, is_due_from, is_from, is_marked_within, least_due, with_row, without, AreRising, Lacks};
+ghost use Rattle.std.specs.Prelude.{◌≡◌, ◌≤◌, ◌-◌, [], find, length, max, IfOk, OnOk, OnErr, vec_len};
+ghost use Rattle.sb_index.specs.Rows.{changed, due_values, is_at, is_due_from, is_from, is_marked_within, least_due, with_row, without, AreRising, Lacks};
 ghost use Rattle.sb_index.specs.Wanted.{before};
 
 use crate::changing::{put, taken, told};
+use crate::collecting::put_due_in;
 use crate::row::Row;
 use crate::searching::{first_from_in, get_in};
 use crate::tree::Tree;
@@ -114,6 +115,16 @@ impl Index {
         ensures { result ≡ find (is_due_from from moment) self.now.rows }
     {
         first_from_in(&self.root, Wanted::Due(moment), from)
+    }
+
+    /// The values of the rows that are due at this moment, in rising keys. It costs what is found
+    /// times the logarithm of what is there.
+    pub fn due_values(&self, moment: u64) -> Result<Vec<u64>, AllocError>
+        ensures { IfOk result (λ found. found.items ≡ due_values moment self.now.rows) }
+    {
+        let mut found = Vec::new(self.alloc);
+        put_due_in(&self.root, moment, &mut found)?;
+        Ok(found)
     }
 
     /// The least moment at which a row is due, `u64::MAX` where none of them ever is; none where

@@ -19,6 +19,7 @@
 #![tactic(auto)]
 
 mod changing;
+mod collecting;
 mod hash;
 mod index;
 mod row;

@@ -1,7 +1,7 @@
 // Three rows, worked through with the definitions alone.
 ghost use Rattle.std.specs.Prelude.{◌≡◌, find, true, false, Some, None, [], ◌∷◌};
 ghost use Rattle.std.specs.List.{list_any};
-ghost use Rattle.sb_index.specs.Rows.{changed, is_at, is_due_from, is_from, is_marked_within, least_due, with_row, without};
+ghost use Rattle.sb_index.specs.Rows.{changed, due_values, is_at, is_due_from, is_from, is_marked_within, least_due, with_row, without};
 ghost use Rattle.sb_index.specs.WorkedRows.{at, three};
 
 /// What is found among rows, and what changes make of them: the first of a key at least 3, of those
@@ -18,6 +18,8 @@ pub fn worked_rows()
     ensures due { find (is_due_from 0 60) three ≡ Some (at 5 true 40) }
     ensures due_from { find (is_due_from 6 60) three ≡ Some (at 7 true 60) }
     ensures due_before { find (is_due_from 6 59) three ≡ None }
+    ensures due_values { due_values 60 three ≡ 5 ∷ 7 ∷ [] }
+    ensures due_values_none { due_values 39 three ≡ [] }
     ensures least { least_due three ≡ Some 40 }
     ensures least_none { least_due [] ≡ None }
     ensures inserted { with_row (at 6 false 10) three ≡ at 2 false 90 ∷ at 5 true 40 ∷ at 6 false 10 ∷ at 7 true 60 ∷ [] }

@@ -7,7 +7,8 @@ ghost use Rattle.sb_entities.specs.Stores.{space_in};
 ghost use Rattle.sb_engine.specs.Deadlines as deadlines;
 ghost use Rattle.sb_engine.specs.Soonest as spec;
 
-use crate::time::deadlines::{expiry, hold_deadline, sooner, standing_deadline};
+use crate::time::deadlines::{sooner, standing_deadline};
+use sb_copies::{expiry, hold_deadline};
 use sb_entities::SpaceStore;
 use sb_machine::{Change, Changes, Fresh, LeafChange, LeafKey, Part, Standing};
 

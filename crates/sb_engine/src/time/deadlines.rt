@@ -3,44 +3,15 @@ ghost use Rattle.std.specs.Prelude.{◌≡◌};
 ghost use Rattle.sb_engine.specs.Deadlines as spec;
 ghost use Rattle.sb_engine.specs.Soonest as moments;
 
-use sb_machine::{Hold, Part, Session, Standing, StoredCopy};
-
-/// When a message that was enqueued then has expired, by its time to live in s; none also where
-/// that is past 2^64 - 1.
-pub fn expiry(enqueued: u64, ttl: Option<u64>) -> Option<u64>
-    ensures { result ≡ spec.in_range (spec.expiry enqueued ttl) }
-{
-    match ttl {
-        Some(seconds) => match seconds.checked_mul(1000) {
-            Some(life) => enqueued.checked_add(life),
-            None => None,
-        },
-        None => None,
-    }
-}
-
-pub fn hold_deadline(hold: Hold) -> Option<u64>
-    ensures { result ≡ spec.hold_deadline hold }
-{
-    match hold {
-        Hold::Until(until) => Some(until),
-        Hold::Session(_) => None,
-    }
-}
+use crate::find::claims::is_main;
+use sb_copies::{expiry, standing_due};
+use sb_machine::{Part, Session, Standing, StoredCopy};
 
 /// `end` is the expiry of the copy that stands so.
 pub fn standing_deadline(part: Part, end: Option<u64>, standing: Standing) -> Option<u64>
     ensures { result ≡ spec.standing_deadline part end standing }
 {
-    match standing {
-        Standing::Ready => match part {
-            Part::Main => end,
-            Part::Dead | Part::Transfer => None,
-        },
-        Standing::Deferred => None,
-        Standing::Held { hold, .. } => hold_deadline(hold),
-        Standing::Scheduled(at) => Some(at),
-    }
+    standing_due(is_main(part), end, standing)
 }
 
 pub fn copy_deadline(part: Part, copy: &StoredCopy) -> Option<u64>
@@ -65,6 +36,16 @@ pub fn has_passed(deadline: Option<u64>, moment: u64) -> bool
     match deadline {
         Some(deadline) => deadline <= moment,
         None => false,
+    }
+}
+
+/// Whether copies expire where this is said of them as they do in a part: in a main part alone.
+pub fn expires_as(part: Part, expires: bool) -> bool
+    ensures { result ≡ spec.expires_as part expires }
+{
+    match part {
+        Part::Main => expires,
+        Part::Dead | Part::Transfer => !expires,
     }
 }
 

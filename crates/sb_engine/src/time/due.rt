@@ -6,7 +6,8 @@ ghost use Rattle.sb_entities.specs.Stores.{leaf_in, entity_in, entities_in, spac
 ghost use Rattle.sb_txn.specs.Txns.{transactions_of};
 ghost use Rattle.sb_engine.specs.Deadlines as spec;
 
-use crate::time::deadlines::{copy_deadline, has_passed, session_deadline};
+use crate::time::deadlines::{copy_deadline, expires_as, has_passed, session_deadline};
+use sb_copies::Shelf;
 use sb_entities::{EntityStore, PartStore, SpaceStore};
 use sb_machine::{Part, Session, StoredCopy};
 use sb_txn::OpenTransaction;
@@ -23,7 +24,8 @@ fn any_copy(part: Part, copies: &[StoredCopy], moment: u64) -> bool
     copies.iter().any(|c| copy_comes(part, c, moment))
 }
 
-fn any_session(sessions: &[Session], moment: u64) -> bool
+/// Whether the lock of one of these sessions has ended by `moment`, in ms since 1970.
+pub fn any_session(sessions: &[Session], moment: u64) -> bool
     ensures { result ≡ list_any (λ x. spec.has_passed moment (spec.session_deadline x)) sessions.now }
 {
     sessions
@@ -31,12 +33,27 @@ fn any_session(sessions: &[Session], moment: u64) -> bool
         .any(|x| has_passed(session_deadline(x), moment))
 }
 
+// Whether the least moment of a part's copies tells if one is due.
+fn tells(part: Part, copies: &Shelf, moment: u64) -> bool
+    ensures { result ≡ spec.tells part copies.now.expires moment }
+{
+    expires_as(part, copies.expires()) && moment < u64::MAX
+}
+
+fn any_in(part: Part, copies: &Shelf, moment: u64) -> bool
+    ensures { result ≡ list_any (λ c. spec.has_passed moment (spec.copy_deadline part c)) copies.now.copies }
+{
+    if tells(part, copies, moment) {
+        return copies.least_due() <= moment;
+    }
+    let (front, back) = copies.as_slices();
+    any_copy(part, front, moment) || any_copy(part, back, moment)
+}
+
 fn comes_in(part: Part, store: &PartStore, moment: u64) -> bool
     ensures { result ≡ spec.comes_in moment part (leaf_in store.now) }
 {
-    let (front, back) = store.copies().as_slices();
-    any_session(store.sessions().as_slice(), moment)
-        || (any_copy(part, front, moment) || any_copy(part, back, moment))
+    any_session(store.sessions().as_slice(), moment) || any_in(part, store.copies(), moment)
 }
 
 fn comes_of(entity: &EntityStore, moment: u64) -> bool
@@ -75,7 +92,7 @@ fn comes(space: &SpaceStore, moment: u64) -> bool
     any_entity(space.entities(), moment) || any_transaction(space.txns().as_slice(), moment)
 }
 
-/// Whether something is due at `moment`, in ms since 1970: this looks at each copy.
+/// Whether something is due at `moment`, in ms since 1970: this looks at each entity and each session.
 pub fn is_due(space: &SpaceStore, moment: u64) -> bool
     ensures { result ≡ machine.is_due moment (space_in space.now) }
 {

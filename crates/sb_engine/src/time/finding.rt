@@ -1,12 +1,13 @@
 // The copies that the sweeps of a tick look for, where they stand.
-ghost use Rattle.std.specs.Prelude.{◌≡◌, [], ◌++◌, map, filter, IfOk};
+ghost use Rattle.std.specs.Prelude.{◌≡◌, [], ◌++◌, map, filter, true, IfOk};
 ghost use Rattle.std.specs.List.{flat_map};
 ghost use Rattle.sb_machine.specs.declared.call.Part.TheVariants.{Main as MainPart};
 ghost use Rattle.sb_entities.specs.Stores.{entity_in, entities_in, space_in};
 ghost use Rattle.sb_engine.specs.Sweeps as spec;
 
 use crate::deliver::release::is_expired;
-use sb_copies::{has_come, has_ended, is_ready};
+use crate::time::due::any_session;
+use sb_copies::{Shelf, has_come, has_ended, is_ready};
 use sb_entities::{EntityStore, SpaceStore};
 use sb_machine::{Part, Session, StoredCopy};
 use std::alloc::{AllocError, Global};
@@ -60,6 +61,72 @@ fn with_copies<'a>(
     Ok(found)
 }
 
+fn with_each<'a>(
+    found: Vec<Found<'a>>,
+    search: Search,
+    moment: u64,
+    entity: &'a EntityStore,
+    part: Part,
+    sessions: &[Session],
+    copies: &[&'a StoredCopy],
+) -> Result<Vec<Found<'a>>, AllocError>
+    ensures { IfOk result (λ v. spec.items_in v.items ≡ spec.items_in found.entry.items ++ map (spec.item (entity_in entity.now) part) (filter (spec.is_looked_for search moment sessions.now) (map (λ c. c.now) copies.now))) }
+{
+    let mut found = found;
+    for copy in copies {
+        let copy = *copy;
+        if is_looked_for(search, moment, sessions, copy) {
+            found.push(Found { entity, part, copy })?;
+        }
+    }
+    Ok(found)
+}
+
+// Whether the copies that are looked for are among those that come due by themselves.
+fn is_told(search: Search, moment: u64, sessions: &[Session], copies: &Shelf) -> bool
+    ensures { result ≡ spec.is_told search moment sessions.now copies.now.expires }
+{
+    match search {
+        Search::Ended => !any_session(sessions, moment),
+        Search::Expired => copies.expires(),
+        Search::Come => true,
+    }
+}
+
+// Looks at what has come due alone.
+fn with_due<'a>(
+    found: Vec<Found<'a>>,
+    search: Search,
+    moment: u64,
+    entity: &'a EntityStore,
+    part: Part,
+    sessions: &[Session],
+    copies: &'a Shelf,
+) -> Result<Vec<Found<'a>>, AllocError>
+    requires told { spec.is_told search moment sessions.now copies.now.expires ≡ true }
+    ensures { IfOk result (λ v. spec.items_in v.items ≡ spec.items_in found.entry.items ++ map (spec.item (entity_in entity.now) part) (filter (spec.is_looked_for search moment sessions.now) copies.now.copies)) }
+{
+    let due = copies.due_by(moment)?;
+    with_each(found, search, moment, entity, part, sessions, &due)
+}
+
+// Looks at each copy.
+fn with_all<'a>(
+    found: Vec<Found<'a>>,
+    search: Search,
+    moment: u64,
+    entity: &'a EntityStore,
+    part: Part,
+    sessions: &[Session],
+    copies: &'a Shelf,
+) -> Result<Vec<Found<'a>>, AllocError>
+    ensures { IfOk result (λ v. spec.items_in v.items ≡ spec.items_in found.entry.items ++ map (spec.item (entity_in entity.now) part) (filter (spec.is_looked_for search moment sessions.now) copies.now.copies)) }
+{
+    let (front, back) = copies.as_slices();
+    let found = with_copies(found, search, moment, entity, part, sessions, front)?;
+    with_copies(found, search, moment, entity, part, sessions, back)
+}
+
 fn with_part<'a>(
     found: Vec<Found<'a>>,
     search: Search,
@@ -71,9 +138,11 @@ fn with_part<'a>(
 {
     let store = entity.part(part);
     let sessions = store.sessions().as_slice();
-    let (front, back) = store.copies().as_slices();
-    let found = with_copies(found, search, moment, entity, part, sessions, front)?;
-    with_copies(found, search, moment, entity, part, sessions, back)
+    let copies = store.copies();
+    if is_told(search, moment, sessions, copies) {
+        return with_due(found, search, moment, entity, part, sessions, copies);
+    }
+    with_all(found, search, moment, entity, part, sessions, copies)
 }
 
 fn with_entity<'a>(

@@ -6,7 +6,8 @@ ghost use Rattle.sb_txn.specs.Txns.{transactions_of};
 ghost use Rattle.sb_engine.specs.Deadlines as deadlines;
 ghost use Rattle.sb_engine.specs.Soonest as spec;
 
-use crate::time::deadlines::{copy_deadline, session_deadline, sooner};
+use crate::time::deadlines::{copy_deadline, expires_as, session_deadline, sooner};
+use sb_copies::Shelf;
 use sb_entities::{EntityStore, PartStore, SpaceStore};
 use sb_machine::{Part, Session, StoredCopy};
 use sb_txn::OpenTransaction;
@@ -37,12 +38,22 @@ fn soonest_session(sessions: &[Session], soonest: u64) -> u64
     least
 }
 
+#[tactic(auto, using(crate::proofs::Sooner::soonest_pieces))]
+fn soonest_of_copies(part: Part, copies: &Shelf, soonest: u64) -> u64
+    ensures { result ≡ fold (λ m c. spec.sooner (deadlines.copy_deadline part c) m) soonest copies.now.copies }
+{
+    if expires_as(part, copies.expires()) {
+        return copies.least_due().min(soonest);
+    }
+    let (front, back) = copies.as_slices();
+    soonest_copy(part, back, soonest_copy(part, front, soonest))
+}
+
 fn soonest_in(part: Part, store: &PartStore, soonest: u64) -> u64
     ensures { result ≡ spec.soonest_in part soonest (leaf_in store.now) }
 {
-    let (front, back) = store.copies().as_slices();
     let least = soonest_session(store.sessions().as_slice(), soonest);
-    soonest_copy(part, back, soonest_copy(part, front, least))
+    soonest_of_copies(part, store.copies(), least)
 }
 
 fn soonest_of_entity(entity: &EntityStore, soonest: u64) -> u64
@@ -81,7 +92,7 @@ fn least_of(space: &SpaceStore) -> u64
 }
 
 /// The least moment at which something comes due, 2^64 - 1 where nothing does: this looks at each
-/// copy.
+/// entity and each session.
 pub fn soonest_of(space: &SpaceStore) -> u64
     ensures least { result ≡ spec.soonest (space_in space.now) }
     ensures later { spec.IsLater result (space_in space.now) }

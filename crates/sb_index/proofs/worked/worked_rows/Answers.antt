@@ -34,6 +34,12 @@ returns-clause-due_from c = refl
 pub returns-clause-due_before : goal.returns-clause-due_before
 returns-clause-due_before c = refl
 
+pub returns-clause-due_values : goal.returns-clause-due_values
+returns-clause-due_values c = refl
+
+pub returns-clause-due_values_none : goal.returns-clause-due_values_none
+returns-clause-due_values_none c = refl
+
 pub returns-clause-least : goal.returns-clause-least
 returns-clause-least c = refl
 
