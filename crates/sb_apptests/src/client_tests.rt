@@ -1,6 +1,6 @@
 // Runs that a server answers, over a link in memory: what is read, the responses that the link gives, and
 // the lines that must be written.
-use crate::calls::{called_alone, sink_of, source_of};
+use sb_calls::{called_alone, sink_of, source_of};
 use sb_outside::{Bytes, MemLink, MemSink};
 use std::alloc::Global;
 use std::sync::Wait;

@@ -1,7 +1,7 @@
 // Clocks far ahead of a journal, and lines of a run far ahead of a clock: what is told, what is left on the
 // disks, and who is told of it.
-use crate::calls::{bytes_of, called, connection_of, doors_of, sink_of, source_of};
 use sb_app::{Notice, Watcher};
+use sb_calls::{bytes_of, called, connection_of, doors_of, sink_of, source_of};
 use sb_outside::{MemDisk, MemDoor, MemSink, NoLink, StepClock};
 use sb_rest::Access;
 use std::sync::Wait;
@@ -124,7 +124,7 @@ struct Case<'a> {
 fn door(rt: &HostRuntime) -> Result<Vec<MemDoor>, Fail> {
     let alloc = rt.alloc();
     let conn = connection_of(alloc, SEND, 4096)?;
-    doors_of(alloc, vec![in alloc; conn]?)
+    Ok(doors_of(alloc, vec![in alloc; conn]?)?)
 }
 
 fn is_given(doors: &[MemDoor], response: &[u8]) -> bool {
@@ -166,7 +166,7 @@ fn run_into<T: Threads + Wait + Sync>(
     drop(access);
     drop(clock);
     drop(input);
-    ended
+    Ok(ended?)
 }
 
 // The disk that the call leaves, where it tells and ends with what it must.
@@ -208,7 +208,7 @@ fn leaves<T: Threads + Wait + Sync>(
         drop(disk);
         return Err(Fail::from("another response"));
     }
-    bytes_of(rt.alloc(), disk)
+    Ok(bytes_of(rt.alloc(), disk)?)
 }
 
 fn answers<'a>(words: &'a [&'a str], disk: &'a [u8], script: &'a str, told: &'a str) -> Case<'a> {

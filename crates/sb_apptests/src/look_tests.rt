@@ -1,7 +1,6 @@
 // Looks at the disks of a table of images: each tells what a check of such disks tells, and leaves them
 // byte for byte. The lines were worked out by hand.
-use crate::calls::{bytes_of, ran, sink_of};
-use crate::tests::ONE_EVENT;
+use sb_calls::{ONE_EVENT, bytes_of, ran, sink_of};
 use std::alloc::Global;
 use std::test::Fail;
 

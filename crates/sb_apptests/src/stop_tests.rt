@@ -1,5 +1,5 @@
 // Scripts over a disk that fails, or stops with the machine, at each of its calls: what the next run finds.
-use crate::calls::ran;
+use sb_calls::ran;
 use sb_outside::MemSink;
 use std::alloc::Global;
 use std::test::Fail;

@@ -1,6 +1,6 @@
 // Runs over memory whose disk, input or output fails. What is read and what answers it are rows of two
 // lines.
-use crate::calls::{bytes_of, called_alone, sink_of, source_of};
+use sb_calls::{ONE_EVENT, bytes_of, called_alone, sink_of, source_of};
 use sb_outside::{MemDisk, MemSink, NoLink};
 use std::alloc::Global;
 use std::sync::Wait;
@@ -10,17 +10,6 @@ use std::thread::Threads;
 const RUN: [&str; 3] = ["run", "--data", "."];
 
 const CHECK: [&str; 2] = ["check", "--data=."];
-
-// That of the journal whose bytes docs/FORMATS.md has.
-pub(crate) const SALT: u64 = 0xa1b2_c3d4_e5f6_0718;
-
-// The journal of the queue q that was made at moment 0.
-pub(crate) const ONE_EVENT: [u8; 87] = [
-    0x01, 0x53, 0x42, 0x4e, 0x53, 0x4a, 0x52, 0x4e, 0x4c, 0x01, 0xa1, 0xb2, 0xc3, 0xd4, 0xe5, 0xf6,
-    0x07, 0x18, 0, 0, 0, 0, 0, 0, 0, 1, 0, 0, 0, 0, 0, 0, 0, 1, 0, 0, 0, 0, 0, 0, 0, 0, 0x01, 0, 0,
-    0, 0x1f, 0, 0, 0, 0, 0, 0, 0, 1, 0x01, 0, 0, 0, 0, 0, 0, 0, 0, 0, 0x01, 0, 0, 0, 1, 0x71, 0, 0,
-    0, 0x3c, 0, 0, 0, 0, 0x0a, 0, 0, 0, 1, 0, 0, 0,
-];
 
 const SETUP: &str = r#"
 {"at":0,"do":"create-queue","name":"q"}
@@ -158,7 +147,7 @@ fn run_into<T: Threads + Wait + Sync>(
         &mut NoLink::new(),
     );
     drop(input);
-    ended
+    Ok(ended?)
 }
 
 // Makes the run, and gives disk a as it leaves it.
@@ -189,7 +178,7 @@ fn leaves<T: Threads + Wait + Sync>(
     case: Case<'_>,
 ) -> Result<Vec<u8>, Fail> {
     let disk = ran(rt, threads, case)?;
-    bytes_of(rt.alloc(), disk)
+    Ok(bytes_of(rt.alloc(), disk)?)
 }
 
 // The disk that a run over one row leaves whose disk fails at a call.

@@ -2,11 +2,10 @@
 // caller has gone the message stays.
 ghost use Rattle.std.specs.Prelude.{◌≡◌, ◌≤◌, None};
 
-use crate::calls::{called_in, sink_of, source_of};
 use crate::server_tests::SERVE;
 use crate::sharing_tests::Shares;
-use crate::tests::ONE_EVENT;
 use sb_app::NoWatcher;
+use sb_calls::{ONE_EVENT, called_in, sink_of, source_of};
 use sb_outside::{Clock, Conn, Door, DoorFault, Given, MemSink, NoLink, ReadFault, WriteFault};
 use sb_rest::Access;
 use std::mem;

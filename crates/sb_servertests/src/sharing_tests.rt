@@ -1,9 +1,8 @@
 // Eight doors whose workers are shared among one, two, four and eight threads: each connection is given its
 // responses, and all sends stand in one history.
-use crate::calls::{called_in, connection_of, sink_of, source_of};
 use crate::server_tests::{SEND, SENT, SERVE};
-use crate::tests::ONE_EVENT;
 use sb_app::NoWatcher;
+use sb_calls::{ONE_EVENT, called_in, connection_of, sink_of, source_of};
 use sb_outside::{Clock, Lobby, MemDoor, MemSink, NoLink, PauseLobby, StepClock};
 use sb_rest::Access;
 use std::sync::Wait;

@@ -1,9 +1,8 @@
 // Callers that are slower than the limits of time, and some that are just fast enough.
 ghost use Rattle.std.specs.Prelude.{None};
 
-use crate::calls::{called, sink_of, source_of};
-use crate::tests::ONE_EVENT;
 use sb_app::NoWatcher;
+use sb_calls::{ONE_EVENT, called, sink_of, source_of};
 use sb_outside::{Clock, Conn, Door, DoorFault, Given, MemSink, NoLink, ReadFault, WriteFault};
 use sb_rest::Access;
 use std::sync::Wait;

@@ -2,32 +2,32 @@
 // dropped by a call, and where it is made there is little else: so the proofs of the tests stay short.
 ghost use Rattle.std.specs.Prelude.{◌≤◌};
 
-use crate::tests::SALT;
+use crate::fault::CallFault;
+use crate::journals::SALT;
 use sb_app::{NoWatcher, Watcher, top, top_alone};
 use sb_outside::{
     Clock, Door, Link, Lobby, MemConn, MemDisk, MemDoor, MemSink, MemSource, NoDoor, NoLink,
     PauseLobby, StepClock,
 };
 use sb_rest::Access;
-use std::alloc::Global;
+use std::alloc::{AllocError, Global};
 use std::sync::Wait;
-use std::test::Fail;
 use std::thread::Threads;
 
 // A disk with these bytes, which fails at these calls.
-fn disk_of(alloc: Global, bytes: &[u8], failing: &[u64]) -> Result<MemDisk, Fail> {
+fn disk_of(alloc: Global, bytes: &[u8], failing: &[u64]) -> Result<MemDisk, CallFault> {
     let bytes = bytes.to_vec(alloc)?;
     let failing = failing.to_vec(alloc)?;
     Ok(MemDisk::new(alloc, bytes, failing)?)
 }
 
-// A source of these bytes, which gives at most so many of them a read, and fails at these calls.
-pub(crate) fn source_of(
+/// A source of these bytes, which gives at most so many of them a read, and fails at these calls.
+pub fn source_of(
     alloc: Global,
     bytes: &[u8],
     most: usize,
     failing: &[u64],
-) -> Result<MemSource, Fail>
+) -> Result<MemSource, CallFault>
     requires { 1 ≤ most }
 {
     let bytes = bytes.to_vec(alloc)?;
@@ -35,34 +35,37 @@ pub(crate) fn source_of(
     Ok(MemSource::new(bytes, most, failing))
 }
 
-// An empty sink with room for so many bytes, which fails at these calls.
-pub(crate) fn sink_of(alloc: Global, room: usize, failing: &[u64]) -> Result<MemSink, Fail> {
+/// An empty sink with room for so many bytes, which fails at these calls.
+pub fn sink_of(alloc: Global, room: usize, failing: &[u64]) -> Result<MemSink, CallFault> {
     let failing = failing.to_vec(alloc)?;
     Ok(MemSink::new(alloc, room, failing)?)
 }
 
-// A connection that sends these bytes, of which a read gets so many at most.
-pub(crate) fn connection_of(alloc: Global, bytes: &[u8], most: usize) -> Result<MemConn, Fail>
+/// A connection that sends these bytes, of which a read gets so many at most.
+pub fn connection_of(alloc: Global, bytes: &[u8], most: usize) -> Result<MemConn, CallFault>
     requires { 1 ≤ most }
 {
     let source = source_of(alloc, bytes, most, &[])?;
     match sink_of(alloc, 4096, &[]) {
         Ok(sink) => Ok(MemConn::new(source, sink)),
-        Err(fail) => {
+        Err(fault) => {
             drop(source);
-            Err(fail)
+            Err(fault)
         }
     }
 }
 
-// A door with these connections, alone.
-pub(crate) fn doors_of(alloc: Global, connections: Vec<MemConn>) -> Result<Vec<MemDoor>, Fail> {
+/// A door with these connections, alone.
+pub fn doors_of(alloc: Global, connections: Vec<MemConn>) -> Result<Vec<MemDoor>, CallFault> {
     let door = MemDoor::new(alloc, connections, Vec::new(alloc))?;
-    Ok(vec![in alloc; door]?)
+    match vec![in alloc; door] {
+        Ok(doors) => Ok(doors),
+        Err(failed) => Err(AllocError::from(failed).into()),
+    }
 }
 
-// The bytes of a disk, which is let go.
-pub(crate) fn bytes_of(alloc: Global, disk: MemDisk) -> Result<Vec<u8>, Fail> {
+/// The bytes of a disk, which is let go.
+pub fn bytes_of(alloc: Global, disk: MemDisk) -> Result<Vec<u8>, CallFault> {
     let bytes = disk.bytes().to_vec(alloc);
     drop(disk);
     Ok(bytes?)
@@ -113,31 +116,31 @@ where
 }
 
 // Disk a, where disk b is as empty as it was made.
-fn first_of(disk_a: MemDisk, disk_b: MemDisk) -> Result<MemDisk, Fail> {
+fn first_of(disk_a: MemDisk, disk_b: MemDisk) -> Result<MemDisk, CallFault> {
     let is_written = !disk_b.bytes().is_empty();
     drop(disk_b);
     if is_written {
         drop(disk_a);
-        return Err(Fail::from("disk b was written"));
+        return Err(CallFault::WrittenB);
     }
     Ok(disk_a)
 }
 
-// A disk with these bytes that fails at these calls, and an empty one.
-pub(crate) fn disks_of(alloc: Global, disk: (&[u8], &[u64])) -> Result<(MemDisk, MemDisk), Fail> {
+/// A disk with these bytes that fails at these calls, and an empty one.
+pub fn disks_of(alloc: Global, disk: (&[u8], &[u64])) -> Result<(MemDisk, MemDisk), CallFault> {
     let disk_a = disk_of(alloc, disk.0, disk.1)?;
     match disk_of(alloc, &[], &[]) {
         Ok(disk_b) => Ok((disk_a, disk_b)),
-        Err(fail) => {
+        Err(fault) => {
             drop(disk_a);
-            Err(fail)
+            Err(fault)
         }
     }
 }
 
-// Makes a call over a disk a with these bytes that fails at these calls; its status, and that disk as it
-// leaves it.
-pub(crate) fn called_in<
+/// Makes a call over a disk a with these bytes that fails at these calls; its status, and that disk as it
+/// leaves it. A fault where the call keeps the disks, or has written on disk b.
+pub fn called_in<
     T: Threads + Wait + Sync,
     C: Clock + Sync,
     R: Door + Send,
@@ -157,7 +160,7 @@ pub(crate) fn called_in<
     lobby: &L,
     link: &mut N,
     watcher: &W,
-) -> Result<(u8, MemDisk), Fail>
+) -> Result<(u8, MemDisk), CallFault>
 where
     R::Conn: Send,
 {
@@ -168,18 +171,12 @@ where
     );
     match disks {
         Some((disk_a, disk_b)) => Ok((status, first_of(disk_a, disk_b)?)),
-        None => Err(Fail::from("the disks come back")),
+        None => Err(CallFault::NoDisks),
     }
 }
 
-// The same where all workers are in one thread.
-pub(crate) fn called<
-    T: Threads + Wait + Sync,
-    C: Clock + Sync,
-    R: Door + Send,
-    N: Link,
-    W: Watcher,
->(
+/// The same where all workers are in one thread.
+pub fn called<T: Threads + Wait + Sync, C: Clock + Sync, R: Door + Send, N: Link, W: Watcher>(
     threads: &T,
     alloc: Global,
     words: &[&str],
@@ -191,7 +188,7 @@ pub(crate) fn called<
     doors: &mut Vec<R>,
     link: &mut N,
     watcher: &W,
-) -> Result<(u8, MemDisk), Fail>
+) -> Result<(u8, MemDisk), CallFault>
 where
     R::Conn: Send,
 {
@@ -211,8 +208,8 @@ where
     )
 }
 
-// The same of a call that nobody comes to, at a clock that goes on by a millisecond a reading.
-pub(crate) fn called_alone<T: Threads + Wait + Sync, N: Link>(
+/// The same of a call that nobody comes to, at a clock that goes on by a millisecond a reading.
+pub fn called_alone<T: Threads + Wait + Sync, N: Link>(
     threads: &T,
     alloc: Global,
     words: &[&str],
@@ -220,7 +217,7 @@ pub(crate) fn called_alone<T: Threads + Wait + Sync, N: Link>(
     input: &mut MemSource,
     output: &mut MemSink,
     link: &mut N,
-) -> Result<(u8, MemDisk), Fail> {
+) -> Result<(u8, MemDisk), CallFault> {
     let clock = StepClock::new(0, 1);
     let access = Access::unlocked(alloc);
     let mut doors: Vec<NoDoor> = Vec::new(alloc);
@@ -250,16 +247,16 @@ fn call_top_alone<N: Link>(
     ended
 }
 
-// Makes a call without a server over this script and a disk with these bytes that fails at these calls;
-// its status, and that disk as it leaves it.
-pub(crate) fn ran_over<N: Link>(
+/// Makes a call without a server over this script and a disk with these bytes that fails at these calls;
+/// its status, and that disk as it leaves it.
+pub fn ran_over<N: Link>(
     alloc: Global,
     words: &[&str],
     disk: (&[u8], &[u64]),
     script: &str,
     output: &mut MemSink,
     link: &mut N,
-) -> Result<(u8, MemDisk), Fail> {
+) -> Result<(u8, MemDisk), CallFault> {
     let (disk_a, disk_b) = disks_of(alloc, disk)?;
     match source_of(alloc, script.as_bytes(), 7, &[]) {
         Ok(mut input) => {
@@ -269,21 +266,21 @@ pub(crate) fn ran_over<N: Link>(
             drop(input);
             Ok((status, first_of(disk_a, disk_b)?))
         }
-        Err(fail) => {
+        Err(fault) => {
             drop(disk_a);
             drop(disk_b);
-            Err(fail)
+            Err(fault)
         }
     }
 }
 
-// The same of a call that asks no server.
-pub(crate) fn ran(
+/// The same of a call that asks no server.
+pub fn ran(
     alloc: Global,
     words: &[&str],
     disk: (&[u8], &[u64]),
     script: &str,
     output: &mut MemSink,
-) -> Result<(u8, MemDisk), Fail> {
+) -> Result<(u8, MemDisk), CallFault> {
     ran_over(alloc, words, disk, script, output, &mut NoLink::new())
 }

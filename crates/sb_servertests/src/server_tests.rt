@@ -1,9 +1,8 @@
 // Servers over doors in memory: what their connections are given, and how a call ends.
 ghost use Rattle.std.specs.Prelude.{◌≤◌};
 
-use crate::calls::{called, sink_of};
-use crate::tests::ONE_EVENT;
 use sb_app::NoWatcher;
+use sb_calls::{ONE_EVENT, called, sink_of};
 use sb_model::{Rows, Text};
 use sb_outside::{MemConn, MemDoor, MemSink, MemSource, NoLink, StepClock};
 use sb_rest::Access;
@@ -218,9 +217,9 @@ fn connection(
     let source = MemSource::new(bytes, piece, Vec::new(alloc));
     match sink_of(alloc, 4096, &[]) {
         Ok(sink) => Ok(paced(source, sink, pace)),
-        Err(fail) => {
+        Err(fault) => {
             drop(source);
-            Err(fail)
+            Err(fault.into())
         }
     }
 }
@@ -569,7 +568,7 @@ fn stop_at<T: Threads + Wait + Sync>(
             drop(output);
             stop
         }
-        Err(fail) => Err(fail),
+        Err(fault) => Err(fault.into()),
     };
     drop(doors);
     stop

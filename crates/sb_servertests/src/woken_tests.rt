@@ -1,9 +1,8 @@
 // A receive that waits is asked again when a message comes for its entity, and by no other message.
-use crate::calls::{called_in, sink_of, source_of};
 use crate::server_tests::SERVE;
-use crate::tests::ONE_EVENT;
 use crate::waiting_tests::{RECEIVE, SEND, Single, Still, door, is_given};
 use sb_app::NoWatcher;
+use sb_calls::{ONE_EVENT, called_in, sink_of, source_of};
 use sb_outside::{Clock, Lobby, MemSink, NoLink};
 use sb_rest::Access;
 use std::sync::Wait;

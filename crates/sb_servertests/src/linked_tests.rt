@@ -7,9 +7,8 @@ ghost use Rattle.sb_desk.specs.Desks.{IsOf, IsNew};
 ghost use Rattle.sb_desk.specs.Entries.{made_by};
 ghost use Rattle.sb_desk.specs.Lists.{Each, IsEnd};
 
-use crate::calls::{connection_of, disks_of, doors_of, ran_over, sink_of};
 use crate::server_tests::{SERVE, served};
-use crate::tests::{ONE_EVENT, SALT};
+use sb_calls::{ONE_EVENT, SALT, connection_of, disks_of, doors_of, ran_over, sink_of};
 use sb_desk::{Desk, NewFault, Pass, Report, Served};
 use sb_lines::{Form, read_line, reply_line};
 use sb_machine::{Answer, TimedCall};
@@ -46,7 +45,7 @@ fn put_connections(alloc: Global, connections: &mut Vec<MemConn>) -> Result<(), 
 fn door(alloc: Global) -> Result<Vec<MemDoor>, Fail> {
     let mut connections = Vec::new(alloc);
     match put_connections(alloc, &mut connections) {
-        Ok(()) => doors_of(alloc, connections),
+        Ok(()) => Ok(doors_of(alloc, connections)?),
         Err(fail) => {
             drop(connections);
             Err(fail)
@@ -67,7 +66,7 @@ fn serves<T: Threads + Wait + Sync>(
             drop(output);
             status
         }
-        Err(fail) => Err(fail),
+        Err(fault) => Err(fault.into()),
     };
     drop(access);
     let _status = tried?;

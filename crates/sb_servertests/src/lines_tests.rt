@@ -1,7 +1,6 @@
 // Bodies of several script lines through a server in memory: the responses to the byte, and which calls were made.
-use crate::calls::{connection_of, doors_of, sink_of};
 use crate::server_tests::{SERVE, served};
-use crate::tests::ONE_EVENT;
+use sb_calls::{ONE_EVENT, connection_of, doors_of, sink_of};
 use sb_outside::{MemDoor, MemSink};
 use sb_rest::Access;
 use std::alloc::{AllocError, Global};
@@ -191,7 +190,7 @@ impl Outcome {
 // A door whose connection makes a request.
 fn door(alloc: Global, request: &str) -> Result<Vec<MemDoor>, Fail> {
     let conn = connection_of(alloc, request.as_bytes(), 4096)?;
-    doors_of(alloc, vec![in alloc; conn]?)
+    Ok(doors_of(alloc, vec![in alloc; conn]?)?)
 }
 
 // Serves these doors over a disk that fails at these calls, and gives the status.

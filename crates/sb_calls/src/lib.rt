@@ -1,0 +1,20 @@
+//! Whole calls of the program over disks, streams and doors in memory, as the tests of the crates above make
+//! them: what a call is made over is made here and lent to it, and what it leaves comes back.
+//!
+//! ```text
+//! let mut output = sink_of(alloc, 4096, &[])?;
+//! let (status, disk) = ran(alloc, &["run", "--data", "."], (&ONE_EVENT, &[]), script, &mut output)?;
+//! let left = bytes_of(alloc, disk)?;
+//! ```
+#![tactic(auto)]
+
+mod calls;
+mod fault;
+mod journals;
+
+pub use calls::{
+    bytes_of, called, called_alone, called_in, connection_of, disks_of, doors_of, ran, ran_over,
+    sink_of, source_of,
+};
+pub use fault::CallFault;
+pub use journals::{ONE_EVENT, SALT};

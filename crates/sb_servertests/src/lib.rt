@@ -1,0 +1,21 @@
+//! Whole calls of the program that serve, over doors in memory whose callers wait, are slow or leave: what each
+//! connection is given, and how a call ends, worked out by hand. What no contract says is that memory is
+//! there, that somebody is served, and that who waits is woken.
+#![tactic(auto)]
+
+#[cfg(test)]
+mod limits_tests;
+#[cfg(test)]
+mod lines_tests;
+#[cfg(test)]
+mod linked_tests;
+#[cfg(test)]
+mod patient_lines_tests;
+#[cfg(test)]
+mod server_tests;
+#[cfg(test)]
+mod sharing_tests;
+#[cfg(test)]
+mod waiting_tests;
+#[cfg(test)]
+mod woken_tests;
