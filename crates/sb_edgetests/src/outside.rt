@@ -1,9 +1,9 @@
 // What no contract says: that memory is found, and what a real file does. Each object is dropped by a call: so the
 // proofs of the tests stay short.
 use sb_outside::{
-    Bytes, Clock, Conn, Connected, Disk, DiskFault, MemConn, MemDisk, MemSink, MemSource, NoConn,
-    Reading, Sink, Source, StepClock, SystemClock, WriteFault, Writing, open_disk, sync_folder,
-    write_all,
+    Bytes, Clock, Conn, Connected, Disk, DiskFault, LONGEST_DISK, MemConn, MemDisk, MemSink,
+    MemSource, NoConn, Reading, Sink, Source, StepClock, SystemClock, WriteFault, Writing,
+    open_disk, sync_folder, write_all,
 };
 use std::alloc::Global;
 use std::fs;
@@ -110,6 +110,22 @@ fn a_file_runs_ahead(rt: HostRuntime) -> Result<(), Fail> {
     assert_eq!(rt; piece[23], 9);
     assert!(rt; ahead == Some(143 + 65_536));
     assert!(rt; closed == Some(143));
+    Ok(())
+}
+
+// One of which a call has failed keeps its zeros as it is closed.
+#[test]
+fn a_failed_file_is_left(rt: HostRuntime) -> Result<(), Fail> {
+    let name = "sb_outside_failed.journal";
+    let mut file = open_disk(&rt, rt.alloc(), String::from_str(rt.alloc(), name)?, rt)?;
+    let written = run_ahead(&mut file);
+    let past_limit = file.write_at(LONGEST_DISK, b"a");
+    file.close();
+    let closed = length_at(rt, name);
+    fs::remove_file(&rt, name)?;
+    assert!(rt; written == Ok(143));
+    assert!(rt; past_limit == Err(DiskFault));
+    assert!(rt; closed == Some(143 + 65_536));
     Ok(())
 }
 
