@@ -3,17 +3,18 @@ use Rattle.std.proofs.Common.{◌≡◌, ℕ, ◌+◌, ◌-◌, ◌≤◌, List,
 use Rattle.std.proofs.lemmas.List.{take-append-drop, drop-take, drop-drop, length-take-le}
 use Rattle.httparse.proofs.RunLemmas.{length-slice_range}
 use Rattle.sb_outside.specs.Streams.{Consumes, Ends, Stays}
-use Rattle.sb_http.specs.Causes.{HasNone, Refuses}
+use Rattle.sb_http.specs.Causes.{HasNone, Refuses, IsCaused}
 use Rattle.sb_http.specs.Messages.{RequestMessage}
 use Rattle.sb_http.specs.Said.{said_by, reply_of}
 use Rattle.sb_http.specs.Stages.{Left, ReadsAt, Continues}
-use Rattle.sb_http.specs.Streams.{Requests, Pending, NextAnswers, AnswersAt, FeedGoesOn}
+use Rattle.sb_http.specs.Streams.{Requests, Pending, NextAnswers, AnswersAt, FeedGoesOn, IsReady, IsReadyAt}
 use Rattle.sb_http.specs.declared.fault.HttpFault.{HttpFault}
 use Rattle.sb_http.specs.declared.request.Request.{Request}
 use Rattle.sb_server.specs.declared.came.Filled.{Filled}
 use Rattle.sb_server.specs.declared.came.Filled.TheVariants.{Over as Done}
 use Rattle.sb_server.specs.declared.ending.Ending.TheVariants.{Closed, Truncated, ReadFault}
 use Rattle.sb_server.specs.declared.inbox.Inbox.{Inbox}
+use Rattle.sb_server.specs.Readers.{HasAnswer}
 use Rattle.sb_server.specs.Reads.{Stand, and_before, stand_of, HasRead, Takes, IsDone, WaitsForMore, GoesOnBy, FillsWith, Fills, IfOver, EndsWith, has_ended, IsGone}
 
 -- ---- what the reader answers
@@ -51,6 +52,14 @@ took_fault old new r fault is x = by old.fault (subst (λ (q : Result (Option Re
     by : (o : Option HttpFault) → AnswersAt o old.left (Err fault) new → GoesOnBy old.left [] new.left × Refuses fault new.left
     by (Some f) y = (stays new.left y.2, subst (λ (g : HttpFault). Refuses g new.left) (sym (fault_same fault f y.0)) y.3)
     by None y = (y.2, y.0.1)
+
+-- a request that is whole is to be answered, and a fault that was met has its cause
+pub has_answer : (p : Pending) → IsCaused p.fault p.left → IsReady p → HasAnswer p.left
+has_answer p caused ready = by p.fault caused ready
+  where
+    by : (o : Option HttpFault) → IsCaused o p.left → IsReadyAt o p.left → HasAnswer p.left
+    by (Some fault) c r = inr (fault, c)
+    by None c r = inl r
 
 -- ---- a piece and its parts
 

@@ -24,7 +24,6 @@ use Rattle.sb_rest.specs.declared.call.Wanted.{Wanted}
 use Rattle.sb_server.specs.declared.ask.Ask.{Ask}
 use Rattle.sb_server.specs.declared.ask.Asker.{Asker}
 use Rattle.sb_server.specs.declared.ask.Ask.TheVariants.{Once, Patient, Line, BadLine, Lines, Fault}
-use Rattle.sb_server.specs.declared.ask.Waiter.{Waiter}
 use Rattle.sb_server.specs.declared.ask.Waiter.TheVariants.{ByRest, ByLine}
 use Rattle.sb_server.specs.Bodies.{has_lines, line_in, lines_in, IsLineInOrder}
 

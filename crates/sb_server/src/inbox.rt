@@ -1,5 +1,5 @@
 // What comes in: pieces of bytes, and requests out of them.
-ghost use Rattle.std.specs.Prelude.{◌≡◌, ◌≤◌, ◌-◌, [], Option, List, ℕ, length, slice_range, IfOk, true};
+ghost use Rattle.std.specs.Prelude.{◌≡◌, ◌≤◌, ◌<◌, ◌-◌, [], Option, List, ℕ, length, slice_range, IfOk, OnOk, true};
 
 use crate::came::{Came, Filled, Took, has_ended, take_one};
 use crate::ending::Ending;
@@ -44,6 +44,7 @@ fn part_of(buf: &Vec<u8>, from: usize, to: usize) -> &[u8]
 
 impl Inbox {
     ghost use Rattle.sb_http.specs.Streams.{Requests};
+    ghost use Rattle.sb_server.specs.Readers.{HasAnswer};
     ghost use Rattle.sb_server.specs.Reads.{Takes, Fills, EndsWith, IfOver, Comes, IsGone, stand_of};
 
     /// Nothing has come yet.
@@ -82,9 +83,9 @@ impl Inbox {
                 Took::NoneYet => {}
             }
             if self.at < self.end {
-                if !self.feed_piece(alloc) {
+                let Ok(()) = self.feed_piece(alloc) else {
                     return Came::NoMemory;
-                }
+                };
                 continue;
             }
             match self.fill(conn) {
@@ -97,15 +98,14 @@ impl Inbox {
     }
 
     // Feeds the reader some of the piece, if there is memory for it.
-    fn feed_piece(&mut self, alloc: Global) -> bool
-        ensures { (left : Option (List ℕ)) → Takes (stand_of self.old left) [] (stand_of self.new left) }
+    fn feed_piece(&mut self, alloc: Global) -> Result<(), AllocError>
+        ensures takes { (left : Option (List ℕ)) → Takes (stand_of self.old left) [] (stand_of self.new left) }
+        ensures full { OnOk result (self.old.at < self.old.end → self.new.at ≡ self.old.at → HasAnswer self.new.incoming.left) }
     {
         let piece = part_of(&self.piece, self.at, self.end);
-        let Some(count) = self.incoming.feed(alloc, piece) else {
-            return false;
-        };
+        let count = self.incoming.feed(alloc, piece)?;
         self.at += count;
-        true
+        Ok(())
     }
 
     /// Whether the reader has memory.
@@ -130,7 +130,7 @@ impl Inbox {
         ensures writes { N.writes conn.new ≡ N.writes conn.old }
     {
         if self.at < self.end {
-            self.feed_piece(alloc);
+            let _ = self.feed_piece(alloc);
             return false;
         }
         let filled = self.fill(conn);

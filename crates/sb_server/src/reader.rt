@@ -1,6 +1,6 @@
 // The bytes that came of a connection and weren't taken yet.
 use sb_http::Incoming;
-use std::alloc::Global;
+use std::alloc::{AllocError, Global};
 use std::marker::Model;
 
 /// What came and wasn't taken yet. It has memory only while something came, or may come soon.
@@ -18,9 +18,10 @@ impl Model for Reader {
 }
 
 impl Reader {
-    ghost use Rattle.std.specs.Prelude.{◌≡◌, ◌≤◌, [], length, take, IfSome, IfNone};
+    ghost use Rattle.std.specs.Prelude.{◌≡◌, ◌≤◌, ◌<◌, [], length, take, IfOk, OnErr};
     ghost use Rattle.sb_http.specs.Stages.{whole, held};
     ghost use Rattle.sb_http.specs.Streams.{Requests, FeedGoesOn};
+    ghost use Rattle.sb_server.specs.Readers.{HasAnswer};
 
     /// Nothing has come yet, and there is no memory.
     pub(crate) fn new() -> Reader
@@ -46,22 +47,21 @@ impl Reader {
         self.incoming.is_some()
     }
 
-    /// Puts as much of a piece behind what is left as there is room for, and says how much; none where there
-    /// is no memory, and none to be had.
-    pub(crate) fn feed(&mut self, alloc: Global, piece: &[u8]) -> Option<usize>
-        ensures none { IfNone result (self.new ≡ self.old) }
-        ensures within { IfSome result (λ n. n ≤ length piece.now) }
-        ensures goes { IfSome result (λ n. FeedGoesOn self.old.left (take n piece.now) self.new.left) }
+    /// Puts as much of a piece behind what is left as there is room for, and says how much; nothing of it only where
+    /// a request or a fault is to be taken first. An error where it has no memory yet, and none is to be had.
+    pub(crate) fn feed(&mut self, alloc: Global, piece: &[u8]) -> Result<usize, AllocError>
+        ensures err { OnErr result (self.new ≡ self.old) }
+        ensures within { IfOk result (λ n. n ≤ length piece.now) }
+        ensures goes { IfOk result (λ n. FeedGoesOn self.old.left (take n piece.now) self.new.left) }
+        ensures full { IfOk result (λ n. n ≡ 0 → 0 < length piece.now → HasAnswer self.new.left) }
     {
         if let Some(incoming) = &mut self.incoming {
-            return Some(incoming.feed(piece));
+            return Ok(incoming.feed(piece));
         }
-        let Ok(mut incoming) = Incoming::new(alloc) else {
-            return None;
-        };
+        let mut incoming = Incoming::new(alloc)?;
         let count = incoming.feed(piece);
         self.incoming = Some(incoming);
-        Some(count)
+        Ok(count)
     }
 
     /// Gives the memory back, where nothing is left.
