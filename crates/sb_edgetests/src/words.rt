@@ -64,7 +64,20 @@ fn says_what_is_wrong(rt: HostRuntime) -> Result<(), Fail> {
         ),
         ("client --port=80 --key=", "--key takes the name of a file"),
         ("run --dat a", "unexpected argument '--dat' found"),
-        ("drill", "unrecognized subcommand 'drill'"),
+        ("drll", "unrecognized subcommand 'drll'"),
+        (
+            "drill",
+            "the following required arguments were not provided: <COUNT> <SEED>",
+        ),
+        (
+            "drill 1000001 7",
+            "COUNT takes a number from 0 to 1000000",
+        ),
+        (
+            "drill 5 18446744073709551616",
+            "SEED takes a number from 0 to 18446744073709551615",
+        ),
+        ("drill 5 7 9", "unexpected argument '9' found"),
         (
             "client",
             "the following required arguments were not provided: --port <P>",
@@ -89,6 +102,8 @@ fn helps_with_each_command(rt: HostRuntime) -> Result<(), Fail> {
         ("help serve", "--log"),
         ("help serve", "[default: 60]"),
         ("help serve", "[default: 600]"),
+        ("help drill", "0 to 1000000"),
+        ("drill -h", "Example: bus drill 2000 7"),
         ("--version", "bus 0.1.0"),
     ];
     for (line, wanted) in rows {

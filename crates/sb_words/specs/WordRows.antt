@@ -2,7 +2,7 @@
 use Rattle.std.specs.Prelude.{ℕ, ◌^◌, ◌-◌, List, [], ◌∷◌, codes, Option, None, map, replicate, true}
 use Rattle.clap.specs.Words.{Text}
 use Rattle.sb_words.specs.declared.command.Command.{Command}
-use Rattle.sb_words.specs.declared.command.Command.TheVariants.{Run, Check, Client, Serve}
+use Rattle.sb_words.specs.declared.command.Command.TheVariants.{Run, Check, Client, Serve, Drill}
 use Rattle.sb_words.specs.Words.{Form, form_of}
 
 -- a command over a folder
@@ -62,6 +62,25 @@ abbrev pub others : List (List Text × Form)
 others = (run_with (codes "--max-jump=7"), record (over Run (codes "a")) { max_jump = 7 }) ∷ (check_with (codes "--look"), record (over Check (codes "a")) { look = true })
     ∷ (client_with (codes "--key=k"), record (with_port 80) { key_file = codes "k" }) ∷ (client_with (codes "--patience=7200"), record (with_port 80) { patience = 7200 })
     ∷ (client_with (codes "--patience=1"), record (with_port 80) { patience = 1 }) ∷ []
+
+-- the words of a drill
+abbrev pub drill_with : (count seed : Text) → List Text
+drill_with count seed = codes "drill" ∷ count ∷ seed ∷ []
+
+-- a drill's call
+abbrev pub drilling : (count seed : ℕ) → Form
+drilling count seed = record (form_of Drill) { count = count; seed = seed }
+
+-- words of drills, and the form
+abbrev pub drills : List (List Text × Form)
+drills = (drill_with (codes "0") (codes "7"), drilling 0 7) ∷ (drill_with (codes "2000") (codes "0"), drilling 2000 0)
+    ∷ (drill_with (codes "1000000") (codes "18446744073709551615"), drilling 1000000 (2 ^ 64 - 1)) ∷ (drill_with (codes "1") (codes "18446744073709551614"), drilling 1 (2 ^ 64 - 2)) ∷ []
+
+-- a drill with no seed, one with a word too many, and numbers that are out of range, written with a 0 first or none
+abbrev pub no_drills : List (List Text)
+no_drills = (codes "drill" ∷ codes "5" ∷ []) ∷ (codes "drill" ∷ codes "5" ∷ codes "7" ∷ codes "9" ∷ []) ∷ drill_with (codes "1000001") (codes "7") ∷ drill_with (codes "05") (codes "7")
+    ∷ drill_with (codes "5") (codes "07") ∷ drill_with (codes "5") (codes "18446744073709551616") ∷ drill_with (codes "5") (codes "99999999999999999999") ∷ drill_with (codes "-1") (codes "7")
+    ∷ drill_with (codes "") (codes "7") ∷ drill_with (codes "x") (codes "7") ∷ drill_with (codes "5") (codes "+7") ∷ (codes "drill" ∷ codes "--data=a" ∷ codes "5" ∷ codes "7" ∷ []) ∷ []
 
 -- words that are no form
 abbrev pub no_forms : List (List Text)

@@ -8,7 +8,7 @@ use Rattle.clap.specs.declared.error.kind.ErrorKind.{ErrorKind}
 use Rattle.clap.specs.declared.error.kind.ErrorKind.TheVariants.{DisplayHelp, DisplayVersion}
 use Rattle.sb_http.specs.Fields.{is_number, number_of}
 use Rattle.sb_words.specs.declared.command.Command.{Command}
-use Rattle.sb_words.specs.declared.command.Command.TheVariants.{Run, Check, Client, Serve}
+use Rattle.sb_words.specs.declared.command.Command.TheVariants.{Run, Check, Client, Serve, Drill}
 use Rattle.sb_words.specs.declared.command.Form.{Form as ReadForm}
 
 -- ---- the command line
@@ -24,6 +24,10 @@ port_option = record (new_rule (codes "port")) { long = Some (codes "port"); val
 -- an option with a value, which needn't be there
 abbrev pub value_option : Text → Rule
 value_option name = record (new_rule name) { long = Some name; value_names = 1 }
+
+-- a word of its own, which has to be there
+abbrev pub argument : Text → Rule
+argument name = record (new_rule name) { value_names = 1; required = true }
 
 -- an option with a value, which may be there several times
 abbrev pub list_option : Text → Rule
@@ -65,13 +69,17 @@ timed_server = with_rule (with_rule limited_server (value_option (codes "request
 abbrev pub serve_command : Shape
 serve_command = (with_rule (with_rule timed_server (list_option (codes "host"))) (value_option (codes "key"))).top
 
+-- `drill`, with the number of its calls and its seed
+abbrev pub drill_command : Shape
+drill_command = (with_rule (with_rule (new_app (codes "drill")) (argument (codes "count"))) (argument (codes "seed"))).top
+
 -- the commands over a folder
 abbrev pub folder_commands : App
 folder_commands = with_subcommand (with_subcommand bus run_command) check_command
 
 -- all commands
 abbrev pub program : App
-program = with_subcommand (with_subcommand folder_commands client_command) serve_command
+program = with_subcommand (with_subcommand (with_subcommand folder_commands client_command) serve_command) drill_command
 
 -- ---- the forms
 
@@ -91,6 +99,8 @@ pub record Form : Type 0 where
   pub patience : ℕ
   pub look : Bool
   pub log : Bool
+  pub count : ℕ
+  pub seed : ℕ
 
 -- the form that was read
 abbrev pub form_value : ReadForm → Form
@@ -109,6 +119,8 @@ form_value f = record {
   patience = f.patience;
   look = f.look;
   log = f.log;
+  count = f.count;
+  seed = f.seed;
 }
 
 -- the form of a command that names nothing beside it
@@ -128,6 +140,8 @@ form_of command = record {
   patience = 0;
   look = false;
   log = false;
+  count = 0;
+  seed = 0;
 }
 
 -- the command of each name
@@ -135,7 +149,8 @@ abbrev pub command_named : Text → Option Command
 command_named word = if bytes_eq word (codes "run") then Some Run
     else (if bytes_eq word (codes "check") then Some Check
     else (if bytes_eq word (codes "client") then Some Client
-    else (if bytes_eq word (codes "serve") then Some Serve else None)))
+    else (if bytes_eq word (codes "serve") then Some Serve
+    else (if bytes_eq word (codes "drill") then Some Drill else None))))
 
 -- ---- the values of the options
 
@@ -188,6 +203,17 @@ abbrev pub patience_by : Option Text → Option ℕ
 patience_by None = Some 120
 patience_by (Some word) = number_within 7200 word
 
+-- how many calls a drill makes, 0 to 1,000,000, which has to be there
+abbrev pub count_by : Option Text → Option ℕ
+count_by None = None
+count_by (Some word) = number_to 1000000 word
+
+-- what they are drawn from, 0 to 2^64 - 1, which has to be there; the greatest is told by its digits, since `number_of` lowers what is above
+-- it to that
+abbrev pub seed_by : Option Text → Option ℕ
+seed_by None = None
+seed_by (Some word) = if bytes_eq word (codes "18446744073709551615") then Some (2 ^ 64 - 1) else number_to (2 ^ 64 - 2) word
+
 -- a visible character of ASCII
 abbrev pub is_visible : ℕ → Bool
 is_visible b = nat_le 33 b && nat_le b 126
@@ -232,6 +258,11 @@ check_at (Some folder) look = Some (record (form_of Check) { folder = folder; lo
 abbrev pub client_at : Option ℕ → Option Text → Option ℕ → Option Form
 client_at (Some port) (Some key_file) (Some patience) = Some (record (form_of Client) { port = port; key_file = key_file; patience = patience })
 client_at _ _ _ = None
+
+-- a drill, where both values are there
+abbrev pub drill_at : (count seed : Option ℕ) → Option Form
+drill_at (Some count) (Some seed) = Some (record (form_of Drill) { count = count; seed = seed })
+drill_at _ _ = None
 
 -- the limits of time, in a form that is there
 abbrev pub with_times : Option Form → (request_time idle_time : Option ℕ) → Option Form
@@ -282,6 +313,10 @@ timed_server_in rows = with_times (open_server_in rows) (seconds_by 60 (first_of
 abbrev pub serve_in : List Row → Option Form
 serve_in rows = with_threads (with_log (with_callers (timed_server_in rows) (hosts_by (all_of (codes "host") rows)) (key_by (first_of (codes "key") rows))) (flag_by (first_of (codes "log") rows))) (threads_by (first_of (codes "threads") rows))
 
+-- a drill by what was found for its two words
+abbrev pub drill_in : List Row → Option Form
+drill_in rows = drill_at (count_by (first_of (codes "count") rows)) (seed_by (first_of (codes "seed") rows))
+
 -- the form of a command, by its options
 abbrev pub form_by : Option Command → List Row → Option Form
 form_by None rows = None
@@ -289,6 +324,7 @@ form_by (Some Run) rows = run_in rows
 form_by (Some Check) rows = check_in rows
 form_by (Some Client) rows = client_in rows
 form_by (Some Serve) rows = serve_in rows
+form_by (Some Drill) rows = drill_in rows
 
 -- a command's name, and what was found for its options
 abbrev pub form_at : Option (Text × List Row) → Option Form
@@ -352,6 +388,24 @@ look_of (Some form) = form.look
 -- a check is to write nothing, as they name it; false where they are no form
 abbrev pub look_in : List Text → Bool
 look_in words = look_of (form_in words)
+
+-- how many calls a form has a drill make, if there is one
+abbrev pub count_of : Option Form → ℕ
+count_of None = 0
+count_of (Some form) = form.count
+
+-- how many calls a drill makes, as they name it; 0 where they are no form
+abbrev pub count_in : List Text → ℕ
+count_in words = count_of (form_in words)
+
+-- what a form has them drawn from, if there is one
+abbrev pub seed_of : Option Form → ℕ
+seed_of None = 0
+seed_of (Some form) = form.seed
+
+-- the same, as they name it; 0 where they are no form
+abbrev pub seed_in : List Text → ℕ
+seed_in words = seed_of (form_in words)
 
 -- ---- help and the version
 

@@ -10,6 +10,8 @@ pub enum Command {
     Client,
     /// Answer the requests of connections.
     Serve,
+    /// Try generated calls on an empty namespace in memory.
+    Drill,
 }
 
 /// What a form of the words names. Where the command has no such option a number is 0, a text or a
@@ -47,6 +49,10 @@ pub struct Form<'w> {
     pub look: bool,
     /// A server is to tell each call on standard error.
     pub log: bool,
+    /// How many calls a drill makes behind its setup, up to 1,000,000.
+    pub count: u32,
+    /// What they are drawn from.
+    pub seed: u64,
 }
 
 /// Why there is no form.

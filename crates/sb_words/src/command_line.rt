@@ -28,7 +28,11 @@ fn command_line<'a>(alloc: Global) -> Result<clap::Command<'a>, AllocError>
     let commands = folder_commands(alloc)?;
     let client = client_command(alloc)?;
     let serve = serve_command(alloc)?;
-    commands.subcommand(client)?.subcommand(serve)
+    let drill = drill_command(alloc)?;
+    commands
+        .subcommand(client)?
+        .subcommand(serve)?
+        .subcommand(drill)
 }
 
 // The commands over a folder alone.
@@ -213,6 +217,29 @@ fn plain_server<'a>(alloc: Global) -> Result<clap::Command<'a>, AllocError>
         .arg(threads)
 }
 
+fn drill_command<'a>(alloc: Global) -> Result<clap::Command<'a>, AllocError>
+    ensures shape { IfOk result (λ c. shape_of c ≡ line.drill_command) }
+    ensures local { IfOk result (λ c. (fields_of c).has_globals ≡ false) }
+{
+    let count = argument(
+        alloc,
+        "count",
+        "COUNT",
+        "How many calls to make behind the five that set the namespace up: 0 to 1000000",
+    );
+    let seed = argument(
+        alloc,
+        "seed",
+        "SEED",
+        "What the calls are drawn from: 0 to 18446744073709551615; the same seed asks the same",
+    );
+    let about = "Try generated calls on an empty namespace in memory, and tell their counts";
+    let example = "Example: bus drill 2000 7";
+    described(alloc, "drill", about, example)
+        .arg(count)?
+        .arg(seed)
+}
+
 fn data_option<'a>(alloc: Global) -> Arg<'a>
     ensures rule { rule_of result ≡ line.data_option }
     ensures local { result.global ≡ false }
@@ -245,6 +272,17 @@ fn key_option<'a>(alloc: Global) -> Arg<'a>
         "FILE",
         "The file whose first line is the key that requests show: 16 to 256 visible characters [default: no key]",
     )
+}
+
+// A word of its own, which has to be there.
+fn argument<'a>(alloc: Global, name: &'a str, value: &'a str, help: &'a str) -> Arg<'a>
+    ensures rule { rule_of result ≡ line.argument name.entry.now }
+    ensures local { result.global ≡ false }
+{
+    Arg::new(alloc, name)
+        .value_name(value)
+        .required(true)
+        .help(help)
 }
 
 // An option with a value, which needn't be there.

@@ -5,8 +5,8 @@ ghost use Rattle.sb_words.specs.Words.{form_in};
 use crate::command::{Command, WordsFault};
 use crate::command_line::parsed;
 use crate::words::{
-    command_of, connections_of, hosts_of, key_of, max_jump_of, patience_of, port_of, read_form,
-    seconds_of, threads_of, word_of, words_of, workers_of,
+    command_of, connections_of, count_of, hosts_of, key_of, max_jump_of, patience_of, port_of,
+    read_form, seconds_of, threads_of, word_of, words_of, workers_of,
 };
 use clap::ArgMatches;
 use std::alloc::{AllocError, Global};
@@ -58,6 +58,7 @@ fn range_text(matches: &ArgMatches) -> &'static str {
         Some(Command::Run) => JUMP_RANGE,
         Some(Command::Client) => client_range(options),
         Some(Command::Serve) => serve_range(options),
+        Some(Command::Drill) => drill_range(options),
         Some(Command::Check) | None => NO_COMMAND,
     }
 }
@@ -94,6 +95,14 @@ fn serve_range(options: &ArgMatches) -> &'static str {
     }
 }
 
+fn drill_range(options: &ArgMatches) -> &'static str {
+    if count_of(word_of(options, "count")).is_none() {
+        COUNT_RANGE
+    } else {
+        SEED_RANGE
+    }
+}
+
 const NO_COMMAND: &str = "no command is named";
 
 const PORT_RANGE: &str = "--port takes a number from 1 to 65535";
@@ -115,3 +124,7 @@ const HOST_RANGE: &str = "--host takes names of 1 to 255 visible characters, up 
 const KEY_RANGE: &str = "--key takes the name of a file";
 
 const PATIENCE_RANGE: &str = "--patience takes a number from 1 to 7200";
+
+const COUNT_RANGE: &str = "COUNT takes a number from 0 to 1000000";
+
+const SEED_RANGE: &str = "SEED takes a number from 0 to 18446744073709551615";

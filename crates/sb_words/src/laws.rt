@@ -1,7 +1,7 @@
 // What some words are, worked out by hand.
 ghost use Rattle.std.specs.Prelude.{◌≡◌, ◌∷◌, ◌++◌, [], List, ℕ, codes, Some, map};
 ghost use Rattle.sb_words.specs.Words.{form_in};
-ghost use Rattle.sb_words.specs.WordRows.{callers, no_callers, no_forms, no_others, no_servers, no_sharers, nones, others, over, serve_with, servers, sharers, tellers, with_port};
+ghost use Rattle.sb_words.specs.WordRows.{callers, drills, no_callers, no_drills, no_forms, no_others, no_servers, no_sharers, nones, others, over, serve_with, servers, sharers, tellers, with_port};
 
 use crate::command::Command;
 
@@ -29,4 +29,10 @@ pub fn worked_options()
 pub fn worked_threads()
     ensures sharers { map (λ row. form_in (serve_with row.0)) sharers ≡ map (λ row. Some row.1) sharers }
     ensures no_sharer { map form_in no_sharers ≡ nones no_sharers }
+{}
+
+/// The words of a drill.
+pub fn worked_drills()
+    ensures drills { map (λ row. form_in row.0) drills ≡ map (λ row. Some row.1) drills }
+    ensures no_drill { map form_in no_drills ≡ nones no_drills }
 {}

@@ -53,6 +53,12 @@ const MAX_PATIENCE: u64 = 7_200;
 /// The seconds of patience where words name no number.
 const DEFAULT_PATIENCE: u16 = 120;
 
+/// The most calls that words may have a drill make.
+const MAX_COUNT: u64 = 1_000_000;
+
+/// The greatest seed, as it is written.
+const GREATEST_SEED: &str = "18446744073709551615";
+
 /// The most names of hosts that words may list.
 const MAX_HOSTS: usize = 8;
 
@@ -141,6 +147,7 @@ fn form_of<'w>(
         Command::Check => Ok(check_form(alloc, options)),
         Command::Client => Ok(client_form(alloc, options)),
         Command::Serve => serve_form(alloc, options),
+        Command::Drill => Ok(drill_form(alloc, options)),
     }
 }
 
@@ -155,6 +162,8 @@ pub(crate) fn command_of(word: &str) -> Option<Command>
         Some(Command::Client)
     } else if word == "serve" {
         Some(Command::Serve)
+    } else if word == "drill" {
+        Some(Command::Drill)
     } else {
         None
     }
@@ -179,6 +188,8 @@ fn form_with<'w>(alloc: Global, command: Command) -> Form<'w>
         patience: 0,
         look: false,
         log: false,
+        count: 0,
+        seed: 0,
     }
 }
 
@@ -251,6 +262,22 @@ fn serve_form<'w>(alloc: Global, options: &ArgMatches<'w>) -> Result<Option<Form
     form.log = flag_of(word_of(options, "log"));
     form.threads = threads;
     Ok(Some(form))
+}
+
+fn drill_form<'w>(alloc: Global, options: &ArgMatches<'w>) -> Option<Form<'w>>
+    ensures { option_map form_value result ≡ line.drill_in (rows_of (found_of options.now)) }
+{
+    let Some(count) = count_of(word_of(options, "count")) else {
+        return None;
+    };
+    let Some(seed) = seed_of(word_of(options, "seed")) else {
+        return None;
+    };
+    Some(Form {
+        count,
+        seed,
+        ..form_with(alloc, Command::Drill)
+    })
 }
 
 // The form of a server without the rules of who may call it, with its limits of time.
@@ -393,6 +420,31 @@ pub(crate) fn patience_of(word: Option<&str>) -> Option<u16>
         return None;
     };
     Some(seconds as u16)
+}
+
+pub(crate) fn count_of(word: Option<&str>) -> Option<u32>
+    ensures { result ≡ line.count_by (option_map (λ w. w.now) word.entry) }
+{
+    let Some(word) = word else {
+        return None;
+    };
+    let Some(count) = number_to(word, MAX_COUNT) else {
+        return None;
+    };
+    Some(count as u32)
+}
+
+// A number is lowered to the greatest of 64 bits as it is read, so that one is told by its digits.
+pub(crate) fn seed_of(word: Option<&str>) -> Option<u64>
+    ensures { result ≡ line.seed_by (option_map (λ w. w.now) word.entry) }
+{
+    let Some(word) = word else {
+        return None;
+    };
+    if word == GREATEST_SEED {
+        return Some(u64::MAX);
+    }
+    number_to(word, u64::MAX - 1)
 }
 
 pub(crate) fn key_of<'w>(word: Option<&'w str>) -> Option<&'w str>

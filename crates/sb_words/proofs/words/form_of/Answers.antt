@@ -1,7 +1,7 @@
 use Rattle.std.proofs.Common.{◌∙◌, Some, ap, sym}
 use Rattle.clap.specs.Words.{found_of}
 use Rattle.sb_words.proofs.Forms.{form_named, named_or_not}
-use Rattle.sb_words.specs.declared.command.Command.TheVariants.{Run, Check, Client, Serve}
+use Rattle.sb_words.specs.declared.command.Command.TheVariants.{Run, Check, Client, Serve, Drill}
 use Rattle.sb_words.proofs.words.form_of.Goals as goal
 
 pub returns-in-Run : goal.returns-in-Run
@@ -15,3 +15,6 @@ returns-in-Client c = form_named c.args.name.now Client (found_of c.args.options
 
 pub returns-in-Serve : goal.returns-in-Serve
 returns-in-Serve c = named_or_not c.args.name.now Serve (found_of c.args.options.now) c.serve_form.result (ap Some (sym c.in-Serve.is) ∙ c.in-Some.ensures) c.serve_form.ensures
+
+pub returns-in-Drill : goal.returns-in-Drill
+returns-in-Drill c = form_named c.args.name.now Drill (found_of c.args.options.now) _ (ap Some (sym c.in-Drill.is) ∙ c.in-Some.ensures) c.drill_form.ensures
