@@ -1,9 +1,11 @@
 // The journal run on a disk in memory that fails where it is told to. Disks, journals and what was found are
 // dropped by calls, where little else is held: so the proofs of the tests stay short.
+mod bases;
+
 ghost use Rattle.std.specs.Prelude.{◌≡◌, length, false, IfOk};
 ghost use Rattle.sb_journal.specs.Journals.{has_failed};
 
-use sb_journal::{Found, Journal, OpenFault, OpenWhy, Side, create};
+use sb_journal::{Found, Journal, OpenFault, OpenWhy, Side};
 use sb_outside::{Disk, MemDisk};
 use std::alloc::{AllocError, Global};
 use std::process::Abort;
@@ -391,19 +393,5 @@ fn a_group_stops(rt: HostRuntime) -> Result<(), Fail> {
             assert_eq!(rt; count, found_of_three(call, fill));
         }
     }
-    Ok(())
-}
-
-#[test]
-fn makes_a_file_with_a_base(rt: HostRuntime) -> Result<(), Fail> {
-    let mut disk = disk_of(rt.alloc(), &NEW_FILE)?;
-    assert!(rt; create(&mut disk, SALT, 2, 3, b"base").is_ok());
-    let bytes = disk.bytes();
-    assert_eq!(rt; bytes.len(), 47);
-    assert_eq!(rt;
-        &bytes[34..],
-        [0, 0, 0, 0, 0, 0, 0, 4, b'b', b'a', b's', b'e', 0].as_slice()
-    );
-    drop(disk);
     Ok(())
 }
