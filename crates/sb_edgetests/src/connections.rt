@@ -3,6 +3,7 @@
 // lent, and dropped by calls: so the proofs of the tests stay short.
 ghost use Rattle.std.specs.Prelude.{◌≤◌, IfOk};
 
+use crate::asserts::assert_that;
 use sb_outside::{
     Conn, Connected, Door, Given, Listening, Logging, MemConn, MemDoor, MemSink, MemSource,
     asked_words, call_line,
@@ -171,12 +172,13 @@ where
 {
     let (mut conn, mut other) = connected(rt, door, port)?;
     let mut piece = [0u8; 8];
-    assert!(end; other.write_all(b"GET").is_ok());
-    assert!(end; conn.read(&mut piece) == Ok(Some(3)));
-    assert!(end; conn.write(b"bye") == Ok(Some(3)));
-    assert!(end; other.read(&mut piece).is_ok_and(|count| count == 3));
+    assert_that(end, other.write_all(b"GET").is_ok(), "a begin");
+    assert_that(end, conn.read(&mut piece) == Ok(Some(3)), "what is sent");
+    assert_that(end, conn.write(b"bye") == Ok(Some(3)), "a reply is written");
+    let read = other.read(&mut piece);
+    assert_that(end, read.is_ok_and(|count| count == 3), "the reply is read");
     drop(other);
-    assert!(end; conn.read(&mut piece) == Ok(Some(0)));
+    assert_that(end, conn.read(&mut piece) == Ok(Some(0)), "the end");
     door.done(conn);
     Ok(())
 }
@@ -200,11 +202,11 @@ where
     D::Conn: Drop,
 {
     let (mut conn, other) = connected(rt, door, port)?;
-    assert!(end; conn.write(b"unread") == Ok(Some(6)));
+    assert_that(end, conn.write(b"unread") == Ok(Some(6)), "what is sent");
     drop(other);
-    assert!(end; conn.read(&mut [0u8; 8]).is_err());
+    assert_that(end, conn.read(&mut [0u8; 8]).is_err(), "a read behind it");
     let _ = conn.write(b"more");
-    assert!(end; conn.write(b"more").is_err());
+    assert_that(end, conn.write(b"more").is_err(), "a write behind it");
     door.done(conn);
     Ok(())
 }
@@ -321,13 +323,13 @@ where
 {
     let mut conn = next(door)?;
     let mut piece = [0u8; 8];
-    assert!(rt; conn.read(&mut piece) == Ok(Some(2)));
+    assert_that(rt, conn.read(&mut piece) == Ok(Some(2)), "what is sent");
     conn.asked(b"GET", b"/");
     conn.answered(b"HTTP/1.1 200 OK\r\n\r\n");
     conn.answered(b"HTTP/1.1 400 Bad Request\r\n\r\n");
-    assert!(rt; conn.write(b"reply") == Ok(Some(5)));
+    assert_that(rt, conn.write(b"reply") == Ok(Some(5)), "a reply");
     door.done(conn);
-    assert!(rt; is_over(door));
+    assert_that(rt, is_over(door), "no other connection");
     Ok(())
 }
 

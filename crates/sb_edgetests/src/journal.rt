@@ -2,9 +2,11 @@
 // dropped by calls, where little else is held: so the proofs of the tests stay short.
 mod bases;
 
-ghost use Rattle.std.specs.Prelude.{◌≡◌, length, false, IfOk};
+ghost use Rattle.std.specs.Prelude.{◌≡◌, ◌≤◌, length, false, IfOk};
 ghost use Rattle.sb_journal.specs.Journals.{has_failed};
+ghost use Rattle.sb_journal.specs.Text.{max_payload};
 
+use crate::asserts::{assert_is, assert_that};
 use sb_journal::{Found, Journal, OpenFault, OpenWhy, Side};
 use sb_outside::{Disk, MemDisk};
 use std::alloc::{AllocError, Global};
@@ -86,6 +88,32 @@ fn has_payloads(found: &Found, wanted: &[&[u8]]) -> bool {
     found.payloads.len() == wanted.len()
 }
 
+// Appends a payload, which gets this number.
+fn appends(rt: &impl Abort, journal: &mut Journal<MemDisk>, payload: &[u8], number: u64)
+    requires short { length payload.now ≤ max_payload }
+    requires running { has_failed journal.old ≡ false }
+    ensures { has_failed journal.new ≡ false }
+{
+    assert!(rt; journal.append(payload) == Ok(number));
+}
+
+// Stages a payload.
+fn adds(rt: &impl Abort, journal: &mut Journal<MemDisk>, payload: &[u8])
+    requires short { length payload.now ≤ max_payload }
+    requires running { has_failed journal.old ≡ false }
+    ensures { has_failed journal.new ≡ false }
+{
+    assert!(rt; journal.add(payload) == Ok(()));
+}
+
+// Seals what is staged, of which the first gets this number.
+fn seals(rt: &impl Abort, journal: &mut Journal<MemDisk>, first: u64)
+    requires { has_failed journal.old ≡ false }
+    ensures { has_failed journal.new ≡ false }
+{
+    assert!(rt; journal.seal() == Ok(first));
+}
+
 // The first disk of a journal, which is closed.
 fn closed(journal: Journal<MemDisk>) -> MemDisk {
     let (a, b) = journal.close();
@@ -132,11 +160,11 @@ const NEW_FILE: [u8; 43] = [
 // The disks of a new journal with two records.
 fn two_records(rt: &impl Abort, alloc: Global) -> Result<(MemDisk, MemDisk), Fail> {
     let (mut journal, found) = opened(alloc, disk_of(alloc, &[])?, SALT)?;
-    assert!(rt; has_payloads(&found, &[]));
-    assert_eq!(rt; generation_of(found), 1);
-    assert!(rt; journal.append(b"one") == Ok(1));
-    assert!(rt; journal.append(b"") == Ok(2));
-    assert_eq!(rt; journal.faults(), 0);
+    assert_that(rt, has_payloads(&found, &[]), "no payloads yet");
+    assert_is(rt, generation_of(found), 1);
+    appends(rt, &mut journal, b"one", 1);
+    appends(rt, &mut journal, b"", 2);
+    assert_is(rt, journal.faults(), 0);
     Ok(journal.close())
 }
 
@@ -213,10 +241,10 @@ fn long_file(rt: &impl Abort, alloc: Global, long: &[u8]) -> Result<MemDisk, Fai
     requires { length long.now ≡ 900000 }
 {
     let mut journal = journal_on(alloc, disk_of(alloc, &[])?, SALT)?;
-    assert!(rt; journal.append(long) == Ok(1));
-    assert!(rt; journal.append(long) == Ok(2));
-    assert!(rt; journal.append(long) == Ok(3));
-    assert!(rt; journal.append(b"four") == Ok(4));
+    appends(rt, &mut journal, long, 1);
+    appends(rt, &mut journal, long, 2);
+    appends(rt, &mut journal, long, 3);
+    appends(rt, &mut journal, b"four", 4);
     Ok(closed(journal))
 }
 
@@ -330,16 +358,16 @@ fn six_records(rt: &impl Abort, alloc: Global, long: &[u8]) -> Result<(MemDisk, 
     requires { length long.now ≡ 900000 }
 {
     let mut journal = journal_on(alloc, disk_of(alloc, &[])?, SALT)?;
-    assert!(rt; journal.seal() == Ok(1));
-    assert!(rt; journal.add(b"one") == Ok(()));
-    assert!(rt; journal.add(b"") == Ok(()));
-    assert!(rt; journal.seal() == Ok(1));
+    seals(rt, &mut journal, 1);
+    adds(rt, &mut journal, b"one");
+    adds(rt, &mut journal, b"");
+    seals(rt, &mut journal, 1);
     // More than is kept until it is written.
-    assert!(rt; journal.add(long) == Ok(()));
-    assert!(rt; journal.add(long) == Ok(()));
-    assert!(rt; journal.add(b"five") == Ok(()));
-    assert!(rt; journal.seal() == Ok(3));
-    assert!(rt; journal.append(b"six") == Ok(6));
+    adds(rt, &mut journal, long);
+    adds(rt, &mut journal, long);
+    adds(rt, &mut journal, b"five");
+    seals(rt, &mut journal, 3);
+    appends(rt, &mut journal, b"six", 6);
     Ok(journal.close())
 }
 
@@ -360,9 +388,9 @@ fn seals_records_together(rt: HostRuntime) -> Result<(), Fail> {
 // The disk on which the call of this number failed while three records were sealed.
 fn stopped_group(rt: &impl Abort, alloc: Global, call: u64) -> Result<MemDisk, Fail> {
     let mut journal = journal_on(alloc, failing_disk(alloc, call)?, SALT)?;
-    assert!(rt; journal.add(b"one") == Ok(()));
-    assert!(rt; journal.add(b"two") == Ok(()));
-    assert!(rt; journal.add(b"three") == Ok(()));
+    adds(rt, &mut journal, b"one");
+    adds(rt, &mut journal, b"two");
+    adds(rt, &mut journal, b"three");
     assert!(rt; journal.seal().is_err());
     assert_eq!(rt; journal.faults(), 1);
     Ok(closed(journal))

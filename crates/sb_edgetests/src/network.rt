@@ -2,6 +2,7 @@
 // connections are lent, and dropped by calls: so the proofs of the tests stay short.
 ghost use Rattle.std.specs.Prelude.{◌≤◌, IfOk};
 
+use crate::asserts::{assert_is, assert_that};
 use sb_network::{Halls, Place, Queue, files_allowed, limit_in, open_halls, places_within};
 use sb_outside::{Clock, Conn, Door, Given, Lobby, SystemClock};
 use std::io;
@@ -18,15 +19,14 @@ fn files_are_counted(rt: HostRuntime) -> Result<(), Fail> {
     assert!(rt; files_allowed(&rt).unwrap_or(1) > 0);
     let limits =
         "Limit   Soft Limit   Hard Limit   Units\nMax open files            1024                 524288               files     \n";
-    assert_eq!(rt; limit_in(limits), Some(1024));
-    assert_eq!(rt;
-        limit_in("Max open files            unlimited            unlimited            files     "),
-        None
-    );
-    assert_eq!(rt; limit_in("Max processes             7 "), None);
-    assert_eq!(rt; places_within(1024, 1024, 4), 988);
-    assert_eq!(rt; places_within(1060, 1024, 4), 1024);
-    assert_eq!(rt; places_within(3, 1024, 4), 1);
+    assert_is(&rt, limit_in(limits), Some(1024));
+    let unlimited =
+        "Max open files            unlimited            unlimited            files     ";
+    assert_is(&rt, limit_in(unlimited), None);
+    assert_is(&rt, limit_in("Max processes             7 "), None);
+    assert_is(&rt, places_within(1024, 1024, 4), 988);
+    assert_is(&rt, places_within(1060, 1024, 4), 1024);
+    assert_is(&rt, places_within(3, 1024, 4), 1);
     Ok(())
 }
 
@@ -75,6 +75,11 @@ fn finds<N: Conn>(caller: &mut N, room: usize, found: Option<usize>) -> bool
         .is_ok_and(|count| count == found)
 }
 
+// Whether a read gives so many bytes.
+fn has_read(stream: &mut TcpStream, piece: &mut [u8], count: usize) -> bool {
+    stream.read(piece).is_ok_and(|read| read == count)
+}
+
 // A caller comes, asks, is answered and let go.
 fn serves_one<A: Abort, C: Clock, L: Lobby + Sync, D: Door + Send>(
     rt: &HostRuntime,
@@ -87,24 +92,24 @@ fn serves_one<A: Abort, C: Clock, L: Lobby + Sync, D: Door + Send>(
 where
     D::Conn: Send + Drop,
 {
-    assert!(end; next(door).is_err());
-    assert!(end; halls.called(0).is_none());
+    assert_that(end, next(door).is_err(), "no connection at first");
+    assert_is(end, halls.called(0), None);
     let mut other = TcpStream::connect(rt, (Ipv4Addr::LOCALHOST, port))?;
-    assert!(end; woken(halls, clock, 0));
-    assert!(end; halls.called(0).is_none());
+    assert_that(end, woken(halls, clock, 0), "called for a connection");
+    assert_is(end, halls.called(0), None);
     let mut caller = next(door)?;
-    assert!(end; finds(&mut caller, 8, None));
-    assert!(end; other.write_all(b"ask").is_ok());
-    assert!(end; woken(halls, clock, 0));
-    assert!(end; finds(&mut caller, 8, Some(3)));
-    assert!(end; finds(&mut caller, 8, None));
+    assert_that(end, finds(&mut caller, 8, None), "nothing at first");
+    assert_that(end, other.write_all(b"ask").is_ok(), "a question is sent");
+    assert_that(end, woken(halls, clock, 0), "called for a question");
+    assert_that(end, finds(&mut caller, 8, Some(3)), "the question");
+    assert_that(end, finds(&mut caller, 8, None), "nothing behind it");
     caller.asked(b"GET", b"/");
     caller.answered(b"reply");
-    assert!(end; caller.write(b"reply").is_ok_and(|count| count == Some(5)));
+    assert_that(end, caller.write(b"reply") == Ok(Some(5)), "a reply");
     let mut piece = [0u8; 8];
-    assert!(end; other.read(&mut piece).is_ok_and(|count| count == 5));
+    assert_that(end, has_read(&mut other, &mut piece, 5), "the reply");
     door.done(caller);
-    assert!(end; other.read(&mut piece).is_ok_and(|count| count == 0));
+    assert_that(end, has_read(&mut other, &mut piece, 0), "the end");
     drop(other);
     Ok(())
 }
@@ -123,16 +128,17 @@ where
 {
     let mut other = TcpStream::connect(rt, (Ipv4Addr::LOCALHOST, port))?;
     let mut caller = next(door)?;
-    assert!(end; other.write_all(b"a piece and some").is_ok());
-    assert!(end; woken(halls, clock, 0));
-    assert!(end; finds(&mut caller, 8, Some(8)));
-    assert!(end; finds(&mut caller, 8, Some(8)));
-    assert!(end; finds(&mut caller, 8, None));
-    assert!(end; other.write_all(b"the last").is_ok());
-    assert!(end; other.shutdown(Shutdown::Write).is_ok());
-    assert!(end; woken(halls, clock, 0));
-    assert!(end; finds(&mut caller, 16, Some(8)));
-    assert!(end; finds(&mut caller, 16, Some(0)));
+    let sent = other.write_all(b"a piece and some");
+    assert_that(end, sent.is_ok(), "two pieces are sent");
+    assert_that(end, woken(halls, clock, 0), "called for two pieces");
+    assert_that(end, finds(&mut caller, 8, Some(8)), "the first piece");
+    assert_that(end, finds(&mut caller, 8, Some(8)), "the second piece");
+    assert_that(end, finds(&mut caller, 8, None), "nothing behind them");
+    assert_that(end, other.write_all(b"the last").is_ok(), "a last piece");
+    assert_that(end, other.shutdown(Shutdown::Write).is_ok(), "an end");
+    assert_that(end, woken(halls, clock, 0), "called for the last piece");
+    assert_that(end, finds(&mut caller, 16, Some(8)), "the last piece");
+    assert_that(end, finds(&mut caller, 16, Some(0)), "the end");
     door.done(caller);
     drop(other);
     Ok(())
@@ -167,12 +173,12 @@ fn what_is_left_is_read(rt: HostRuntime) -> Result<(), Fail> {
 }
 
 fn calls_in_order<L: Lobby>(rt: &impl Abort, halls: &L) {
-    assert!(rt; halls.call(1));
-    assert!(rt; halls.call(0));
-    assert_eq!(rt; halls.called(0), Some(0));
-    assert_eq!(rt; halls.called(1), Some(1));
-    assert_eq!(rt; halls.called(1), None);
-    assert!(rt; !halls.call(2));
+    assert_that(rt, halls.call(1), "a call of the second");
+    assert_that(rt, halls.call(0), "a call of the first");
+    assert_is(rt, halls.called(0), Some(0));
+    assert_is(rt, halls.called(1), Some(1));
+    assert_is(rt, halls.called(1), None);
+    assert_that(rt, !halls.call(2), "no call of a third");
 }
 
 #[test]
@@ -191,13 +197,13 @@ fn stands_once(rt: &impl Abort, queue: &Queue) {
     queue.put_first(1);
     queue.put_first(0);
     for wanted in [Some(1), Some(2), Some(0), None] {
-        assert_eq!(rt; queue.take(), wanted);
+        assert_is(rt, queue.take(), wanted);
     }
-    assert!(rt; queue.is_empty());
+    assert_that(rt, queue.is_empty(), "an empty queue");
     queue.put_first(3);
     queue.put_last(1);
-    assert_eq!(rt; queue.take(), Some(3));
-    assert_eq!(rt; queue.take(), Some(1));
+    assert_is(rt, queue.take(), Some(3));
+    assert_is(rt, queue.take(), Some(1));
 }
 
 #[test]
@@ -211,13 +217,13 @@ fn each_stands_once_in_a_queue(rt: HostRuntime) -> Result<(), Fail> {
 fn calls_for_arrivals<C: Clock, L: Lobby + Sync>(rt: &impl Abort, clock: &C, halls: &L) {
     halls.listen(0, 0b0111, 1);
     halls.ring(1, 0b1011);
-    assert_eq!(rt; halls.called(0), None);
+    assert_is(rt, halls.called(0), None);
     halls.ring(1, 0b1111);
-    assert!(rt; woken(halls, clock, 0));
-    assert_eq!(rt; halls.called(0), None);
+    assert_that(rt, woken(halls, clock, 0), "called for an arrival");
+    assert_is(rt, halls.called(0), None);
     halls.listen(0, 0, 0);
     halls.ring(0, 0b1111);
-    assert_eq!(rt; halls.called(0), None);
+    assert_is(rt, halls.called(0), None);
 }
 
 #[test]
@@ -233,12 +239,12 @@ fn who_waits_for_arrivals_is_called(rt: HostRuntime) -> Result<(), Fail> {
 fn looks_for_what_came<C: Clock, L: Lobby>(rt: &impl Abort, clock: &C, halls: &L) {
     halls.ring(0, 0b1111);
     halls.listen(1, 0b0110, 1);
-    assert_eq!(rt; halls.called(1), Some(1));
+    assert_is(rt, halls.called(1), Some(1));
     halls.listen(1, 0b0110, 1);
-    assert_eq!(rt; halls.called(1), None);
-    assert!(rt; !halls.wait(clock, 1, 0));
+    assert_is(rt, halls.called(1), None);
+    assert_that(rt, !halls.wait(clock, 1, 0), "the lobby says who goes on");
     halls.listen(1, 0b0011, 1);
-    assert_eq!(rt; halls.called(1), None);
+    assert_is(rt, halls.called(1), None);
 }
 
 // A call before an arrival finds nothing, and who listens behind that makes it once more.
@@ -256,17 +262,17 @@ fn calls_one_of_a_kind<L: Lobby>(rt: &impl Abort, halls: &L) {
     halls.listen(0, 0b11, 1);
     halls.listen(1, 0b11, 1);
     halls.ring(0, 0b11);
-    assert_eq!(rt; halls.called(0), Some(0));
-    assert_eq!(rt; halls.called(1), None);
+    assert_is(rt, halls.called(0), Some(0));
+    assert_is(rt, halls.called(1), None);
     halls.listen(0, 0, 0);
-    assert_eq!(rt; halls.called(0), None);
-    assert_eq!(rt; halls.called(1), Some(1));
+    assert_is(rt, halls.called(0), None);
+    assert_is(rt, halls.called(1), Some(1));
     halls.listen(0, 0b11, 1);
     halls.listen(1, 0b11, 2);
     let _ = (halls.called(0), halls.called(1));
     halls.ring(0, 0b11);
-    assert_eq!(rt; halls.called(0), Some(0));
-    assert_eq!(rt; halls.called(1), Some(1));
+    assert_is(rt, halls.called(0), Some(0));
+    assert_is(rt, halls.called(1), Some(1));
 }
 
 // Of those who wait for the same one is called, and once it has what came the next one is.

@@ -1,5 +1,6 @@
 // What no contract says: that memory is found, and what a real file does. Each object is dropped by a call: so the
 // proofs of the tests stay short.
+use crate::asserts::{assert_is, assert_that};
 use sb_outside::{
     Bytes, Clock, Conn, Connected, Disk, DiskFault, LONGEST_DISK, MemConn, MemDisk, MemSink,
     MemSource, NoConn, Reading, Sink, Source, StepClock, SystemClock, WriteFault, Writing,
@@ -59,18 +60,18 @@ fn length_of(rt: HostRuntime, name: &str) -> Result<u64, Fail> {
 fn memory_and_a_file_agree(rt: HostRuntime) -> Result<(), Fail> {
     let name = "sb_outside_test.journal";
     let (count, from_disk) = changed_memory(rt.alloc())?;
-    assert!(rt; count == Ok(5));
-    assert_eq!(rt; from_disk, *b"oined\0\0\0");
+    assert_that(&rt, count == Ok(5), "five bytes of memory");
+    assert_is(&rt, from_disk, *b"oined\0\0\0");
     let mut file = open_disk(&rt, rt.alloc(), String::from_str(rt.alloc(), name)?, rt)?;
-    assert!(rt; sync_folder(&rt, ".").is_ok());
+    assert_that(&rt, sync_folder(&rt, ".").is_ok(), "the folder is synced");
     let (count, from_file) = changed(&mut file);
-    assert!(rt; count == Ok(5));
-    assert_eq!(rt; from_file, from_disk);
-    assert!(rt; file.length() == Ok(6));
+    assert_that(&rt, count == Ok(5), "five bytes of the file");
+    assert_is(&rt, from_file, from_disk);
+    assert_that(&rt, file.length() == Ok(6), "the length of the file");
     let length = length_of(rt, name);
-    assert_eq!(rt; file.faults(), 0);
+    assert_is(&rt, file.faults(), 0);
     drop(file);
-    assert_eq!(rt; length?, 6);
+    assert_is(&rt, length?, 6);
     fs::remove_file(&rt, name)?;
     Ok(())
 }
@@ -104,12 +105,12 @@ fn a_file_runs_ahead(rt: HostRuntime) -> Result<(), Fail> {
     file.close();
     let closed = length_at(rt, name);
     fs::remove_file(&rt, name)?;
-    assert!(rt; written == Ok(143));
-    assert!(rt; read == Ok(23));
-    assert_eq!(rt; piece[22], 1);
-    assert_eq!(rt; piece[23], 9);
-    assert!(rt; ahead == Some(143 + 65_536));
-    assert!(rt; closed == Some(143));
+    assert_that(&rt, written == Ok(143), "how much is written");
+    assert_that(&rt, read == Ok(23), "how much is read");
+    assert_is(&rt, piece[22], 1);
+    assert_is(&rt, piece[23], 9);
+    assert_is(&rt, ahead, Some(143 + 65_536));
+    assert_is(&rt, closed, Some(143));
     Ok(())
 }
 
@@ -156,9 +157,9 @@ fn makes_each_stream(rt: HostRuntime) -> Result<(), Fail> {
     assert_eq!(rt; given.as_slice(), text.as_slice());
     let mut source = MemSource::new(text.into_vec(), 3, Vec::new(rt.alloc()));
     let mut piece = [0u8; 8];
-    assert!(rt; source.read(&mut piece) == Ok(3));
-    assert!(rt; source.read(&mut piece) == Ok(1));
-    assert!(rt; source.read(&mut piece) == Ok(0));
+    assert_that(&rt, source.read(&mut piece) == Ok(3), "three bytes");
+    assert_that(&rt, source.read(&mut piece) == Ok(1), "the last byte");
+    assert_that(&rt, source.read(&mut piece) == Ok(0), "the end");
     drop(source);
     Ok(())
 }
@@ -236,10 +237,10 @@ fn hesitates_between_any_two_bytes(rt: HostRuntime) -> Result<(), Fail> {
 
 fn hesitates<N: Conn>(rt: &impl Abort, conn: &mut N) {
     let mut piece = [0u8; 8];
-    assert!(rt; conn.read(&mut piece) == Ok(None));
-    assert!(rt; conn.read(&mut piece) == Ok(Some(2)));
-    assert!(rt; conn.write(&piece[..2]) == Ok(None));
-    assert!(rt; conn.write(&piece[..2]) == Ok(Some(1)));
-    assert!(rt; conn.write(&piece[1..2]) == Ok(None));
-    assert!(rt; conn.write(&piece[1..2]) == Ok(Some(1)));
+    assert_that(rt, conn.read(&mut piece) == Ok(None), "no byte yet");
+    assert_that(rt, conn.read(&mut piece) == Ok(Some(2)), "two bytes");
+    assert_that(rt, conn.write(&piece[..2]) == Ok(None), "not yet");
+    assert_that(rt, conn.write(&piece[..2]) == Ok(Some(1)), "first byte");
+    assert_that(rt, conn.write(&piece[1..2]) == Ok(None), "not yet again");
+    assert_that(rt, conn.write(&piece[1..2]) == Ok(Some(1)), "second byte");
 }

@@ -1,5 +1,6 @@
 use super::{take_all, try_rows};
-use sb_http::{HttpFault, Incoming, Version};
+use crate::asserts::assert_that;
+use sb_http::{HttpFault, Incoming, Request, Version};
 use std::alloc::Global;
 use std::process::Abort;
 use std::test::Fail;
@@ -119,6 +120,15 @@ fn two_requests(rt: HostRuntime) -> Result<(), Fail> {
     Ok(())
 }
 
+// The version and the second of the two fields of the request above.
+fn is_of_two_fields(rt: &impl Abort, request: &Request) {
+    assert_that(rt, request.version == Version::Http11, "the version");
+    assert_eq!(rt; request.field_count(), 2);
+    let (name, value) = request.field(1);
+    assert_that(rt, name == b"Content-Length".as_slice(), "the name");
+    assert_that(rt, value == b"2".as_slice(), "the value");
+}
+
 // The fields of a request.
 #[test]
 fn fields_of_a_request(rt: HostRuntime) -> Result<(), Fail> {
@@ -127,10 +137,7 @@ fn fields_of_a_request(rt: HostRuntime) -> Result<(), Fail> {
     let Ok(Some(request)) = incoming.next_request() else {
         panic!(rt; "no request")
     };
-    assert!(rt; request.version == Version::Http11);
-    assert_eq!(rt; request.field_count(), 2);
-    assert_eq!(rt; request.field(1).0, b"Content-Length".as_slice());
-    assert_eq!(rt; request.field(1).1, b"2".as_slice());
+    is_of_two_fields(&rt, &request);
     drop(incoming);
     Ok(())
 }

@@ -1,6 +1,7 @@
 // Bases of journals on disks in memory, judged as they are read. Disks and what was read are dropped by calls, where
 // little else is held: so the proofs of the tests stay short.
-use super::{NEW_FILE, SALT, closed, disk_of, fault_of, found_on, journal_on, with_empty};
+use super::{NEW_FILE, SALT, appends, closed, disk_of, fault_of, found_on, journal_on, with_empty};
+use crate::asserts::{assert_is, assert_that};
 use sb_journal::{Found, Judge, Judged, OpenWhy, Side, Unopened, create};
 use sb_outside::MemDisk;
 use std::alloc::{AllocError, Global};
@@ -64,8 +65,8 @@ fn disk_with(rt: &impl Abort, alloc: Global, base: &[u8]) -> Result<MemDisk, Fai
     let mut disk = disk_of(alloc, &[])?;
     assert!(rt; create(&mut disk, SALT, 2, 3, base).is_ok());
     let mut journal = journal_on(alloc, disk, SALT)?;
-    assert!(rt; journal.append(b"x") == Ok(3));
-    assert!(rt; journal.append(b"") == Ok(4));
+    appends(rt, &mut journal, b"x", 3);
+    appends(rt, &mut journal, b"", 4);
     Ok(closed(journal))
 }
 
@@ -92,6 +93,17 @@ fn is_read(judged: &Judged<Keeping>, base: &[u8]) -> bool {
         && judged.judge.calls.as_slice().ends_with(b"bepp")
 }
 
+// In how many pieces the base of such a file is read, where all of it is.
+fn pieces_of(alloc: Global, a: MemDisk, base: &[u8]) -> Result<usize, Fail> {
+    let judged = judged_on(alloc, a)?;
+    let (read, calls) = (is_read(&judged, base), judged.judge.calls.len());
+    drop(judged);
+    if !read {
+        return Err(Fail::from("another file"));
+    }
+    Ok(calls.saturating_sub(3))
+}
+
 #[test]
 fn makes_a_file_with_a_base(rt: HostRuntime) -> Result<(), Fail> {
     let mut disk = disk_of(rt.alloc(), &NEW_FILE)?;
@@ -110,11 +122,8 @@ fn makes_a_file_with_a_base(rt: HostRuntime) -> Result<(), Fail> {
 fn reads_a_base_back(rt: HostRuntime) -> Result<(), Fail> {
     let alloc = rt.alloc();
     let a = disk_with(&rt, alloc, b"base")?;
-    assert!(rt; a.bytes() == WITH_BASE.as_slice());
-    let judged = judged_on(alloc, a)?;
-    assert!(rt; is_read(&judged, b"base"));
-    assert_eq!(rt; judged.judge.calls.len(), 4);
-    drop(judged);
+    assert_that(&rt, a.bytes() == WITH_BASE.as_slice(), "its bytes");
+    assert_is(&rt, pieces_of(alloc, a, b"base")?, 1);
     Ok(())
 }
 
@@ -146,10 +155,8 @@ fn misnumbered(alloc: Global, a: MemDisk) -> Result<Vec<u8>, Fail> {
 fn reads_a_long_base_in_pieces(rt: HostRuntime) -> Result<(), Fail> {
     let alloc = rt.alloc();
     let base = numbers(alloc, 1_250_000)?;
-    let judged = judged_on(alloc, disk_with(&rt, alloc, &base)?)?;
-    assert!(rt; is_read(&judged, &base));
-    assert!(rt; judged.judge.calls.len() > 4);
-    drop(judged);
+    let a = disk_with(&rt, alloc, &base)?;
+    assert_that(&rt, pieces_of(alloc, a, &base)? > 1, "several pieces");
     let bytes = misnumbered(alloc, disk_with(&rt, alloc, &base)?)?;
     let (why, _) = fault_of(alloc, bytes)?;
     assert!(rt; why == OpenWhy::Damaged(Side::A, BEHIND_LONG as u64));
@@ -166,6 +173,14 @@ fn cut_file(alloc: Global, count: usize, byte: u8) -> Result<Vec<u8>, AllocError
     Ok(bytes)
 }
 
+// A file that is cut so is damaged at its base, and stays as it is.
+fn try_cut(rt: &impl Abort, alloc: Global, count: usize, byte: u8) -> Result<(), Fail> {
+    let (why, length) = fault_of(alloc, cut_file(alloc, count, byte)?)?;
+    assert_is(rt, length, count);
+    assert!(rt; why == OpenWhy::Damaged(Side::A, 42), "at {count}");
+    Ok(())
+}
+
 // Whether the base was found with no records behind it.
 fn is_base_alone(found: &Found) -> bool {
     found.base.as_slice() == b"base".as_slice() && found.payloads.is_empty()
@@ -174,10 +189,7 @@ fn is_base_alone(found: &Found) -> bool {
 #[test]
 fn tells_of_a_cut_base(rt: HostRuntime) -> Result<(), Fail> {
     for (count, byte) in [(43, 0), (45, 0), (74, 1), (74, 255)] {
-        let bytes = cut_file(rt.alloc(), count, byte)?;
-        let (why, length) = fault_of(rt.alloc(), bytes)?;
-        assert!(rt; why == OpenWhy::Damaged(Side::A, 42), "at {count}");
-        assert_eq!(rt; length, count);
+        try_cut(&rt, rt.alloc(), count, byte)?;
     }
     // All of it, and no gate behind it.
     let whole = disk_of(rt.alloc(), &WITH_BASE[..46])?;
