@@ -1,16 +1,16 @@
 -- A whole call, by the task that its words name, and what words name.
 use Rattle.std.proofs.Common.{◌≡◌, ◌≢◌, ℕ, List, Bool, true, false, Option, Some, None, Result, Err, refl, sym, ◌∙◌, ap}
 use Rattle.std.specs.Prelude.{option_and_then, option_map}
-use Rattle.sb_words.specs.Words.{command_in, connections_in, connections_of, form_in, form_value, look_in, look_of, max_jump_in, max_jump_of, request_time_of, idle_time_of}
+use Rattle.sb_words.specs.Words.{command_in, connections_in, connections_of, count_in, count_of, form_in, form_value, look_in, look_of, seed_in, seed_of, max_jump_in, max_jump_of, request_time_of, idle_time_of}
 use Rattle.sb_words.specs.declared.command.Command.{Command}
-use Rattle.sb_words.specs.declared.command.Command.TheVariants.{Run as RunCommand, Check as CheckCommand, Client as ClientCommand, Serve}
+use Rattle.sb_words.specs.declared.command.Command.TheVariants.{Run as RunCommand, Check as CheckCommand, Client as ClientCommand, Serve, Drill as DrillCommand}
 use Rattle.sb_words.specs.declared.command.Form.{Form as ReadForm}
 use Rattle.sb_words.specs.declared.command.WordsFault.{WordsFault}
 use Rattle.sb_words.specs.declared.command.WordsFault.TheVariants.{BadWords, OutOfMemory}
 use Rattle.sb_app.specs.Outside.{Output, Outside}
 use Rattle.sb_app.specs.declared.task.Named.{Named}
 use Rattle.sb_app.specs.declared.task.Task.{Task}
-use Rattle.sb_app.specs.declared.task.Task.TheVariants.{Run, Check, Look, Client}
+use Rattle.sb_app.specs.declared.task.Task.TheVariants.{Run, Check, Look, Client, Drill}
 use Rattle.sb_app.specs.Endings.{IsLineWritten}
 use Rattle.sb_app.specs.Tops.{usage_line, IsCarriedOut}
 use Rattle.sb_app.specs.Clients.{Exchanges, IsClientCall}
@@ -34,6 +34,9 @@ run_call clock days salt was now link status carried = record { carried_out = λ
 
 pub check_call : (clock : ℕ → Type 0) (days salt : ℕ) (was now : Outside) (link : Exchanges) (status : ℕ) → IsCarriedOut clock days (Some Check) salt was now status → IsCall clock days (Some Check) salt was now link link status
 check_call clock days salt was now link status carried = record { carried_out = λ other last. carried; looked = λ is. absurd cc; client = λ is. absurd cc }
+
+pub drill_call : (clock : ℕ → Type 0) (days count seed salt : ℕ) (was now : Outside) (link : Exchanges) (status : ℕ) → IsCarriedOut clock days (Some (Drill count seed)) salt was now status → IsCall clock days (Some (Drill count seed)) salt was now link link status
+drill_call clock days count seed salt was now link status carried = record { carried_out = λ other last. carried; looked = λ is. absurd cc; client = λ is. absurd cc }
 
 pub look_call : (clock : ℕ → Type 0) (days salt : ℕ) (was now : Outside) (link : Exchanges) (status : ℕ) → IsLooked salt was now status → IsCall clock days (Some Look) salt was now link link status
 look_call clock days salt was now link status looked = record { carried_out = λ other last. absurd (last refl); looked = λ is. looked; client = λ is. absurd cc }
@@ -60,34 +63,36 @@ limits_are words f is = sym (ap (λ o. limits_for (request_time_of o) (idle_time
 
 -- words that couldn't be read name no task, or memory was wanting
 pub unnamed : (words : List (List ℕ)) (days : ℕ) (fault : WordsFault) → (fault ≡ BadWords → form_in words ≡ None) → IsNamed (task_in words) days (Err fault)
-unnamed words days BadWords bad = ap (option_and_then (task_of (look_in words))) (no_form words (bad refl))
+unnamed words days BadWords bad = ap (option_and_then (task_of (look_in words) (count_in words) (seed_in words))) (no_form words (bad refl))
 unnamed words days OutOfMemory bad = tt
 
-pub named : (words : List (List ℕ)) (f : ReadForm) (task : Option Task) → form_in words ≡ Some (form_value f) → task ≡ task_of f.look f.command → task_in words ≡ task
+pub named : (words : List (List ℕ)) (f : ReadForm) (task : Option Task) → form_in words ≡ Some (form_value f) → task ≡ task_of f.look f.count f.seed f.command → task_in words ≡ task
 named words f task is of =
-    ap (option_and_then (task_of (look_in words))) (a_form words f is)
-    ∙ ap (λ (look : Bool). task_of look f.command) (ap look_of is)
+    ap (option_and_then (task_of (look_in words) (count_in words) (seed_in words))) (a_form words f is)
+    ∙ ap (λ o. task_of (look_of o) (count_of o) (seed_of o) f.command) is
     ∙ sym of
 
-pub serves : (look : Bool) (command : Command) → None ≡ task_of look command → command ≡ Serve
-serves look RunCommand none = absurd cc
-serves look CheckCommand none = absurd cc
-serves look ClientCommand none = absurd cc
-serves look Serve none = refl
+pub serves : (look : Bool) (count seed : ℕ) (command : Command) → None ≡ task_of look count seed command → command ≡ Serve
+serves look count seed RunCommand none = absurd cc
+serves look count seed CheckCommand none = absurd cc
+serves look count seed ClientCommand none = absurd cc
+serves look count seed Serve none = refl
+serves look count seed DrillCommand none = absurd cc
 
 pub client_task : (words : List (List ℕ)) → command_in words ≡ Some ClientCommand → task_in words ≡ Some Client
-client_task words is = ap (option_and_then (task_of (look_in words))) is
+client_task words is = ap (option_and_then (task_of (look_in words) (count_in words) (seed_in words))) is
 
 pub other_task : (words : List (List ℕ)) → command_in words ≢ Some ClientCommand → task_in words ≢ Some Client
-other_task words other = by_command (look_in words) (command_in words) other
+other_task words other = by_command (look_in words) (count_in words) (seed_in words) (command_in words) other
   where
-    by_command : (look : Bool) (c : Option Command) → c ≢ Some ClientCommand → option_and_then (task_of look) c ≢ Some Client
-    by_command look None other is = absurd cc
-    by_command look (Some RunCommand) other is = absurd cc
-    by_command true (Some CheckCommand) other is = absurd cc
-    by_command false (Some CheckCommand) other is = absurd cc
-    by_command look (Some ClientCommand) other is = other refl
-    by_command look (Some Serve) other is = absurd cc
+    by_command : (look : Bool) (count seed : ℕ) (c : Option Command) → c ≢ Some ClientCommand → option_and_then (task_of look count seed) c ≢ Some Client
+    by_command look count seed None other is = absurd cc
+    by_command look count seed (Some RunCommand) other is = absurd cc
+    by_command true count seed (Some CheckCommand) other is = absurd cc
+    by_command false count seed (Some CheckCommand) other is = absurd cc
+    by_command look count seed (Some ClientCommand) other is = other refl
+    by_command look count seed (Some Serve) other is = absurd cc
+    by_command look count seed (Some DrillCommand) other is = absurd cc
 
 -- what was read of words is that they name nothing
 abbrev pub IsBadWords : Result Named WordsFault → Type 0

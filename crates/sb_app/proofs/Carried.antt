@@ -14,12 +14,12 @@ use Rattle.sb_app.specs.Outside.{Output, Outside}
 use Rattle.sb_app.specs.declared.ending.RunEnd.{RunEnd}
 use Rattle.sb_app.specs.declared.ending.RunEnd.TheVariants.{ReadFault, WriteFault, DiskFault, OutOfMemory, LongInput, TimeJump}
 use Rattle.sb_app.specs.declared.task.Task.{Task}
-use Rattle.sb_app.specs.declared.task.Task.TheVariants.{Run, Check}
+use Rattle.sb_app.specs.declared.task.Task.TheVariants.{Run, Check, Drill}
 use Rattle.sb_app.specs.Checks.{check_line, IsTold, IsLineTold}
 use Rattle.sb_input.specs.Taking.{IsLong}
 use Rattle.sb_app.specs.Runs.{IsScriptRun, state_after_all, status_by}
 use Rattle.sb_app.specs.Endings.{LastLine, IsLineWritten, EndsAt, IsCutRun, status_of_end}
-use Rattle.sb_app.specs.Tops.{IsCheck, IsUnopened, IsRefused, IsDamageReported, usage_line, IsRunStatus, IsStatus, IsShort, IsFree, IsComplete, IsEarlyRun, IsCarriedOut}
+use Rattle.sb_app.specs.Tops.{IsUnopened, IsRefused, IsDamageReported, usage_line, IsRunStatus, IsStatus, IsShort, IsFree, IsComplete, IsEarlyRun, IsCarriedOut}
 use Rattle.sb_app.proofs.Faults.{quiet_on, failed_on, honest_on}
 use Rattle.sb_app.proofs.Statuses.{no_five, no_disk_end, no_two_whole, no_two_end}
 use Rattle.sb_app.specs.Openings.{IsOpened, IsFailed, IsFailedStatus}
@@ -30,7 +30,7 @@ use Rattle.sb_app.proofs.Early.{early_run}
 no_some : (P : Type 0) → IsSome {T = Task} None → P
 no_some P some = absurd cc
 
-no_none : (task : Task) (P : Type 0) → Some task ≡ None → P
+pub no_none : (task : Task) (P : Type 0) → Some task ≡ None → P
 no_none task P none = absurd cc
 
 -- ---- words that name no task
@@ -42,6 +42,7 @@ usage_alone clock days salt was output written = record {
   long = λ ten. absurd cc;
   jump = λ jumped. absurd cc;
   checked = λ named. no_none Check _ (sym named);
+  drilled = λ count seed named. no_none (Drill count seed) _ (sym named);
   broken = λ six. absurd cc;
   usage = λ two. refl;
   unnamed = λ nothing. inl refl;
@@ -87,6 +88,7 @@ unread_alone clock days task salt was = record {
   long = λ ten. absurd cc;
   jump = λ jumped. absurd cc;
   checked = λ named. inr (inl (OutOfMemory, refl, nothing_done salt was));
+  drilled = λ count seed named. inr (inl (OutOfMemory, refl, nothing_done salt was));
   broken = λ six. absurd cc;
   usage = λ two. absurd cc;
   unnamed = λ none. inr (refl, refl);
@@ -159,10 +161,12 @@ no_whole_above : (status : ℕ) (refused : Bool) (P : Type 0) → 5 ≤ status �
 no_whole_above status false P low is = absurd (omega (arith, low, is))
 no_whole_above status true P low is = absurd (omega (arith, low, is))
 
-check_unopened : (salt : ℕ) (was : Outside) (disks : Disks) (output : Output) (why : OpenWhy) (status : ℕ) → IsFailed salt was.disks disks was.output output why status → IsFailedStatus status → IsCheck salt was (record was { output = output; disks = disks }) status
-check_unopened salt was disks output why status fails (inl five) = inr (inl (DiskFault, five, unopened_by salt was disks output why status fails DiskFault five))
-check_unopened salt was disks output why status fails (inr (inl six)) = inr (inr six)
-check_unopened salt was disks output why status fails (inr (inr seven)) = inr (inl (OutOfMemory, seven, unopened_by salt was disks output why status fails OutOfMemory seven))
+-- what a check and a drill come to then
+ended_unopened : (salt : ℕ) (was : Outside) (disks : Disks) (output : Output) (why : OpenWhy) (status : ℕ) → IsFailed salt was.disks disks was.output output why status → IsFailedStatus status
+    → ((end : RunEnd) × (status ≡ status_of_end end) × IsUnopened salt was (record was { output = output; disks = disks }) end) ⊎ (status ≡ 6)
+ended_unopened salt was disks output why status fails (inl five) = inl (DiskFault, five, unopened_by salt was disks output why status fails DiskFault five)
+ended_unopened salt was disks output why status fails (inr (inl six)) = inr six
+ended_unopened salt was disks output why status fails (inr (inr seven)) = inl (OutOfMemory, seven, unopened_by salt was disks output why status fails OutOfMemory seven)
 
 pub not_opened : (clock : ℕ → Type 0) (days : ℕ) (task : Task) (salt : ℕ) (was : Outside) (disks : Disks) (output : Output) (why : OpenWhy) (status : ℕ) → IsFailed salt was.disks disks was.output output why status → IsCarriedOut clock days (Some task) salt was (record was { output = output; disks = disks }) status
 not_opened clock days task salt was disks output why status fails =
@@ -172,7 +176,8 @@ not_opened clock days task salt was disks output why status fails =
       early = λ named end is. inl (unopened_by salt was disks output why status fails end is);
       long = λ ten. absurd (omega (arith, ten, range.1));
       jump = λ jumped. absurd (omega (arith, jumped, range.1));
-      checked = λ named. check_unopened salt was disks output why status fails fails.known;
+      checked = λ named. inr (ended_unopened salt was disks output why status fails fails.known);
+      drilled = λ count seed named. inr (ended_unopened salt was disks output why status fails fails.known);
       broken = λ six. refused_by salt was disks output why fails.broken fails.untouched fails.rests (fails.damage six);
       usage = λ two. absurd (omega (arith, two, range.0));
       unnamed = λ none. no_none task _ none;
@@ -262,6 +267,7 @@ run_over clock days Safe salt was now ready start state status opening runs = re
   long = λ ten. (runs.cut LongInput ten).long refl;
   jump = λ jumped. (refl, early TimeJump jumped);
   checked = λ named. absurd cc;
+  drilled = λ count seed named. absurd cc;
   broken = λ six. absurd (no_six status runs.known six);
   usage = λ two. absurd (no_two status runs.known two);
   unnamed = λ none. no_none Run _ none;
@@ -309,7 +315,7 @@ told_quiet line part before now status false (inr (inl is)) by = absurd (omega (
 told_quiet line part before now status true (inr (inl is)) by = absurd (omega (arith, is.0, by))
 told_quiet line part before now status refused (inr (inr is)) by = is.2
 
-told_complete : (line part : List ℕ) (before now status : ℕ) → IsTold line part before now status → (Rose before now → ⊥) → IsComplete status
+pub told_complete : (line part : List ℕ) (before now status : ℕ) → IsTold line part before now status → (Rose before now → ⊥) → IsComplete status
 told_complete line part before now status (inl is) quiet = inl (false, is.0)
 told_complete line part before now status (inr (inl is)) quiet = absurd (quiet (rose_of _ _ is.2))
 told_complete line part before now status (inr (inr is)) quiet = inr is.0
@@ -335,6 +341,7 @@ check_over clock days Safe salt last was ready output start status opening kept 
         durable = opening.holds;
         moments = opening.opens;
       });
+      drilled = λ count seed named. absurd cc;
       broken = λ six. absurd (none.3 six);
       usage = λ two. absurd (none.0 two);
       unnamed = λ nothing. no_none Check _ nothing;

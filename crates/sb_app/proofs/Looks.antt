@@ -10,7 +10,7 @@ use Rattle.sb_node.specs.Looks.{IsSeen}
 use Rattle.sb_node.specs.Recovery.{damaged, recovered_on}
 use Rattle.sb_app.specs.Outside.{Output, Outside}
 use Rattle.sb_app.specs.Checks.{check_line, IsTold, IsLineTold}
-use Rattle.sb_app.specs.Looks.{IsDamageShown, IsFreeLook, IsLooked, IsLookStatus}
+use Rattle.sb_app.specs.Looks.{IsDamageShown, IsLooked, IsLookStatus}
 use Rattle.sb_app.specs.Openings.{IsFailedStatus}
 use Rattle.sb_app.specs.Tops.{IsDamageReported}
 use Rattle.sb_app.proofs.Carried.{rose_of, told_status}

@@ -125,6 +125,12 @@ stepped s after before stopped tick reading call a consistent running at step so
       runs = none_of stopped (ap (λ (l : Log). l.stopped) step'.leads ∙ stops_by s tick reading call a ∙ going_on a sound);
     }
 
+-- what the step added is what the machine adds
+pub stepped_entries : (s after : State) (before stopped tick : Option ℕ) (reading : ℕ) (call : Call) (a : Result Answered Refusal) → IsConsistent s → before ≡ None → IfSome tick (λ t. t ≡ moment_of s reading)
+    → IsStep (log_of s before) (entries_with tick 0 reading call a) (log_of after stopped) → is_fault a ≡ false → entries_with tick 0 reading call a ≡ entries_at 0 s reading call
+stepped_entries s after before stopped tick reading call a consistent running at step sound =
+    (step_entries s tick reading call a consistent at (running_step s after before stopped tick reading call a running step).legal sound).1
+
 pub answered_call : (s after : State) (asked : TimedCall) (form : Form) (a : Result Answered Refusal) (stopped : Option ℕ) (was now : Output) (refused : Bool) → Stepped s asked.reading asked.call a stopped after → Gains was.given now.given (answer_line form a) → is_err a ≡ refused
     → IsAnswered s (Request asked form) was now after refused
 answered_call s after asked form a stopped was now refused step gains is = record {

@@ -1,6 +1,6 @@
 -- The whole program. Read sb_machine's pages first (names, namespace; leaves, changes; rows, claims, leases; visits, delivery; an operation; due;
 -- repeats, answers, history; the laws), then Lawful and Backing. The page of the headline is Tops; Outside, Lines, Taking, Nodes, Runs, Endings, Commits,
--- Openings are what it is made of; Checks, Clients, Servings are the other commands, Calls all of them.
+-- Openings are what it is made of; Checks, Drills, Clients, Servings are the other commands, Calls all of them.
 pub mod Outside
 pub mod Lines
 pub mod Jumps
@@ -13,6 +13,7 @@ pub mod Commits
 pub mod Checks
 pub mod Lawful
 pub mod Backing
+pub mod Drills
 pub mod Tops
 pub mod Openings
 pub mod Clients

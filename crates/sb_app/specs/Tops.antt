@@ -1,5 +1,5 @@
 -- What a whole call of the program does, by its words and the status that it gives.
-use Rattle.std.specs.Prelude.{◌≡◌, ◌≢◌, ◌⊎◌, ◌<◌, ℕ, List, [], ◌∷◌, ◌++◌, length, Bool, false, codes, Option, Some, None, IsSome}
+use Rattle.std.specs.Prelude.{◌≡◌, ◌≢◌, ◌⊎◌, ◌<◌, ℕ, List, ◌++◌, length, Bool, codes, Option, Some, None, IsSome}
 use Rattle.std.specs.Fmt.{decimal}
 use Rattle.sb_outside.specs.Causes.{Rose, RoseByOne}
 use Rattle.sb_outside.specs.Streams.{Gains}
@@ -16,11 +16,10 @@ use Rattle.sb_journal.specs.declared.found.Side.TheVariants.{A, B}
 use Rattle.sb_journal.specs.declared.found.OpenWhy.{OpenWhy}
 use Rattle.sb_journal.specs.declared.found.OpenWhy.TheVariants.{Damaged}
 use Rattle.sb_app.specs.declared.script_line.ScriptLine.{ScriptLine}
-use Rattle.sb_app.specs.declared.script_line.ScriptLine.TheVariants.{Request}
 use Rattle.sb_app.specs.declared.ending.RunEnd.{RunEnd}
 use Rattle.sb_app.specs.declared.ending.RunEnd.TheVariants.{DiskFault, OutOfMemory, LongInput, TimeJump}
 use Rattle.sb_app.specs.declared.task.Task.{Task}
-use Rattle.sb_app.specs.declared.task.Task.TheVariants.{Run, Check}
+use Rattle.sb_app.specs.declared.task.Task.TheVariants.{Run, Check, Drill}
 use Rattle.sb_input.specs.Limits.{max_input}
 use Rattle.sb_app.specs.Lines.{script_lines}
 use Rattle.sb_app.specs.Jumps.{AllWithin}
@@ -29,6 +28,7 @@ use Rattle.sb_app.specs.Taking.{IsTaken}
 use Rattle.sb_app.specs.Runs.{FollowLines, replies_to, history_of, any_refused, status_by, state_after_all}
 use Rattle.sb_app.specs.Backing.{IsBacked, IsChronicle, IsFound}
 use Rattle.sb_app.specs.Checks.{IsChecked}
+use Rattle.sb_app.specs.Drills.{IsDrilled}
 use Rattle.sb_app.specs.Endings.{IsLineWritten, IsUndecided, LastLine, line_of_last, EndsAt, AreFirst, IsTimeJump, history_to, status_of_end}
 
 -- ---- a run that took all its input, or ended before
@@ -166,6 +166,10 @@ IsComplete status = ((refused : Bool) × (status ≡ status_by refused)) ⊎ (st
 abbrev pub IsCheck : ℕ → (was now : Outside) → ℕ → Type 0
 IsCheck salt was now status = IsChecked salt was now status ⊎ (((end : RunEnd) × (status ≡ status_of_end end) × IsUnopened salt was now end) ⊎ (status ≡ 6))
 
+-- A drill made its calls, up to the status that it ends with; or the journal wasn't opened, for a disk or for memory, or is damaged.
+abbrev pub IsDrill : (count seed salt : ℕ) → (was now : Outside) → ℕ → Type 0
+IsDrill count seed salt was now status = IsDrilled count seed salt was now status ⊎ (((end : RunEnd) × (status ≡ status_of_end end) × IsUnopened salt was now end) ⊎ (status ≡ 6))
+
 -- The task that the words name was carried out, or they name none, and this is the status. A fault that was met is told: a count rises by
 -- one with its status, and with no other.
 pub record IsCarriedOut (reads : ℕ → Type 0) (days : ℕ) (task : Option Task) (salt : ℕ) (was now : Outside) (status : ℕ) : Type 0 where
@@ -178,6 +182,8 @@ pub record IsCarriedOut (reads : ℕ → Type 0) (days : ℕ) (task : Option Tas
   pub jump : status ≡ 14 → (task ≡ Some Run) × IsEarlyRun reads days salt was now TimeJump
   -- a check at 0, 4, 5, 6 and 7
   pub checked : task ≡ Some Check → IsCheck salt was now status
+  -- a drill at 0, 4, 5, 6 and 7
+  pub drilled : (count seed : ℕ) → task ≡ Some (Drill count seed) → IsDrill count seed salt was now status
   -- 6
   pub broken : status ≡ 6 → IsRefused salt was now
   -- 2

@@ -18,6 +18,7 @@ ghost use Rattle.sb_app.specs.declared.task.Task.TheVariants.{Run, Check, Client
 
 use crate::checking::check_status;
 use crate::client::client_status;
+use crate::drilling::drill_over;
 use crate::ending::status_of;
 use crate::final_line::write_final_line;
 use crate::looking::look_over;
@@ -69,6 +70,9 @@ pub fn carry_out<D: Disk, C: Clock, S: Source, K: Sink, N: Link>(
             let status = client_status(alloc, key, link, input, output);
             (status, disk_a, disk_b)
         }
+        Task::Drill { count, seed } => drill_over(
+            alloc, disk_a, disk_b, salt, clock, max_jump, count, seed, input, output,
+        ),
     }
 }
 

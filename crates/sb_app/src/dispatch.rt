@@ -32,7 +32,8 @@ pub enum AnswerKind {
     Wanting,
 }
 
-fn kind_of_answer(answer: &Answer) -> AnswerKind
+/// What kind this answer is of.
+pub(crate) fn kind_of_answer(answer: &Answer) -> AnswerKind
     ensures { result ≡ kind_of answer.now }
 {
     match answer {

@@ -3,7 +3,8 @@
 //!
 //! A run cuts its input into script lines, has each answered by a namespace over its journal
 //! (`sb_node`), and writes the reply line (`sb_lines`). A server has the requests of connections
-//! answered by one namespace (`sb_server`, over a desk). [`top`] does what its words name, and its one
+//! answered by one namespace (`sb_server`, over a desk). A drill makes the calls that a seed draws
+//! (`sb_drill`), and tells their counts. [`top`] does what its words name, and its one
 //! contract says what a call does to all that it is handed (`IsCall` in `specs/Calls.antt`,
 //! `IsServeCall` in `specs/Servings.antt`); [`top_alone`] waits for nobody. The program `sb_bus` makes
 //! the real disks, streams, clock, doors and link, and calls it.
@@ -19,6 +20,7 @@ mod alone;
 mod checking;
 mod client;
 mod dispatch;
+mod drilling;
 mod ending;
 mod final_line;
 mod jump;

@@ -24,7 +24,7 @@ use std::thread::Threads;
 
 /// Does what the words name over these disks, streams and link, without waiting for anybody, and
 /// gives the disks back; to it the words of a server are none. The status of a run is 0 where all
-/// input was answered, 1 where one of the replies is a refusal too, that of a check or a look 0; 2 for words
+/// input was answered, 1 where one of the replies is a refusal too, that of a check, a look or a drill 0; 2 for words
 /// that name nothing, 3 to 5 for a fault of the input, the output or a disk, 6 for a journal that
 /// can't be trusted, 7 for want of memory, 10 once 2^40 bytes were read and 14 before a line that is
 /// more days ahead of the clock than the words allow; a client has also 8 for a fault of its link and
@@ -128,7 +128,7 @@ where
             return (status, Some((disk_a, disk_b)));
         }
     };
-    let Some(task) = task_of(form.command, form.look) else {
+    let Some(task) = task_of(form.command, form.look, form.count, form.seed) else {
         let (status, disk_a, disk_b) = serve_over(
             rt,
             alloc,
@@ -176,14 +176,15 @@ fn limits_of(request_time: u32, idle_time: u32) -> Limits
     }
 }
 
-fn task_of(command: Command, look: bool) -> Option<Task>
-    ensures { result ≡ calls.task_of look command }
+fn task_of(command: Command, look: bool, count: u32, seed: u64) -> Option<Task>
+    ensures { result ≡ calls.task_of look count seed command }
 {
     match command {
         Command::Run => Some(Task::Run),
         Command::Check => Some(check_task(look)),
         Command::Client => Some(Task::Client),
         Command::Serve => None,
+        Command::Drill => Some(Task::Drill { count, seed }),
     }
 }
 
@@ -201,7 +202,7 @@ fn named_task(alloc: Global, words: &[&str]) -> Result<Named, WordsFault>
         Ok(form) => form,
         Err(fault) => return Err(fault),
     };
-    match task_of(form.command, form.look) {
+    match task_of(form.command, form.look, form.count, form.seed) {
         Some(task) => Ok(Named {
             task,
             max_jump: form.max_jump,

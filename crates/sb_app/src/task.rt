@@ -10,6 +10,8 @@ pub enum Task {
     Look,
     /// Have a server answer the script lines of the input.
     Client,
+    /// Make so many calls that the seed draws, and tell their counts.
+    Drill { count: u32, seed: u64 },
 }
 
 /// What words name that name a task.

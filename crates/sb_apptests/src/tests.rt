@@ -11,6 +11,8 @@ const RUN: [&str; 3] = ["run", "--data", "."];
 
 const CHECK: [&str; 2] = ["check", "--data=."];
 
+const DRILL: [&str; 3] = ["drill", "0", "7"];
+
 const SETUP: &str = r#"
 {"at":0,"do":"create-queue","name":"q"}
 {"ok":"done"}
@@ -479,5 +481,33 @@ fn each_status_has_its_cause(rt: HostRuntime) -> Result<(), Fail> {
         status: 4,
     };
     drop(leaves(&rt, &rt, checked)?);
+    Ok(())
+}
+
+// A drill tells nothing where its output fails, or its disk: in the opening, or in one of the five appends
+// of its setup, which make twenty calls of it.
+#[test]
+fn a_drill_fails(rt: HostRuntime) -> Result<(), Fail> {
+    let rows: [(Option<u64>, Option<u64>, u8); 3] = [
+        (Some(0), None, 5),
+        (Some(12), None, 5),
+        (None, Some(0), 4),
+    ];
+    for row in &rows {
+        let (disk, output, status) = *row;
+        let case = Case {
+            words: &DRILL,
+            disk: &[],
+            failing: Failing {
+                disk,
+                output,
+                ..NOTHING
+            },
+            script: b"[",
+            told: &[],
+            status,
+        };
+        drop(leaves(&rt, &rt, case)?);
+    }
     Ok(())
 }

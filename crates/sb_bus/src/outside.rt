@@ -25,6 +25,9 @@ const NOT_MADE: u8 = 11;
 // The status where the output failed.
 const OUTPUT_FAILED: u8 = 4;
 
+// The status where a disk failed.
+const DISK_FAILED: u8 = 5;
+
 // The status for want of memory.
 const NO_MEMORY: u8 = 7;
 
@@ -133,6 +136,7 @@ fn status_of<T: Threads + Wait + Sync>(call: &mut Call<T>, form: &Form) -> u8 {
             call.key = key;
             with_server(call, form)
         }
+        Command::Drill => drill(call),
     }
 }
 
@@ -227,6 +231,17 @@ fn with_server<T: Threads + Wait + Sync>(call: &Call<T>, form: &Form) -> u8 {
         return status;
     }
     say(call.rt, status, "")
+}
+
+// A drill over empty disks in memory, which fail only for want of it.
+fn drill<T: Threads + Wait + Sync>(call: &Call<T>) -> u8 {
+    let status = over_nothing(call, &mut NoLink::new());
+    if status == DISK_FAILED || status == NO_MEMORY {
+        let _ = eprintln!(call.rt;
+            "bus: too little memory for this drill; start again with more, or with fewer calls"
+        );
+    }
+    status
 }
 
 // Calls the top over empty disks in memory, and this link.

@@ -69,10 +69,7 @@ fn says_what_is_wrong(rt: HostRuntime) -> Result<(), Fail> {
             "drill",
             "the following required arguments were not provided: <COUNT> <SEED>",
         ),
-        (
-            "drill 1000001 7",
-            "COUNT takes a number from 0 to 1000000",
-        ),
+        ("drill 1000001 7", "COUNT takes a number from 0 to 1000000"),
         (
             "drill 5 18446744073709551616",
             "SEED takes a number from 0 to 18446744073709551615",
