@@ -1,8 +1,18 @@
 pub mod Below
-mod BySession
-mod WhenDue
-mod Mirror
+mod Finding
+mod Finds
+mod GroupChanges
+mod GroupMoves
+mod Grouped
+mod Leading
+mod LockFinds
+pub mod Mirror
+mod OneRow
 mod Order
-mod Peeking
-mod SessionChanges
+mod Renewing
 mod SessionFinds
+mod SlotChanges
+mod Told
+mod Undue
+mod Walking
+mod WhenDue

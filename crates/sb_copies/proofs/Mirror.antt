@@ -1,6 +1,6 @@
 -- An index by number that has the rows of copies: what a change of these makes of it, and what it finds.
-use Rattle.std.proofs.Common.{◌≡◌, ℕ, ◌+◌, ◌<◌, List, [], ◌∷◌, ◌++◌, find, nat_lt, nat_le, ◌==◌, ◌&&◌, Bool, true, false, Option, Some, None, cond, refl, sym, ap, ◌∙◌, subst, arith}
-use Rattle.std.specs.List.{insert, list_all, prefix_len}
+use Rattle.std.proofs.Common.{◌≡◌, ℕ, ◌<◌, List, [], ◌∷◌, find, nat_lt, nat_le, ◌==◌, ◌&&◌, Bool, true, false, Option, Some, None, cond, refl, sym, ap, ◌∙◌, subst, arith}
+use Rattle.std.specs.List.{list_all}
 use Rattle.std.specs.Option.{option_map, option_map_or}
 use Rattle.std.proofs.lemmas.Bool.Decides.{nat_tests}
 use Rattle.std.proofs.lemmas.Bool.{ne_eqb}
@@ -16,7 +16,7 @@ use Rattle.sb_machine.specs.declared.state.Standing.TheVariants.{Ready, Deferred
 use Rattle.sb_machine.specs.declared.state.StoredCopy.{StoredCopy}
 use Rattle.sb_copies.specs.Dues.{due_at, due_renewed, due_when, never}
 use Rattle.sb_copies.specs.Shelf.{AreBelow, AreInOrder, is_before, row_in, rows_in, rows_of}
-use Rattle.sb_copies.proofs.Order.{both, one_more, same_number}
+use Rattle.sb_copies.proofs.Order.{both, same_number}
 
 -- ---- keys alone
 
@@ -30,29 +30,6 @@ rising_as e f (c ∷ cs) s = (above_as e f c.number cs s.0, rising_as e f cs s.1
 
 pub in_order : (e : Bool) (rows : List Row) (cs : List StoredCopy) → rows ≡ rows_in e cs → AreRising rows → AreInOrder cs
 in_order e rows cs is s = rising_as e false cs (subst (λ (l : List Row). AreRising l) is s)
-
--- ---- one more
-
-apart_number : (m n : ℕ) → nat_lt m n ≡ true → (n == m) ≡ false
-apart_number m n e = grind (arith, nat_tests)
-
-lacks : (e : Bool) (n : ℕ) (cs : List StoredCopy) → AreBelow n cs → Lacks n (rows_in e cs)
-lacks e n [] b = refl
-lacks e n (c ∷ cs) b = let it = both (nat_lt c.number n) (list_all (is_before n) cs) b in rw (apart_number c.number n it.0) (lacks e n cs it.1)
-
-pub lacks_row : (e : Bool) (n : ℕ) (rows : List Row) (cs : List StoredCopy) → rows ≡ rows_in e cs → AreBelow n cs → Lacks n rows
-lacks_row e n rows cs is b = subst (λ (l : List Row). Lacks n l) (sym is) (lacks e n cs b)
-
-put_last : (e : Bool) (c : StoredCopy) (cs : List StoredCopy) → AreBelow c.number cs → with_row (row_in e c) (rows_in e cs) ≡ rows_in e (cs ++ c ∷ [])
-put_last e c [] b = refl
-put_last e c (y ∷ ys) b =
-    let it = both (nat_lt y.number c.number) (list_all (is_before c.number) ys) b in
-    ap (λ t. insert (rows_in e (y ∷ ys)) (cond t (1 + prefix_len (is_below c.number) (rows_in e ys)) 0) (row_in e c)) it.0
-    ∙ ap (λ k. insert (rows_in e (y ∷ ys)) k (row_in e c)) (one_more (prefix_len (is_below c.number) (rows_in e ys)))
-    ∙ ap (λ (l : List Row). row_in e y ∷ l) (put_last e c ys it.1)
-
-pub row_put : (e : Bool) (c : StoredCopy) (rows new : List Row) (cs after : List StoredCopy) → rows ≡ rows_in e cs → AreBelow c.number cs → new ≡ with_row (row_in e c) rows → after ≡ cs ++ c ∷ [] → new ≡ rows_in e after
-row_put e c rows new cs after is b put pushed = put ∙ ap (λ (l : List Row). with_row (row_in e c) l) is ∙ put_last e c cs b ∙ ap (λ (l : List StoredCopy). rows_in e l) (sym pushed)
 
 -- ---- one less
 
@@ -118,7 +95,7 @@ first_marked e m (c ∷ cs) b =
     ∙ ap (λ (o : Option Row). cond (is_ready c.standing && true) (Some (row_in e c)) o) (first_marked e m cs it.1)
     ∙ mapped e (is_ready c.standing && true) c (find (is_ready_for None) cs)
 
-above_found : (n : ℕ) (p : StoredCopy → Bool) (c : StoredCopy) (cs : List StoredCopy) → AreAbove n (rows_of cs) → find p cs ≡ Some c → n < c.number
+pub above_found : (n : ℕ) (p : StoredCopy → Bool) (c : StoredCopy) (cs : List StoredCopy) → AreAbove n (rows_of cs) → find p cs ≡ Some c → n < c.number
 above_found n p c [] a found = absurd cc
 above_found n p c (y ∷ ys) a found = at (p y) refl (above_found n p c ys a.1) where
   at : (b : Bool) → p y ≡ b → (find p ys ≡ Some c → n < c.number) → n < c.number
@@ -154,21 +131,6 @@ none_of e (Some c) is = absurd cc
 
 pub marked_none : (e : Bool) (m : ℕ) (rows : List Row) (cs : List StoredCopy) → rows ≡ rows_in e cs → AreBelow m cs → None ≡ find (is_marked_within 0 m) rows → None ≡ find (is_ready_for None) cs
 marked_none e m rows cs is b found = sym (none_of e (find (is_ready_for None) cs) (sym (found ∙ ap (λ (l : List Row). find (is_marked_within 0 m) l) is ∙ first_marked e m cs b)))
-
-within : (m : ℕ) (x : Row) → is_marked_within 0 m x ≡ true → x.key < m
-within m x e = last_of x.marked (nat_le 0 x.key) (nat_lt x.key m) e refl where
-  lower : (n m : ℕ) → nat_lt n m ≡ true → n < m
-  lower n m e = grind (arith, nat_tests)
-
-  last_of : (a b t : Bool) → (a && (b && t)) ≡ true → nat_lt x.key m ≡ t → x.key < m
-  last_of a b t e is = lower x.key m (is ∙ (both b t (both a (b && t) e).1).1)
-
-pub key_below : (m : ℕ) (row : Row) (rows : List Row) → Some row ≡ find (is_marked_within 0 m) rows → row.key < m
-key_below m row [] found = absurd cc
-key_below m row (x ∷ xs) found = at (is_marked_within 0 m x) refl (key_below m row xs) where
-  at : (b : Bool) → is_marked_within 0 m x ≡ b → (Some row ≡ find (is_marked_within 0 m) xs → row.key < m) → row.key < m
-  at true e ih = let it : Some row ≡ Some x = rw e at found in let same : row ≡ x = cc in subst (λ (z : Row). z.key < m) (sym same) (within m x e)
-  at false e ih = ih (rw e at found)
 
 -- ---- what is told of one
 

@@ -12,45 +12,16 @@ use Rattle.sb_machine.specs.Messages.{has_text_of, text_of}
 use Rattle.sb_machine.specs.declared.state.StoredCopy.{StoredCopy}
 use Rattle.sb_model.specs.declared.message.SystemName.TheVariants.{SessionId}
 use Rattle.sb_machine.proofs.Places.{found_passes}
-use Rattle.sb_copies.specs.BySession.{HoldsSessions, is_hashed_to, is_under, session_hash, session_row, span}
+use Rattle.sb_copies.specs.BySession.{HoldsSessions, session_hash, session_hash_of}
+use Rattle.sb_copies.specs.Grouped.{is_in_group, is_under, own_row, span}
 use Rattle.sb_copies.specs.Shelf.{AreInOrder}
+use Rattle.sb_copies.proofs.Finds.{copy_of, find_filter, narrow_found, narrow_none, none_of}
 use Rattle.sb_copies.proofs.Mirror.{own_found}
 use Rattle.sb_copies.proofs.Order.{both}
 
-module _ {X : Type 0} where
-  find_filter : (p q : X → Bool) (xs : List X) → find (λ x. p x && q x) xs ≡ find p (filter q xs)
-  find_filter p q [] = refl
-  find_filter p q (x ∷ xs) = at (q x) refl (find_filter p q xs) where
-    at : (b : Bool) → q x ≡ b → find (λ y. p y && q y) xs ≡ find p (filter q xs) → find (λ y. p y && q y) (x ∷ xs) ≡ find p (filter q (x ∷ xs))
-    at true e ih = rw e (inner (p x)) where
-      inner : (t : Bool) → cond (t && true) (Some x) (find (λ y. p y && q y) xs) ≡ cond t (Some x) (find p (filter q xs))
-      inner true = refl
-      inner false = ih
-    at false e ih = rw e (inner (p x)) where
-      inner : (t : Bool) → cond (t && false) (Some x) (find (λ y. p y && q y) xs) ≡ find p (filter q xs)
-      inner true = ih
-      inner false = ih
-
-  -- by a test that only those pass which pass another
-  narrow_found : (p q : X → Bool) (xs : List X) (x : X) → ((y : X) → p y ≡ true → q y ≡ true) → find q xs ≡ Some x → p x ≡ true → find p xs ≡ Some x
-  narrow_found p q [] x all found passes = absurd cc
-  narrow_found p q (y ∷ ys) x all found passes = at (q y) refl (narrow_found p q ys x all) where
-    at : (b : Bool) → q y ≡ b → (find q ys ≡ Some x → p x ≡ true → find p ys ≡ Some x) → find p (y ∷ ys) ≡ Some x
-    at true e ih = let it : Some y ≡ Some x = rw e at found in let same : y ≡ x = cc in rw (ap p same ∙ passes) it
-    at false e ih = inner (p y) refl where
-      inner : (t : Bool) → p y ≡ t → find p (y ∷ ys) ≡ Some x
-      inner true f = absurd (let bad : false ≡ true = sym e ∙ all y f in cc)
-      inner false f = let rest : find q ys ≡ Some x = rw e at found in rw f (ih rest passes)
-
-  narrow_none : (p q : X → Bool) (xs : List X) → ((y : X) → p y ≡ true → q y ≡ true) → find q xs ≡ None → find p xs ≡ None
-  narrow_none p q [] all found = refl
-  narrow_none p q (y ∷ ys) all found = at (q y) refl (narrow_none p q ys all) where
-    at : (b : Bool) → q y ≡ b → (find q ys ≡ None → find p ys ≡ None) → find p (y ∷ ys) ≡ None
-    at true e ih = absurd (let bad : Some y ≡ None = rw e at found in cc)
-    at false e ih = inner (p y) refl where
-      inner : (t : Bool) → p y ≡ t → find p (y ∷ ys) ≡ None
-      inner true f = absurd (let bad : false ≡ true = sym e ∙ all y f in cc)
-      inner false f = let rest : find q ys ≡ None = rw e at found in rw f (ih rest)
+-- a message's row under a hash
+abbrev session_row : ℕ → StoredCopy → Row
+session_row h c = own_row (λ x. is_ready x.standing) h c
 
 marked_rows : (h : ℕ) (cs : List StoredCopy) → find is_marked (map (session_row h) cs) ≡ option_map (session_row h) (find (λ c. is_ready c.standing) cs)
 marked_rows h [] = refl
@@ -59,45 +30,37 @@ marked_rows h (c ∷ cs) = ap (λ (o : Option Row). cond (is_ready c.standing) (
   at true = refl
   at false = refl
 
-first_of : (h : ℕ) (rows : List Row) (cs : List StoredCopy) → HoldsSessions rows cs → find (is_marked_within (h * span) (h * span + span)) rows ≡ option_map (session_row h) (find (λ c. is_ready c.standing && is_hashed_to h c) cs)
+first_of : (h : ℕ) (rows : List Row) (cs : List StoredCopy) → HoldsSessions rows cs → find (is_marked_within (h * span) (h * span + span)) rows ≡ option_map (session_row h) (find (λ c. is_ready c.standing && is_in_group session_hash_of h c) cs)
 first_of h rows cs holds =
     find_filter is_marked (is_under h) rows
     ∙ ap (λ (l : List Row). find is_marked l) (holds h)
-    ∙ marked_rows h (filter (is_hashed_to h) cs)
-    ∙ ap (λ (o : Option StoredCopy). option_map (session_row h) o) (sym (find_filter (λ c. is_ready c.standing) (is_hashed_to h) cs))
+    ∙ marked_rows h (filter (is_in_group session_hash_of h) cs)
+    ∙ ap (λ (o : Option StoredCopy). option_map (session_row h) o) (sym (find_filter (λ c. is_ready c.standing) (is_in_group session_hash_of h) cs))
 
-hashed : (id : List ℕ) (c : StoredCopy) → has_text_of SessionId id c.message ≡ true → is_hashed_to (session_hash id) c ≡ true
+hashed : (id : List ℕ) (c : StoredCopy) → has_text_of SessionId id c.message ≡ true → is_in_group session_hash_of (session_hash id) c ≡ true
 hashed id c e = at (text_of SessionId c.message) refl where
-  at : (o : Option (List ℕ)) → text_of SessionId c.message ≡ o → is_hashed_to (session_hash id) c ≡ true
+  at : (o : Option (List ℕ)) → text_of SessionId c.message ≡ o → is_in_group session_hash_of (session_hash id) c ≡ true
   at None is = absurd (let bad : false ≡ true = rw (has_text_of, is) at e in cc)
   at (Some own) is =
       let alike : bytes_eq own id ≡ true = rw (has_text_of, is) at e in
       let same : own ≡ id = (bytes_eq-Decides own id).0 alike in
       rw is (eq-eqb (session_hash own) (session_hash id) (ap (λ z. session_hash z) same))
 
-of_session : (id : List ℕ) (c : StoredCopy) → (is_ready c.standing && has_text_of SessionId id c.message) ≡ true → (is_ready c.standing && is_hashed_to (session_hash id) c) ≡ true
+of_session : (id : List ℕ) (c : StoredCopy) → (is_ready c.standing && has_text_of SessionId id c.message) ≡ true → (is_ready c.standing && is_in_group session_hash_of (session_hash id) c) ≡ true
 of_session id c e = let it = both (is_ready c.standing) (has_text_of SessionId id c.message) e in rw (it.0, hashed id c it.1) refl
-
-copy_of : (h : ℕ) (o : Option StoredCopy) (row : Row) → option_map (session_row h) o ≡ Some row → (c : StoredCopy) × (o ≡ Some c) × (row.value ≡ c.number)
-copy_of h None row e = absurd cc
-copy_of h (Some c) row e = let it : session_row h c ≡ row = cc in (c, refl, ap (λ (x : Row). x.value) (sym it))
-
-none_of : (h : ℕ) (o : Option StoredCopy) → option_map (session_row h) o ≡ None → o ≡ None
-none_of h None e = refl
-none_of h (Some c) e = absurd cc
 
 pub ready_there : (id : List ℕ) (row : Row) (rows : List Row) (cs : List StoredCopy) (copy : StoredCopy) → HoldsSessions rows cs → AreInOrder cs → Some row ≡ find (is_marked_within (session_hash id * span) (session_hash id * span + span)) rows → Some copy ≡ find (has_number row.value) cs → has_text_of SessionId id copy.message ≡ true → Some copy ≡ find (λ c. is_ready c.standing && has_text_of SessionId id c.message) cs
 ready_there id row rows cs copy holds s found numbered own =
-    let q : StoredCopy → Bool = λ c. is_ready c.standing && is_hashed_to (session_hash id) c in
-    let it = copy_of (session_hash id) (find q cs) row (sym (found ∙ first_of (session_hash id) rows cs holds)) in
+    let q : StoredCopy → Bool = λ c. is_ready c.standing && is_in_group session_hash_of (session_hash id) c in
+    let it = copy_of (λ x. is_ready x.standing) (session_hash id) (find q cs) row (sym (found ∙ first_of (session_hash id) rows cs holds)) in
     let c = it.0 in
     let alike : Some copy ≡ Some c = numbered ∙ ap (λ n. find (has_number n) cs) it.2 ∙ own_found q c cs s it.1 in
     let same : copy ≡ c = cc in
     let first : find q cs ≡ Some copy = it.1 ∙ ap (λ z. Some z) (sym same) in
-    let ready : is_ready copy.standing ≡ true = (both (is_ready copy.standing) (is_hashed_to (session_hash id) copy) (found_passes q cs copy first)).0 in
+    let ready : is_ready copy.standing ≡ true = (both (is_ready copy.standing) (is_in_group session_hash_of (session_hash id) copy) (found_passes q cs copy first)).0 in
     let passes : (is_ready copy.standing && has_text_of SessionId id copy.message) ≡ true = rw (ready, own) refl in
     sym (narrow_found (λ c. is_ready c.standing && has_text_of SessionId id c.message) q cs copy (of_session id) first passes)
 
 pub ready_nowhere : (id : List ℕ) (rows : List Row) (cs : List StoredCopy) → HoldsSessions rows cs → None ≡ find (is_marked_within (session_hash id * span) (session_hash id * span + span)) rows → None ≡ find (λ c. is_ready c.standing && has_text_of SessionId id c.message) cs
 ready_nowhere id rows cs holds found =
-    sym (narrow_none (λ c. is_ready c.standing && has_text_of SessionId id c.message) (λ c. is_ready c.standing && is_hashed_to (session_hash id) c) cs (of_session id) (none_of (session_hash id) (find (λ c. is_ready c.standing && is_hashed_to (session_hash id) c) cs) (sym (found ∙ first_of (session_hash id) rows cs holds))))
+    sym (narrow_none (λ c. is_ready c.standing && has_text_of SessionId id c.message) (λ c. is_ready c.standing && is_in_group session_hash_of (session_hash id) c) cs (of_session id) (none_of (λ x. is_ready x.standing) (session_hash id) (find (λ c. is_ready c.standing && is_in_group session_hash_of (session_hash id) c) cs) (sym (found ∙ first_of (session_hash id) rows cs holds))))

@@ -1,19 +1,17 @@
 -- What an index by number tells of when its copies come due.
-use Rattle.std.proofs.Common.{◌≡◌, ℕ, ◌<◌, ◌≤◌, List, [], ◌∷◌, ◌++◌, map, find, min, nat_le, Bool, true, false, Option, Some, None, cond, refl, sym, ap, ◌∙◌, arith}
-use Rattle.std.specs.List.{filter, fold}
+use Rattle.std.proofs.Common.{◌≡◌, ℕ, ◌≤◌, List, [], ◌∷◌, ◌++◌, map, min, nat_le, Bool, true, false, Option, Some, None, cond, refl, sym, ap, ◌∙◌, arith}
+use Rattle.std.specs.List.{fold}
+use Rattle.std.specs.Prelude.{option_to_list}
 use Rattle.std.proofs.lemmas.Bool.Decides.{nat_tests}
-use Rattle.std.proofs.lemmas.Bool.{eq-eqb, ne_eqb}
 use Rattle.std.proofs.lemmas.List.{append-nil}
-use Rattle.sb_index.specs.Rows.{AreAbove, due_values, least_due}
-use Rattle.sb_index.specs.Rows as index
+use Rattle.slab.specs.Slab.{Slab, get}
+use Rattle.sb_index.specs.Rows.{least_due}
 use Rattle.sb_index.specs.declared.row.Row.{Row}
-use Rattle.sb_machine.specs.Each.{Each}
-use Rattle.sb_machine.specs.Leaves.{has_number}
 use Rattle.sb_machine.specs.declared.state.Standing.{Standing}
 use Rattle.sb_machine.specs.declared.state.Standing.TheVariants.{Ready, Deferred, Held, Scheduled}
 use Rattle.sb_machine.specs.declared.state.StoredCopy.{StoredCopy}
-use Rattle.sb_copies.specs.Dues.{copy_expiry, due_by, due_of, in_range, is_due, least_of, moment_of, never, standing_due}
-use Rattle.sb_copies.specs.Shelf.{AreInOrder, one_of, row_in, rows_in, rows_of, those_of}
+use Rattle.sb_copies.specs.Dues.{copy_expiry, due_of, in_range, least_of, moment_of, never, standing_due}
+use Rattle.sb_copies.specs.Shelf.{held_at, rows_in}
 
 -- ---- moments
 
@@ -35,7 +33,7 @@ ranged expires end Deferred = refl
 ranged expires end (Held lock hold deferred) = refl
 ranged expires end (Scheduled at) = refl
 
-at_most : (o : Option ℕ) → moment_of o ≤ never
+pub at_most : (o : Option ℕ) → moment_of o ≤ never
 at_most None = omega arith
 at_most (Some d) = omega arith
 
@@ -64,54 +62,10 @@ least_some e d rows cs is least = ap or_never least ∙ ap (λ (l : List Row). o
 pub least_none : (e : Bool) (rows : List Row) (cs : List StoredCopy) → rows ≡ rows_in e cs → None ≡ least_due rows → never ≡ least_of e cs
 least_none e rows cs is least = ap or_never least ∙ ap (λ (l : List Row). or_never (least_due l)) is ∙ least_in e cs
 
--- ---- those of numbers
+-- ---- those under keys
 
-one_is : (n : ℕ) (cs : List StoredCopy) (c : StoredCopy) → find (has_number n) cs ≡ Some c → one_of n cs ≡ c ∷ []
-one_is n cs c there = at (find (has_number n) cs) there where
-  at : (o : Option StoredCopy) → o ≡ Some c → ◌≡◌ {A = List StoredCopy} (elim o [ Some x ↦ x ∷ [] | None ↦ [] ]) (c ∷ [])
-  at None e = absurd (let bad : None ≡ Some c = e in cc)
-  at (Some x) e = let same : x ≡ c = cc in ap (λ (z : StoredCopy). z ∷ []) same
+pub one_more_there : (found : List StoredCopy) (key : ℕ) (slots : Slab StoredCopy) (c : StoredCopy) → Some c ≡ get slots key → found ++ c ∷ [] ≡ found ++ held_at slots key
+one_more_there found key slots c there = ap (λ (o : Option StoredCopy). found ++ option_to_list o) there
 
-none_is : (n : ℕ) (cs : List StoredCopy) → find (has_number n) cs ≡ None → one_of n cs ≡ []
-none_is n cs there = at (find (has_number n) cs) there where
-  at : (o : Option StoredCopy) → o ≡ None → ◌≡◌ {A = List StoredCopy} (elim o [ Some x ↦ x ∷ [] | None ↦ [] ]) []
-  at None e = refl
-  at (Some x) e = absurd (let bad : Some x ≡ None = e in cc)
-
-pub one_more_there : (found : List StoredCopy) (n : ℕ) (cs : List StoredCopy) (c : StoredCopy) → Some c ≡ find (has_number n) cs → found ++ c ∷ [] ≡ found ++ one_of n cs
-one_more_there found n cs c there = ap (λ (l : List StoredCopy). found ++ l) (sym (one_is n cs c (sym there)))
-
-pub none_there : (found : List StoredCopy) (n : ℕ) (cs : List StoredCopy) → None ≡ find (has_number n) cs → found ≡ found ++ one_of n cs
-none_there found n cs there = sym (append-nil found) ∙ ap (λ (l : List StoredCopy). found ++ l) (sym (none_is n cs (sym there)))
-
--- each copy is found by its number
-abbrev Found : List StoredCopy → StoredCopy → Type 0
-Found cs c = find (has_number c.number) cs ≡ Some c
-
-at_own : (c : StoredCopy) (cs : List StoredCopy) → find (has_number c.number) (c ∷ cs) ≡ Some c
-at_own c cs = rw (eq-eqb c.number c.number refl) refl
-
-at_behind : (y b : StoredCopy) (cs : List StoredCopy) → y.number < b.number → find (has_number b.number) cs ≡ Some b → find (has_number b.number) (y ∷ cs) ≡ Some b
-at_behind y b cs p is = rw (ne_eqb y.number b.number (omega (arith, p))) is
-
-still_found : (y : StoredCopy) (cs bs : List StoredCopy) → AreAbove y.number (rows_of bs) → Each (Found cs) bs → Each (Found (y ∷ cs)) bs
-still_found y cs [] a is = tt
-still_found y cs (b ∷ bs) a is = (at_behind y b cs a.0 is.0, still_found y cs bs a.1 is.1)
-
-each_found : (cs : List StoredCopy) → AreInOrder cs → Each (Found cs) cs
-each_found [] s = tt
-each_found (c ∷ cs) s = (at_own c cs, still_found c cs cs s.0 (each_found cs s.1))
-
-those_due : (e : Bool) (m : ℕ) (cs bs : List StoredCopy) → Each (Found cs) bs → those_of (due_values m (rows_in e bs)) cs ≡ due_by e m bs
-those_due e m cs [] is = refl
-those_due e m cs (b ∷ bs) is = at (is_due e m b) (those_due e m cs bs is.1) where
-  at : (t : Bool) → those_of (due_values m (rows_in e bs)) cs ≡ due_by e m bs
-      → those_of (map (λ x. x.value) (cond t (row_in e b ∷ filter (index.is_due m) (rows_in e bs)) (filter (index.is_due m) (rows_in e bs)))) cs ≡ cond t (b ∷ due_by e m bs) (due_by e m bs)
-  at true ih = ap (λ (l : List StoredCopy). l ++ those_of (due_values m (rows_in e bs)) cs) (one_is b.number cs b is.0) ∙ ap (λ (l : List StoredCopy). b ∷ l) ih
-  at false ih = ih
-
-pub due_found : (e : Bool) (m : ℕ) (rows : List Row) (ns : List ℕ) (cs found : List StoredCopy) → AreInOrder cs → rows ≡ rows_in e cs → ns ≡ due_values m rows → found ≡ those_of ns cs → found ≡ due_by e m cs
-due_found e m rows ns cs found s is numbers there =
-    there
-    ∙ ap (λ (l : List ℕ). those_of l cs) (numbers ∙ ap (λ (l : List Row). due_values m l) is)
-    ∙ those_due e m cs cs (each_found cs s)
+pub none_there : (found : List StoredCopy) (key : ℕ) (slots : Slab StoredCopy) → None ≡ get slots key → found ≡ found ++ held_at slots key
+none_there found key slots there = sym (append-nil found) ∙ ap (λ (o : Option StoredCopy). found ++ option_to_list o) there

@@ -1,21 +1,25 @@
 -- The messages of one queue or subqueue (the copies on a shelf), as contracts see them.
-use Rattle.std.specs.Prelude.{◌≡◌, ℕ, nat_lt, Bool, true, false, List, [], ◌∷◌, map, find, Some, None}
+use Rattle.std.specs.Prelude.{◌≡◌, ℕ, nat_lt, Bool, true, false, List, map, option_to_list}
 use Rattle.std.specs.List.{flat_map, list_all}
+use Rattle.slab.specs.Slab.{Slab, get}
 use Rattle.sb_index.specs.Rows.{AreRising}
 use Rattle.sb_index.specs.declared.row.Row.{Row}
 use Rattle.sb_machine.specs.Leases.{is_ready}
-use Rattle.sb_machine.specs.Leaves.{has_number}
 use Rattle.sb_machine.specs.declared.state.StoredCopy.{StoredCopy}
 use Rattle.sb_copies.specs.Dues.{due_of}
 
--- the messages of a part, and how many more fit
+-- the messages of a part, and what it has room for
 pub record Shelved : Type 0 where
   -- in the order in which they were put there
   pub copies : List StoredCopy
   -- so many more may be put there
   pub spare : ℕ
+  -- so many of them may come to be held
+  pub locks : ℕ
   -- whether they come due once they have expired
   pub expires : Bool
+  -- the numbers of those that are told to be heads of their sessions, in no order
+  pub heads : List ℕ
 
 -- ---- their order by number
 
@@ -43,12 +47,28 @@ rows_of copies = rows_in false copies
 abbrev pub AreInOrder : List StoredCopy → Type 0
 AreInOrder copies = AreRising (rows_of copies)
 
--- ---- those of numbers
+-- ---- in a slab, where the rows of an index by number have the keys of its slots as values
 
--- the one of this number, if it is there
-abbrev pub one_of : ℕ → List StoredCopy → List StoredCopy
-one_of n copies = elim (find (has_number n) copies) [ Some c ↦ c ∷ [] | None ↦ [] ]
+-- the message under a key, if one is there
+abbrev pub held_at : Slab StoredCopy → ℕ → List StoredCopy
+held_at slots key = option_to_list (get slots key)
 
--- those of these numbers, in their order
-abbrev pub those_of : List ℕ → List StoredCopy → List StoredCopy
-those_of ns copies = flat_map (λ n. one_of n copies) ns
+-- the messages under these keys, in their order
+abbrev pub held_in : Slab StoredCopy → List ℕ → List StoredCopy
+held_in slots keys = flat_map (held_at slots) keys
+
+-- the messages that rows lead to, in their order
+abbrev pub copies_in : Slab StoredCopy → List Row → List StoredCopy
+copies_in slots rows = flat_map (λ r. held_at slots r.value) rows
+
+-- each row leads to a message, the one whose number is the row's key
+abbrev pub Leads : Slab StoredCopy → List Row → Type 0
+Leads slots rows = map (λ r. r.key) rows ≡ map (λ c. c.number) (copies_in slots rows)
+
+-- a row as it stands where values are numbers
+abbrev pub unkeyed : Row → Row
+unkeyed r = record r { value = r.key }
+
+-- each row leads to a message, and tells of it what its row by number does
+abbrev pub Mirrors : Bool → Slab StoredCopy → List Row → Type 0
+Mirrors expires slots rows = map unkeyed rows ≡ rows_in expires (copies_in slots rows)

@@ -4,14 +4,14 @@ ghost use Rattle.std.specs.Option.{option_map_or};
 ghost use Rattle.sb_machine.specs.Leases as lease;
 ghost use Rattle.sb_machine.specs.Leaves.{has_number};
 ghost use Rattle.sb_copies.specs.Dues as spec;
-ghost use Rattle.sb_copies.specs.Shelf.{one_of, rows_in, those_of, AreInOrder};
+ghost use Rattle.sb_copies.specs.Shelf.{copies_in, held_at, held_in, Leads, Mirrors};
 
 use crate::places::numbered;
 use crate::standings::{is_ready, prolonged};
 use sb_index::Index;
 use sb_machine::{Hold, Standing, StoredCopy};
+use slab::Slab;
 use std::alloc::{AllocError, Global};
-use std::collections::VecDeque;
 
 // The last moment that there is.
 const NEVER: u64 = u64::MAX;
@@ -82,33 +82,45 @@ pub fn due_of(expires: bool, copy: &StoredCopy) -> u64
 // ---- of a number
 
 /// When the copy of this number comes due once it stands so.
-pub fn due_at(expires: bool, rows: &VecDeque<StoredCopy>, number: u64, standing: Standing) -> u64
-    requires { AreInOrder rows.now.items }
-    ensures { result ≡ spec.due_at expires number standing rows.now.items }
+pub fn due_at(
+    expires: bool,
+    slots: &Slab<StoredCopy>,
+    order: &Index,
+    number: u64,
+    standing: Standing,
+) -> u64
+    requires { Leads slots.now order.now.rows }
+    ensures { result ≡ spec.due_at expires number standing (copies_in slots.now order.now.rows) }
 {
-    match numbered(rows, number) {
+    match numbered(slots, order, number) {
         Some(copy) => due_when(expires, copy, standing),
         None => NEVER,
     }
 }
 
 /// When the copy of this number comes due once its lock lives until then.
-pub fn due_renewed(expires: bool, rows: &VecDeque<StoredCopy>, number: u64, until: u64) -> u64
-    requires { AreInOrder rows.now.items }
-    ensures { result ≡ spec.due_renewed expires number until rows.now.items }
+pub fn due_renewed(
+    expires: bool,
+    slots: &Slab<StoredCopy>,
+    order: &Index,
+    number: u64,
+    until: u64,
+) -> u64
+    requires { Leads slots.now order.now.rows }
+    ensures { result ≡ spec.due_renewed expires number until (copies_in slots.now order.now.rows) }
 {
-    match numbered(rows, number) {
+    match numbered(slots, order, number) {
         Some(copy) => due_when(expires, copy, prolonged(copy.standing, until)),
         None => NEVER,
     }
 }
 
 /// Whether the copy of this number may be received.
-pub fn is_ready_at(rows: &VecDeque<StoredCopy>, number: u64) -> bool
-    requires { AreInOrder rows.now.items }
-    ensures { result ≡ option_map_or (λ c. lease.is_ready c.standing) (find (has_number number) rows.now.items) false }
+pub fn is_ready_at(slots: &Slab<StoredCopy>, order: &Index, number: u64) -> bool
+    requires { Leads slots.now order.now.rows }
+    ensures { result ≡ option_map_or (λ c. lease.is_ready c.standing) (find (has_number number) (copies_in slots.now order.now.rows)) false }
 {
-    match numbered(rows, number) {
+    match numbered(slots, order, number) {
         Some(copy) => is_ready(copy.standing),
         None => false,
     }
@@ -117,10 +129,10 @@ pub fn is_ready_at(rows: &VecDeque<StoredCopy>, number: u64) -> bool
 // ---- of all
 
 /// The least moment at which one comes due, by the index that has their rows.
-#[tactic(auto, using(crate::proofs::WhenDue::least_some, crate::proofs::WhenDue::least_none))]
-pub fn least_due(expires: bool, rows: &VecDeque<StoredCopy>, order: &Index) -> u64
-    requires mirrored { order.now.rows ≡ rows_in expires rows.now.items }
-    ensures { result ≡ spec.least_of expires rows.now.items }
+#[tactic(auto, using(crate::proofs::Finding::soonest_some, crate::proofs::Finding::soonest_none))]
+pub fn least_due(expires: bool, slots: &Slab<StoredCopy>, order: &Index) -> u64
+    requires mirrored { Mirrors expires slots.now order.now.rows }
+    ensures { result ≡ spec.least_of expires (copies_in slots.now order.now.rows) }
 {
     match order.least_due() {
         Some(due) => due,
@@ -129,34 +141,32 @@ pub fn least_due(expires: bool, rows: &VecDeque<StoredCopy>, order: &Index) -> u
 }
 
 /// Those that have come due by this moment, in order, by the index that has their rows.
-#[tactic(auto, using(crate::proofs::WhenDue::due_found))]
+#[tactic(auto, using(crate::proofs::Finding::due_found))]
 pub fn due_by<'a>(
     alloc: Global,
     expires: bool,
-    rows: &'a VecDeque<StoredCopy>,
+    slots: &'a Slab<StoredCopy>,
     order: &Index,
     moment: u64,
 ) -> Result<Vec<&'a StoredCopy>, AllocError>
-    requires order { AreInOrder rows.now.items }
-    requires mirrored { order.now.rows ≡ rows_in expires rows.now.items }
-    ensures { IfOk result (λ found. map (λ c. c.now) found.items ≡ spec.due_by expires moment rows.now.items) }
+    requires mirrored { Mirrors expires slots.now order.now.rows }
+    ensures { IfOk result (λ found. map (λ c. c.now) found.items ≡ spec.due_by expires moment (copies_in slots.now order.now.rows)) }
 {
-    let numbers = order.due_values(moment)?;
-    copies_of(alloc, rows, &numbers)
+    let keys = order.due_values(moment)?;
+    copies_of(alloc, slots, &keys)
 }
 
-// The copies of these numbers, in their order.
+// The copies under these keys, in their order.
 fn copies_of<'a>(
     alloc: Global,
-    rows: &'a VecDeque<StoredCopy>,
-    numbers: &[u64],
+    slots: &'a Slab<StoredCopy>,
+    keys: &[u64],
 ) -> Result<Vec<&'a StoredCopy>, AllocError>
-    requires { AreInOrder rows.now.items }
-    ensures { IfOk result (λ found. map (λ c. c.now) found.items ≡ those_of numbers.now rows.now.items) }
+    ensures { IfOk result (λ found. map (λ c. c.now) found.items ≡ held_in slots.now keys.now) }
 {
     let mut found = Vec::new(alloc);
-    for number in numbers {
-        found = with_one(found, rows, *number)?;
+    for key in keys {
+        found = with_one(found, slots, *key)?;
     }
     Ok(found)
 }
@@ -164,14 +174,13 @@ fn copies_of<'a>(
 #[tactic(auto, using(crate::proofs::WhenDue::one_more_there, crate::proofs::WhenDue::none_there))]
 fn with_one<'a>(
     found: Vec<&'a StoredCopy>,
-    rows: &'a VecDeque<StoredCopy>,
-    number: u64,
+    slots: &'a Slab<StoredCopy>,
+    key: u64,
 ) -> Result<Vec<&'a StoredCopy>, AllocError>
-    requires { AreInOrder rows.now.items }
-    ensures { IfOk result (λ v. map (λ c. c.now) v.items ≡ map (λ c. c.now) found.entry.items ++ one_of number rows.now.items) }
+    ensures { IfOk result (λ v. map (λ c. c.now) v.items ≡ map (λ c. c.now) found.entry.items ++ held_at slots.now key) }
 {
     let mut found = found;
-    if let Some(copy) = numbered(rows, number) {
+    if let Some(copy) = slots.get(key as usize) {
         found.push(copy)?;
     }
     Ok(found)

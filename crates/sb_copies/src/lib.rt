@@ -3,13 +3,16 @@
 //! A [`Shelf`] stands on the model and on `sb_index`: contracts see it as the list of its copies
 //! and a number of slots that are promised. Each finder is the model's word on that list, and each
 //! change is the case of the model's `leaf_after` that it carries out. Numbers rise, since a copy
-//! that is added has one above all others: so it is found by its number without a look at those
-//! before it. What adds a copy takes a slot that was promised before, and so can't fail.
+//! that is added has one above all others. The copies stand in the slots of a slab, and an index by
+//! number leads to each: so it is found, and taken out, without a look at those before it, and no
+//! other is moved. What adds a copy or has one held takes a slot that was promised before, and so
+//! can't fail. The copies that are held under a lock are found by that, without a look at any other.
 //!
 //! ```text
 //! let mut shelf = Shelf::new(alloc, true);               // copies expire there
 //! shelf.reserve(1)?;                                   // a slot is promised
 //! shelf.push(copy);                                    // and taken: this can't fail
+//! shelf.reserve_locks(1)?;                             // so is one for holding
 //! if let Some(first) = shelf.first_ready() {
 //!     let number = first.number;
 //!     shelf.hold(number, lock, Hold::Until(moment));   // it is handed out
@@ -19,6 +22,9 @@
 #![tactic(auto)]
 
 mod dues;
+mod groups;
+mod heads;
+mod locks;
 mod looks;
 mod names;
 mod places;

@@ -1,12 +1,13 @@
 // Looking at copies, which leaves them as they are.
 ghost use Rattle.std.specs.Prelude.{◌≡◌, IfOk};
 ghost use Rattle.sb_machine.specs.Receiving as spec;
-ghost use Rattle.sb_copies.specs.Shelf.{AreInOrder};
+ghost use Rattle.sb_copies.specs.Shelf.{copies_in, AreInOrder, Leads};
 
-use crate::places::place_from;
+use crate::places::first_from;
+use sb_index::Index;
 use sb_machine::{CopyShown, CopyState, Showing, Standing, StoredCopy};
+use slab::Slab;
 use std::alloc::{AllocError, Global};
-use std::collections::VecDeque;
 
 fn seen_as(standing: Standing) -> CopyState
     ensures { result ≡ spec.seen_as standing }
@@ -32,24 +33,26 @@ fn browsed(copy: &StoredCopy) -> Result<CopyShown, AllocError>
     })
 }
 
+/// Up to `count` copies from the number `start` on, each found by the index.
 pub fn peek(
     alloc: Global,
-    rows: &VecDeque<StoredCopy>,
+    slots: &Slab<StoredCopy>,
+    order: &Index,
     start: u64,
     count: u64,
 ) -> Result<Vec<CopyShown>, AllocError>
-    requires { AreInOrder rows.now.items }
-    ensures { IfOk result (λ v. v.items ≡ spec.peeked start count rows.now.items) }
+    requires order { AreInOrder (copies_in slots.now order.now.rows) }
+    requires leads { Leads slots.now order.now.rows }
+    ensures { IfOk result (λ v. v.items ≡ spec.peeked start count (copies_in slots.now order.now.rows)) }
 {
-    let first = place_from(rows, start);
     let mut seen = Vec::new(alloc);
-    let mut left = count;
-    for place in first..rows.len() {
-        if left == 0 {
-            break;
-        }
-        seen.push(browsed(&rows[place])?)?;
-        left -= 1;
+    let mut from = u128::from(start);
+    for _ in 0..count {
+        let Some(copy) = first_from(slots, order, from) else {
+            return Ok(seen);
+        };
+        seen.push(browsed(copy)?)?;
+        from = u128::from(copy.number) + 1;
     }
     Ok(seen)
 }

@@ -1,51 +1,41 @@
-// Where copies stand whose numbers rise, by bisection.
-ghost use Rattle.std.specs.Prelude.{◌≡◌, find, position, false};
-ghost use Rattle.std.specs.List.{prefix_len, slice_get};
-ghost use Rattle.std.specs.Option.{option_map, option_map_or};
+// Where copies stand: in a slab, under the keys that the rows of an index by number have as values.
+ghost use Rattle.std.specs.Prelude.{◌≡◌, find, nat_le};
+ghost use Rattle.std.specs.Option.{option_map};
 ghost use Rattle.sb_machine.specs.Leaves.{has_number};
-ghost use Rattle.sb_copies.specs.Shelf.{is_before, AreInOrder};
+ghost use Rattle.sb_copies.specs.Shelf.{copies_in, Leads};
 
+use sb_index::Index;
 use sb_machine::StoredCopy;
-use std::collections::VecDeque;
-
-/// The place of the first copy that has this number or a higher one.
-pub fn place_from(rows: &VecDeque<StoredCopy>, number: u64) -> usize
-    requires { AreInOrder rows.now.items }
-    ensures { result ≡ prefix_len (is_before number) rows.now.items }
-{
-    rows.partition_point(|c| c.number < number)
-}
-
-/// The place of the copy of this number.
-#[tactic(auto, using(crate::proofs::Order::found_place, crate::proofs::Order::lacking_place))]
-pub fn place_of(rows: &VecDeque<StoredCopy>, number: u64) -> Option<usize>
-    requires { AreInOrder rows.now.items }
-    ensures { result ≡ position (has_number number) rows.now.items }
-{
-    let place = place_from(rows, number);
-    if is_numbered_at(rows, place, number) {
-        Some(place)
-    } else {
-        None
-    }
-}
+use slab::Slab;
 
 /// The copy of this number.
-pub fn numbered(rows: &VecDeque<StoredCopy>, number: u64) -> Option<&StoredCopy>
-    requires { AreInOrder rows.now.items }
-    ensures { option_map (λ c. c.now) result ≡ find (has_number number) rows.now.items }
+#[tactic(auto, using(crate::proofs::Finding::numbered_there, crate::proofs::Finding::numbered_none))]
+pub fn numbered<'a>(
+    slots: &'a Slab<StoredCopy>,
+    order: &Index,
+    number: u64,
+) -> Option<&'a StoredCopy>
+    requires { Leads slots.now order.now.rows }
+    ensures { option_map (λ c. c.now) result ≡ find (has_number number) (copies_in slots.now order.now.rows) }
 {
-    match place_of(rows, number) {
-        Some(place) => Some(&rows[place]),
+    match order.get(u128::from(number)) {
+        Some(row) => slots.get(row.value as usize),
         None => None,
     }
 }
 
-fn is_numbered_at(rows: &VecDeque<StoredCopy>, place: usize, number: u64) -> bool
-    ensures { result ≡ option_map_or (has_number number) (slice_get rows.now.items place) false }
+/// The first copy whose number is at least this one.
+#[tactic(auto, using(crate::proofs::Finding::from_there, crate::proofs::Finding::from_none))]
+pub fn first_from<'a>(
+    slots: &'a Slab<StoredCopy>,
+    order: &Index,
+    number: u128,
+) -> Option<&'a StoredCopy>
+    requires { Leads slots.now order.now.rows }
+    ensures { option_map (λ c. c.now) result ≡ find (λ c. nat_le number c.number) (copies_in slots.now order.now.rows) }
 {
-    match rows.get(place) {
-        Some(copy) => copy.number == number,
-        None => false,
+    match order.first_from(number) {
+        Some(row) => slots.get(row.value as usize),
+        None => None,
     }
 }

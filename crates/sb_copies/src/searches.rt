@@ -1,5 +1,5 @@
 // Searches among copies whose numbers rise.
-ghost use Rattle.std.specs.Prelude.{◌≡◌, ◌==◌, ◌&&◌, ◌+◌, ◌*◌, ◌^◌, ◌<◌, find, position, None};
+ghost use Rattle.std.specs.Prelude.{◌≡◌, ◌==◌, ◌&&◌, ◌+◌, ◌*◌, ◌^◌, find, None};
 ghost use Rattle.std.specs.Option.{option_map};
 ghost use Rattle.sb_index.specs.Rows.{is_marked_within};
 ghost use Rattle.sb_machine.specs.Claims.{is_of};
@@ -8,73 +8,66 @@ ghost use Rattle.sb_machine.specs.Leaves.{has_number, is_deferred};
 ghost use Rattle.sb_machine.specs.Messages.{has_text_of};
 ghost use Rattle.sb_machine.specs.Receiving.{is_ready_for};
 ghost use Rattle.sb_model.specs.declared.message.SystemName.TheVariants.{SessionId};
-ghost use Rattle.sb_copies.specs.BySession.{session_hash, span, HoldsSessions};
-ghost use Rattle.sb_copies.specs.Shelf.{rows_in, AreBelow, AreInOrder};
+ghost use Rattle.sb_copies.specs.ByLock.{HoldsLocks};
+ghost use Rattle.sb_copies.specs.BySession.{session_hash, HoldsSessions};
+ghost use Rattle.sb_copies.specs.Grouped.{span};
+ghost use Rattle.sb_copies.specs.Heads.{undue_rows};
+ghost use Rattle.sb_copies.specs.Shelf.{copies_in, AreBelow, AreInOrder, Leads, Mirrors};
 
-use crate::names;
-use crate::places::numbered;
-use crate::sessions::{SPAN, session_hash};
+use crate::groups::SPAN;
+use crate::places::{first_from, numbered};
+use crate::sessions::session_hash;
 use crate::standings::is_living;
+use crate::{locks, names};
 use sb_index::{Index, Row};
 use sb_machine::{Session, StoredCopy, Which};
-use std::collections::VecDeque;
+use slab::Slab;
 
 // Above all numbers.
 const BEYOND: u128 = 1 << 64;
 
 /// The first that may be received, by the index that has their rows.
+#[tactic(auto, using(crate::proofs::Finding::marked_there, crate::proofs::Finding::marked_nowhere))]
 pub fn ready<'a>(
-    rows: &'a VecDeque<StoredCopy>,
+    slots: &'a Slab<StoredCopy>,
     order: &Index,
     expires: bool,
 ) -> Option<&'a StoredCopy>
-    requires mirrored { order.now.rows ≡ rows_in expires rows.now.items }
-    requires below { AreBelow (2 ^ 64) rows.now.items }
-    ensures { option_map (λ c. c.now) result ≡ find (is_ready_for None) rows.now.items }
+    requires mirrored { Mirrors expires slots.now order.now.rows }
+    requires below { AreBelow (2 ^ 64) (copies_in slots.now order.now.rows) }
+    ensures { option_map (λ c. c.now) result ≡ find (is_ready_for None) (copies_in slots.now order.now.rows) }
 {
     order.rises();
     match order.first_marked(0, BEYOND) {
-        Some(row) => numbered(rows, number_of(row)),
+        Some(row) => slots.get(row.value as usize),
         None => None,
     }
-}
-
-// The number that a row is of.
-fn number_of(row: Row) -> u64
-    requires { row.key < 2 ^ 64 }
-    ensures { result ≡ row.key }
-{
-    row.key as u64
-}
-
-fn place_ready_of(rows: &VecDeque<StoredCopy>, session: &str) -> Option<usize>
-    ensures { result ≡ position (λ c. lease.is_ready c.standing && has_text_of SessionId session.now c.message) rows.now.items }
-{
-    rows.iter().position(|c| names::is_ready_of(c, session))
 }
 
 /// The first of the session of this id that may be received, by the index that has their rows.
 ///
 /// Where another session's id comes to the same hash, and the first is that one's, all are looked at.
 pub fn ready_of<'a>(
-    rows: &'a VecDeque<StoredCopy>,
+    slots: &'a Slab<StoredCopy>,
+    order: &Index,
     by_session: &Index,
     session: &str,
 ) -> Option<&'a StoredCopy>
-    requires order { AreInOrder rows.now.items }
-    requires holds { HoldsSessions by_session.now.rows rows.now.items }
-    ensures { option_map (λ c. c.now) result ≡ find (λ c. lease.is_ready c.standing && has_text_of SessionId session.now c.message) rows.now.items }
+    requires order { AreInOrder (copies_in slots.now order.now.rows) }
+    requires leads { Leads slots.now order.now.rows }
+    requires holds { HoldsSessions (undue_rows by_session.now.rows) (copies_in slots.now order.now.rows) }
+    ensures { option_map (λ c. c.now) result ≡ find (λ c. lease.is_ready c.standing && has_text_of SessionId session.now c.message) (copies_in slots.now order.now.rows) }
 {
     let Some(row) = first_under(by_session, session) else {
         return None;
     };
-    let Some(copy) = numbered(rows, row.value) else {
-        return ready_somewhere(rows, session);
+    let Some(copy) = numbered(slots, order, row.value) else {
+        return ready_somewhere(slots, order, session);
     };
     if names::is_of(copy, session) {
         Some(copy)
     } else {
-        ready_somewhere(rows, session)
+        ready_somewhere(slots, order, session)
     }
 }
 
@@ -86,21 +79,37 @@ fn first_under(by_session: &Index, session: &str) -> Option<Row>
     by_session.first_marked(from, from + SPAN)
 }
 
-fn ready_somewhere<'a>(rows: &'a VecDeque<StoredCopy>, session: &str) -> Option<&'a StoredCopy>
-    ensures { option_map (λ c. c.now) result ≡ find (λ c. lease.is_ready c.standing && has_text_of SessionId session.now c.message) rows.now.items }
+// The same by a look at each copy in turn.
+fn ready_somewhere<'a>(
+    slots: &'a Slab<StoredCopy>,
+    order: &Index,
+    session: &str,
+) -> Option<&'a StoredCopy>
+    requires order { AreInOrder (copies_in slots.now order.now.rows) }
+    requires leads { Leads slots.now order.now.rows }
+    ensures { option_map (λ c. c.now) result ≡ find (λ c. lease.is_ready c.standing && has_text_of SessionId session.now c.message) (copies_in slots.now order.now.rows) }
 {
-    match place_ready_of(rows, session) {
-        Some(place) => Some(&rows[place]),
-        None => None,
+    let mut from = 0;
+    while let Some(copy) = first_from(slots, order, from) {
+        if names::is_ready_of(copy, session) {
+            return Some(copy);
+        }
+        from = u128::from(copy.number) + 1;
     }
+    None
 }
 
 /// The deferred one of this number.
-pub fn deferred(rows: &VecDeque<StoredCopy>, number: u64) -> Option<&StoredCopy>
-    requires { AreInOrder rows.now.items }
-    ensures { option_map (λ c. c.now) result ≡ find (λ c. is_deferred c.standing && (c.number == number) && is_of None c) rows.now.items }
+pub fn deferred<'a>(
+    slots: &'a Slab<StoredCopy>,
+    order: &Index,
+    number: u64,
+) -> Option<&'a StoredCopy>
+    requires order { AreInOrder (copies_in slots.now order.now.rows) }
+    requires leads { Leads slots.now order.now.rows }
+    ensures { option_map (λ c. c.now) result ≡ find (λ c. is_deferred c.standing && (c.number == number) && is_of None c) (copies_in slots.now order.now.rows) }
 {
-    let Some(copy) = numbered(rows, number) else {
+    let Some(copy) = numbered(slots, order, number) else {
         return None;
     };
     if names::is_deferred_at(copy, number) {
@@ -112,14 +121,16 @@ pub fn deferred(rows: &VecDeque<StoredCopy>, number: u64) -> Option<&StoredCopy>
 
 /// The deferred one of this number, of the session of this id.
 pub fn deferred_of<'a>(
-    rows: &'a VecDeque<StoredCopy>,
+    slots: &'a Slab<StoredCopy>,
+    order: &Index,
     number: u64,
     session: &str,
 ) -> Option<&'a StoredCopy>
-    requires { AreInOrder rows.now.items }
-    ensures { option_map (λ c. c.now) result ≡ find (λ c. is_deferred c.standing && (c.number == number) && has_text_of SessionId session.now c.message) rows.now.items }
+    requires order { AreInOrder (copies_in slots.now order.now.rows) }
+    requires leads { Leads slots.now order.now.rows }
+    ensures { option_map (λ c. c.now) result ≡ find (λ c. is_deferred c.standing && (c.number == number) && has_text_of SessionId session.now c.message) (copies_in slots.now order.now.rows) }
 {
-    let Some(copy) = numbered(rows, number) else {
+    let Some(copy) = numbered(slots, order, number) else {
         return None;
     };
     if names::is_deferred_of(copy, number, session) {
@@ -130,11 +141,16 @@ pub fn deferred_of<'a>(
 }
 
 /// The scheduled one of this number.
-pub fn scheduled(rows: &VecDeque<StoredCopy>, number: u64) -> Option<&StoredCopy>
-    requires { AreInOrder rows.now.items }
-    ensures { option_map (λ c. c.now) result ≡ find (λ c. lease.is_scheduled c.standing && (c.number == number)) rows.now.items }
+pub fn scheduled<'a>(
+    slots: &'a Slab<StoredCopy>,
+    order: &Index,
+    number: u64,
+) -> Option<&'a StoredCopy>
+    requires order { AreInOrder (copies_in slots.now order.now.rows) }
+    requires leads { Leads slots.now order.now.rows }
+    ensures { option_map (λ c. c.now) result ≡ find (λ c. lease.is_scheduled c.standing && (c.number == number)) (copies_in slots.now order.now.rows) }
 {
-    let Some(copy) = numbered(rows, number) else {
+    let Some(copy) = numbered(slots, order, number) else {
         return None;
     };
     if names::is_scheduled_at(copy, number) {
@@ -147,65 +163,44 @@ pub fn scheduled(rows: &VecDeque<StoredCopy>, number: u64) -> Option<&StoredCopy
 /// The one that is named so and is under the lock of this number, which lives at `moment`, in ms
 /// since 1970.
 pub fn leased<'a>(
-    rows: &'a VecDeque<StoredCopy>,
+    slots: &'a Slab<StoredCopy>,
+    order: &Index,
+    by_lock: &Index,
     moment: u64,
     sessions: &[Session],
     lock: u64,
     which: &Which,
 ) -> Option<&'a StoredCopy>
-    requires { AreInOrder rows.now.items }
-    ensures { option_map (λ c. c.now) result ≡ find (λ c. lease.is_living moment sessions.now lock c.standing && lease.is_named which.now c) rows.now.items }
+    requires order { AreInOrder (copies_in slots.now order.now.rows) }
+    requires leads { Leads slots.now order.now.rows }
+    requires below { AreBelow (2 ^ 64) (copies_in slots.now order.now.rows) }
+    requires holds { HoldsLocks by_lock.now.rows (copies_in slots.now order.now.rows) }
+    ensures { option_map (λ c. c.now) result ≡ find (λ c. lease.is_living moment sessions.now lock c.standing && lease.is_named which.now c) (copies_in slots.now order.now.rows) }
 {
     match which {
-        Which::Number(number) => leased_at(rows, moment, sessions, lock, *number),
-        Which::Id(_) => leased_somewhere(rows, moment, sessions, lock, which),
+        Which::Number(number) => leased_at(slots, order, moment, sessions, lock, *number),
+        Which::Id(_) => locks::leased_of(slots, order, by_lock, moment, sessions, lock, which),
     }
 }
 
 fn leased_at<'a>(
-    rows: &'a VecDeque<StoredCopy>,
+    slots: &'a Slab<StoredCopy>,
+    order: &Index,
     moment: u64,
     sessions: &[Session],
     lock: u64,
     number: u64,
 ) -> Option<&'a StoredCopy>
-    requires { AreInOrder rows.now.items }
-    ensures { option_map (λ c. c.now) result ≡ find (λ c. lease.is_living moment sessions.now lock c.standing && has_number number c) rows.now.items }
+    requires order { AreInOrder (copies_in slots.now order.now.rows) }
+    requires leads { Leads slots.now order.now.rows }
+    ensures { option_map (λ c. c.now) result ≡ find (λ c. lease.is_living moment sessions.now lock c.standing && has_number number c) (copies_in slots.now order.now.rows) }
 {
-    let Some(copy) = numbered(rows, number) else {
+    let Some(copy) = numbered(slots, order, number) else {
         return None;
     };
     if is_living(copy.standing, lock, moment, sessions) {
         Some(copy)
     } else {
         None
-    }
-}
-
-fn place_leased(
-    rows: &VecDeque<StoredCopy>,
-    moment: u64,
-    sessions: &[Session],
-    lock: u64,
-    which: &Which,
-) -> Option<usize>
-    ensures { result ≡ position (λ c. lease.is_living moment sessions.now lock c.standing && lease.is_named which.now c) rows.now.items }
-{
-    rows.iter()
-        .position(|c| names::is_leased(c, moment, sessions, lock, which))
-}
-
-fn leased_somewhere<'a>(
-    rows: &'a VecDeque<StoredCopy>,
-    moment: u64,
-    sessions: &[Session],
-    lock: u64,
-    which: &Which,
-) -> Option<&'a StoredCopy>
-    ensures { option_map (λ c. c.now) result ≡ find (λ c. lease.is_living moment sessions.now lock c.standing && lease.is_named which.now c) rows.now.items }
-{
-    match place_leased(rows, moment, sessions, lock, which) {
-        Some(place) => Some(&rows[place]),
-        None => None,
     }
 }

@@ -1,18 +1,19 @@
 // Rows of copies in an index by session, under halves of hashes of its ids.
 ghost use Rattle.std.specs.Prelude.{◌≡◌, ℕ, ◌+◌, ◌^◌, ◌<◌, ◌≤◌};
 ghost use Rattle.sb_index.specs.Rows.{Lacks};
+ghost use Rattle.sb_machine.specs.Leases as lease;
 ghost use Rattle.sb_copies.specs.BySession as spec;
-ghost use Rattle.sb_copies.specs.Shelf.{AreInOrder};
+ghost use Rattle.sb_copies.specs.Grouped.{group_at, group_key, with_grouped};
+ghost use Rattle.sb_copies.specs.Shelf.{copies_in, Leads};
 
+use crate::groups;
+pub use crate::groups::{mark, take};
 use crate::places::numbered;
 use crate::standings::is_ready;
-use sb_index::{Index, Row, hash_of};
+use sb_index::{Index, hash_of};
 use sb_machine::{StoredCopy, text_of};
 use sb_model::SystemName;
-use std::collections::VecDeque;
-
-/// How many keys a hash has.
-pub const SPAN: u128 = 1 << 64;
+use slab::Slab;
 
 /// What the id of a session comes to.
 pub fn session_hash(id: &str) -> u64
@@ -23,11 +24,11 @@ pub fn session_hash(id: &str) -> u64
 }
 
 /// What the id of the session of the copy of this number comes to, where it is of one.
-pub fn hash_at(rows: &VecDeque<StoredCopy>, number: u64) -> Option<u64>
-    requires { AreInOrder rows.now.items }
-    ensures { result ≡ spec.hash_at number rows.now.items }
+pub fn hash_at(slots: &Slab<StoredCopy>, order: &Index, number: u64) -> Option<u64>
+    requires { Leads slots.now order.now.rows }
+    ensures { result ≡ group_at spec.session_hash_of number (copies_in slots.now order.now.rows) }
 {
-    match numbered(rows, number) {
+    match numbered(slots, order, number) {
         Some(copy) => session_hash_of(copy),
         None => None,
     }
@@ -42,53 +43,13 @@ fn session_hash_of(copy: &StoredCopy) -> Option<u64>
     }
 }
 
-fn key_of(hash: u64, number: u64) -> u128
-    ensures { result ≡ spec.session_key hash number }
-{
-    u128::from(hash) * SPAN + u128::from(number)
-}
-
-fn row_of(hash: u64, copy: &StoredCopy) -> Row
-    ensures { result ≡ spec.session_row hash copy.now }
-{
-    Row {
-        key: key_of(hash, copy.number),
-        value: copy.number,
-        marked: is_ready(copy.standing),
-        due: u64::MAX,
-    }
-}
-
-// ---- changes
-
 /// Puts the row of a copy there, where it is of a session.
 pub fn put(by_session: &mut Index, copy: &StoredCopy)
     requires room { 1 ≤ by_session.old.spare }
-    requires apart { (h : ℕ) → Lacks (spec.session_key h copy.now.number) by_session.old.rows }
-    ensures rows { by_session.new.rows ≡ spec.with_session copy.now by_session.old.rows }
+    requires apart { (h : ℕ) → Lacks (group_key h copy.now.number) by_session.old.rows }
+    ensures rows { by_session.new.rows ≡ with_grouped (spec.session_hash_of copy.now) copy.now.number (lease.is_ready copy.now.standing) by_session.old.rows }
     ensures spare { by_session.old.spare ≤ by_session.new.spare + 1 }
 {
-    if let Some(hash) = session_hash_of(copy) {
-        by_session.insert(row_of(hash, copy));
-    }
-}
-
-/// Takes the row of the copy of this number out, where it is of a session whose id comes to a hash.
-pub fn take(by_session: &mut Index, hash: Option<u64>, number: u64)
-    ensures rows { by_session.new.rows ≡ spec.without_session hash number by_session.old.rows }
-    ensures spare { by_session.new.spare ≡ by_session.old.spare }
-{
-    if let Some(hash) = hash {
-        let _ = by_session.remove(key_of(hash, number));
-    }
-}
-
-/// Marks that row or not.
-pub fn mark(by_session: &mut Index, hash: Option<u64>, number: u64, marked: bool)
-    ensures rows { by_session.new.rows ≡ spec.told_session hash number marked by_session.old.rows }
-    ensures spare { by_session.new.spare ≡ by_session.old.spare }
-{
-    if let Some(hash) = hash {
-        by_session.change(key_of(hash, number), marked, u64::MAX);
-    }
+    let hash = session_hash_of(copy);
+    groups::put(by_session, hash, copy.number, is_ready(copy.standing));
 }

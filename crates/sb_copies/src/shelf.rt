@@ -1,6 +1,5 @@
 // The copies of one part, in the order in which they were put there.
-ghost use Rattle.std.specs.Prelude.{◌≡◌, ◌==◌, ◌&&◌, ◌≤◌, ◌<◌, ◌-◌, max, [], ◌∷◌, ◌++◌, length, find, map, if◌then◌else◌, OnOk, OnErr, IfOk, None, Some};
-ghost use Rattle.std.specs.List.{slice_get};
+ghost use Rattle.std.specs.Prelude.{◌≡◌, ℕ, ◌==◌, ◌&&◌, ◌||◌, ◌≤◌, ◌<◌, ◌-◌, nat_le, max, [], ◌∷◌, ◌++◌, length, find, map, if◌then◌else◌, OnOk, OnErr, IfOk, None, Some};
 ghost use Rattle.std.specs.Option.{option_map};
 ghost use Rattle.sb_machine.specs.Claims.{is_of};
 ghost use Rattle.sb_machine.specs.Keyed.{changed};
@@ -10,17 +9,19 @@ ghost use Rattle.sb_machine.specs.Messages.{has_text_of};
 ghost use Rattle.sb_machine.specs.Receiving.{is_ready_for, peeked};
 ghost use Rattle.sb_model.specs.declared.message.SystemName.TheVariants.{SessionId};
 ghost use Rattle.sb_machine.specs.declared.state.Standing.TheVariants.{Held};
+ghost use Rattle.sb_copies.specs.ByLock.{held_lock, locks_taken};
 ghost use Rattle.sb_copies.specs.Dues.{due_by, least_of};
+ghost use Rattle.sb_copies.specs.Heads.{except, is_among, is_of_session, is_usual, IsLeast};
 ghost use Rattle.sb_copies.specs.Shelf.{row_in, AreBelow, AreInOrder};
 
-use crate::places::numbered;
+use crate::places::{first_from, numbered};
 use crate::standings::is_ready;
-use crate::{dues, looks, rows, searches, sessions};
+use crate::{dues, groups, heads, locks, looks, rows, searches, sessions};
 use sb_index::{Index, Row};
 use sb_machine::{CopyShown, Hold, Session, Standing, StoredCopy, Token, Which};
 use sb_model::Rows;
+use slab::Slab;
 use std::alloc::{AllocError, Global};
-use std::collections::VecDeque;
 use std::marker::Model;
 
 /// The copies of one part of an entity.
@@ -29,24 +30,31 @@ pub struct Shelf {
     alloc: Global,
     // Whether its copies come due once they have expired.
     expires: bool,
-    copies: VecDeque<StoredCopy>,
-    // by number
+    slots: Slab<StoredCopy>,
+    // by number, the keys of the slots as values
     order: Index,
-    // by session, then number
+    // by session, then number, the numbers as values
     by_session: Index,
+    // those that are held, by lock, then number
+    by_lock: Index,
+    // So many of its nodes are promised for holding; one more stands by for each slot.
+    locks: usize,
 }
 
 impl Model for Shelf {
-    ghost use Rattle.std.specs.Prelude.{◌≡◌, ◌+◌, ◌≤◌, ◌^◌};
-    ghost use Rattle.std.specs.VecDeque.{deque_len, deque_capacity};
+    ghost use Rattle.std.specs.Prelude.{◌≡◌, ◌+◌, ◌≤◌, ◌^◌, length};
+    ghost use Rattle.slab.specs.Slab.{slab_len, HasRoomFor};
+    ghost use Rattle.sb_copies.specs.ByLock.{HoldsLocks};
     ghost use Rattle.sb_copies.specs.BySession.{HoldsSessions};
-    ghost use Rattle.sb_copies.specs.Shelf.{rows_in, AreBelow, Shelved};
+    ghost use Rattle.sb_copies.specs.Heads.{heads_in, undue_rows, AreOwn};
+    ghost use Rattle.sb_copies.specs.Shelf.{copies_in, AreBelow, Mirrors, Shelved};
 
     ghost Value = { Shelved };
 
-    ghost view = { λ s. record { copies = s.copies.items; spare = s.order.spare; expires = s.expires } };
+    ghost view = { λ s. record { copies = copies_in s.slots s.order.rows; spare = s.order.spare; locks = s.locks; expires = s.expires; heads = heads_in s.by_session.rows } };
 
-    ghost invariant = { λ s. (deque_len s.copies + s.order.spare ≤ deque_capacity s.copies) × (s.order.rows ≡ rows_in s.expires s.copies.items) × AreBelow (2 ^ 64) s.copies.items × (s.order.spare ≤ s.by_session.spare) × HoldsSessions s.by_session.rows s.copies.items };
+    // No slot is without a row: so none is lost.
+    ghost invariant = { λ s. HasRoomFor s.slots s.order.spare × (slab_len s.slots ≡ length s.order.rows) × Mirrors s.expires s.slots s.order.rows × AreBelow (2 ^ 64) (copies_in s.slots s.order.rows) × (s.order.spare ≤ s.by_session.spare) × HoldsSessions (undue_rows s.by_session.rows) (copies_in s.slots s.order.rows) × (s.locks + s.order.spare ≤ s.by_lock.spare) × HoldsLocks s.by_lock.rows (copies_in s.slots s.order.rows) × AreOwn s.by_session.rows };
 }
 
 impl Shelf {
@@ -54,14 +62,18 @@ impl Shelf {
     pub fn new(alloc: Global, expires: bool) -> Shelf
         ensures copies { result.copies ≡ [] }
         ensures spare { result.spare ≡ 0 }
+        ensures locks { result.locks ≡ 0 }
         ensures expires { result.expires ≡ expires }
+        ensures heads { result.heads ≡ [] }
     {
         Shelf {
             alloc,
             expires,
-            copies: VecDeque::new(alloc),
+            slots: Slab::new(alloc),
             order: Index::new(alloc),
             by_session: Index::new(alloc),
+            by_lock: Index::new(alloc),
+            locks: 0,
         }
     }
 
@@ -79,11 +91,62 @@ impl Shelf {
         ensures copies { self.new.copies ≡ self.old.copies }
         ensures spare { OnOk result (self.new.spare ≡ max self.old.spare count) }
         ensures err { OnErr result (self.new.spare ≡ self.old.spare) }
+        ensures locks { self.new.locks ≡ self.old.locks }
         ensures expires { self.new.expires ≡ self.old.expires }
+        ensures heads { self.new.heads ≡ self.old.heads }
     {
-        self.copies.reserve(count)?;
+        self.slots.reserve(count)?;
         self.by_session.reserve(count)?;
+        let nodes = locks::both(count, self.locks)?;
+        self.by_lock.reserve(nodes)?;
         self.order.reserve(count)
+    }
+
+    /// How many slots for holding are promised.
+    pub fn locks(&self) -> usize
+        ensures { result ≡ self.now.locks }
+    {
+        self.locks
+    }
+
+    /// Promises at least so many slots for holding; where memory is wanting, all stays.
+    pub fn reserve_locks(&mut self, count: usize) -> Result<(), AllocError>
+        ensures copies { self.new.copies ≡ self.old.copies }
+        ensures spare { self.new.spare ≡ self.old.spare }
+        ensures locks { OnOk result (self.new.locks ≡ max self.old.locks count) }
+        ensures err { OnErr result (self.new.locks ≡ self.old.locks) }
+        ensures expires { self.new.expires ≡ self.old.expires }
+        ensures heads { self.new.heads ≡ self.old.heads }
+    {
+        let nodes = locks::both(count, self.order.spare())?;
+        self.by_lock.reserve(nodes)?;
+        self.locks = self.locks.max(count);
+        Ok(())
+    }
+
+    /// Gives one promised slot back; where none is promised, nothing. One node goes back to the
+    /// allocator; the slot of the slab and the nodes by session and by lock stay, and serve the next
+    /// promise.
+    pub fn release(&mut self)
+        ensures copies { self.new.copies ≡ self.old.copies }
+        ensures spare { self.new.spare ≡ self.old.spare - 1 }
+        ensures locks { self.new.locks ≡ self.old.locks }
+        ensures expires { self.new.expires ≡ self.old.expires }
+        ensures heads { self.new.heads ≡ self.old.heads }
+    {
+        self.order.forget();
+    }
+
+    /// Gives one slot promised for holding back; where none is promised, nothing. Its node stays, and
+    /// serves the next promise.
+    pub fn release_lock(&mut self)
+        ensures copies { self.new.copies ≡ self.old.copies }
+        ensures spare { self.new.spare ≡ self.old.spare }
+        ensures locks { self.new.locks ≡ self.old.locks - 1 }
+        ensures expires { self.new.expires ≡ self.old.expires }
+        ensures heads { self.new.heads ≡ self.old.heads }
+    {
+        self.locks = self.locks.saturating_sub(1);
     }
 
     // ---- when they come due
@@ -100,89 +163,103 @@ impl Shelf {
     pub fn least_due(&self) -> u64
         ensures { result ≡ least_of self.now.expires self.now.copies }
     {
-        dues::least_due(self.expires, &self.copies, &self.order)
+        dues::least_due(self.expires, &self.slots, &self.order)
     }
 
     /// Those that have come due by `moment`, in ms since 1970, in order: no other is looked at.
     pub fn due_by(&self, moment: u64) -> Result<Vec<&StoredCopy>, AllocError>
         ensures { IfOk result (λ found. map (λ c. c.now) found.items ≡ due_by self.now.expires moment self.now.copies) }
     {
-        self.rises();
-        dues::due_by(self.alloc, self.expires, &self.copies, &self.order, moment)
+        dues::due_by(self.alloc, self.expires, &self.slots, &self.order, moment)
     }
 
     // ---- reading
 
+    #[tactic(auto, using(crate::proofs::Finding::size_is))]
     pub fn size(&self) -> usize
         ensures { result ≡ length self.now.copies }
     {
-        self.copies.len()
+        self.order.len()
     }
 
-    /// The copy at a place, from 0.
-    pub fn at(&self, place: usize) -> &StoredCopy
-        requires { place < length self.now.copies }
-        ensures { slice_get self.now.copies place ≡ Some result.now }
+    /// All of them, in order.
+    #[tactic(auto, using(crate::proofs::Finding::all_found))]
+    pub fn all(&self) -> Result<Vec<&StoredCopy>, AllocError>
+        ensures { IfOk result (λ found. map (λ c. c.now) found.items ≡ self.now.copies) }
     {
-        &self.copies[place]
+        self.due_by(u64::MAX)
     }
 
-    /// The copies, as two slices one after the other.
-    pub fn as_slices(&self) -> (&[StoredCopy], &[StoredCopy])
-        ensures { result.0.now ++ result.1.now ≡ self.now.copies }
+    /// The first whose number is at least this one.
+    #[tactic(auto, using(crate::proofs::Finding::leads))]
+    pub fn first_from(&self, number: u128) -> Option<&StoredCopy>
+        ensures { option_map (λ c. c.now) result ≡ find (λ c. nat_le number c.number) self.now.copies }
     {
-        self.copies.as_slices()
+        first_from(&self.slots, &self.order, number)
     }
 
     /// The copy of this number.
+    #[tactic(auto, using(crate::proofs::Finding::leads))]
     pub fn get(&self, number: u64) -> Option<&StoredCopy>
         ensures { option_map (λ c. c.now) result ≡ find (has_number number) self.now.copies }
     {
         self.rises();
-        numbered(&self.copies, number)
+        numbered(&self.slots, &self.order, number)
     }
 
     /// The first that may be received.
     pub fn first_ready(&self) -> Option<&StoredCopy>
         ensures { option_map (λ c. c.now) result ≡ find (is_ready_for None) self.now.copies }
     {
-        searches::ready(&self.copies, &self.order, self.expires)
+        searches::ready(&self.slots, &self.order, self.expires)
     }
 
     /// The first of the session of this id that may be received.
+    #[tactic(auto, using(crate::proofs::Finding::leads))]
     pub fn first_ready_of<'a>(&'a self, session: &str) -> Option<&'a StoredCopy>
         ensures { option_map (λ c. c.now) result ≡ find (λ c. is_ready c.standing && has_text_of SessionId session.now c.message) self.now.copies }
     {
         self.rises();
-        searches::ready_of(&self.copies, &self.by_session, session)
+        searches::ready_of(&self.slots, &self.order, &self.by_session, session)
+    }
+
+    /// The least number of a head of a session, of those that were told.
+    pub fn least_head(&self) -> Option<u64>
+        ensures { IsLeast result self.now.heads }
+    {
+        heads::least(&self.by_session)
     }
 
     /// The deferred one of this number.
+    #[tactic(auto, using(crate::proofs::Finding::leads))]
     pub fn deferred(&self, number: u64) -> Option<&StoredCopy>
         ensures { option_map (λ c. c.now) result ≡ find (λ c. is_deferred c.standing && (c.number == number) && is_of None c) self.now.copies }
     {
         self.rises();
-        searches::deferred(&self.copies, number)
+        searches::deferred(&self.slots, &self.order, number)
     }
 
     /// The deferred one of this number, of the session of this id.
+    #[tactic(auto, using(crate::proofs::Finding::leads))]
     pub fn deferred_of<'a>(&'a self, number: u64, session: &str) -> Option<&'a StoredCopy>
         ensures { option_map (λ c. c.now) result ≡ find (λ c. is_deferred c.standing && (c.number == number) && has_text_of SessionId session.now c.message) self.now.copies }
     {
         self.rises();
-        searches::deferred_of(&self.copies, number, session)
+        searches::deferred_of(&self.slots, &self.order, number, session)
     }
 
     /// The scheduled one of this number.
+    #[tactic(auto, using(crate::proofs::Finding::leads))]
     pub fn scheduled(&self, number: u64) -> Option<&StoredCopy>
         ensures { option_map (λ c. c.now) result ≡ find (λ c. is_scheduled c.standing && (c.number == number)) self.now.copies }
     {
         self.rises();
-        searches::scheduled(&self.copies, number)
+        searches::scheduled(&self.slots, &self.order, number)
     }
 
     /// The one that is named so and has the token's lock, which lives at `moment`, in ms since
     /// 1970; `salt` is the namespace's, `sessions` those of the part.
+    #[tactic(auto, using(crate::proofs::Finding::leads))]
     pub fn leased<'a>(
         &'a self,
         salt: u64,
@@ -195,18 +272,27 @@ impl Shelf {
     {
         self.rises();
         if token.salt == salt {
-            searches::leased(&self.copies, moment, sessions, token.lock, which)
+            searches::leased(
+                &self.slots,
+                &self.order,
+                &self.by_lock,
+                moment,
+                sessions,
+                token.lock,
+                which,
+            )
         } else {
             None
         }
     }
 
     /// Up to `count` copies from the number `start` on, as a look shows them.
+    #[tactic(auto, using(crate::proofs::Finding::leads))]
     pub fn peek(&self, start: u64, count: u64) -> Result<Rows<CopyShown>, AllocError>
         ensures { IfOk result (λ seen. seen ≡ peeked start count self.now.copies) }
     {
         self.rises();
-        let seen = looks::peek(self.alloc, &self.copies, start, count)?;
+        let seen = looks::peek(self.alloc, &self.slots, &self.order, start, count)?;
         Ok(Rows::from_vec(seen))
     }
 
@@ -218,88 +304,158 @@ impl Shelf {
         requires above { AreBelow copy.number self.old.copies }
         ensures copies { self.new.copies ≡ self.old.copies ++ copy ∷ [] }
         ensures spare { self.new.spare ≡ self.old.spare - 1 }
+        ensures locks { self.new.locks ≡ self.old.locks }
         ensures expires { self.new.expires ≡ self.old.expires }
+        ensures heads { self.new.heads ≡ self.old.heads }
     {
         self.by_session.rises();
+        self.by_lock.rises();
         sessions::put(&mut self.by_session, &copy);
-        self.order.insert(row_of(self.expires, &copy));
-        self.copies.push_back_reserved(copy);
+        locks::put_held(&mut self.by_lock, &copy);
+        let key = self.slots.vacant_key();
+        self.order.insert(row_of(self.expires, &copy, key));
+        self.slots.insert_reserved(copy);
     }
 
     /// Takes out the copy of this number.
+    #[tactic(auto, using(crate::proofs::Finding::leads))]
     pub fn take(&mut self, number: u64) -> Option<StoredCopy>
         ensures taken { result ≡ find (has_number number) self.old.copies }
         ensures copies { self.new.copies ≡ changed (has_number number) (λ c. []) self.old.copies }
         ensures spare { self.new.spare ≡ self.old.spare }
+        ensures locks { self.new.locks ≡ self.old.locks }
         ensures expires { self.new.expires ≡ self.old.expires }
+        ensures heads { self.new.heads ≡ except number self.old.heads }
     {
         self.rises();
-        let hash = sessions::hash_at(&self.copies, number);
+        let held = self.lock_at(number);
+        let hash = sessions::hash_at(&self.slots, &self.order, number);
         sessions::take(&mut self.by_session, hash, number);
-        let _ = self.order.remove(u128::from(number));
-        rows::take_row(&mut self.copies, number)
+        groups::regroup(&mut self.by_lock, held, number, None);
+        rows::take_row(&mut self.slots, &mut self.order, number)
     }
 
-    /// The copy of this number has this count and stands so.
+    /// The copy of this number has this count and stands so; where it is held then, that takes a slot
+    /// for holding.
+    #[tactic(auto, using(crate::proofs::Finding::leads))]
     pub fn stand(&mut self, number: u64, count: u32, standing: Standing)
+        requires room { locks_taken standing ≤ self.old.locks }
         ensures copies { self.new.copies ≡ changed (has_number number) (λ c. record c { count = count; standing = standing } ∷ []) self.old.copies }
         ensures spare { self.new.spare ≡ self.old.spare }
+        ensures locks { self.new.locks ≡ self.old.locks - locks_taken standing }
         ensures expires { self.new.expires ≡ self.old.expires }
+        ensures heads { self.new.heads ≡ except number self.old.heads }
     {
         self.rises();
-        let hash = sessions::hash_at(&self.copies, number);
+        self.by_lock.rises();
+        let held = self.lock_at(number);
+        let hash = sessions::hash_at(&self.slots, &self.order, number);
         let marked = is_ready(standing);
-        let due = dues::due_at(self.expires, &self.copies, number, standing);
+        let due = dues::due_at(self.expires, &self.slots, &self.order, number, standing);
         sessions::mark(&mut self.by_session, hash, number, marked);
+        rows::stand_row(&mut self.slots, &self.order, number, count, standing);
         self.order.change(u128::from(number), marked, due);
-        rows::stand_row(&mut self.copies, number, count, standing);
+        groups::regroup(&mut self.by_lock, held, number, locks::lock_of(standing));
+        self.locks -= locks::locks_taken(standing);
     }
 
-    /// The copy of this number is held under the lock of that number.
+    /// The copy of this number is held under the lock of that number, which takes a slot for holding.
+    #[tactic(auto, using(crate::proofs::Finding::leads))]
     pub fn hold(&mut self, number: u64, lock: u64, hold: Hold)
+        requires room { 1 ≤ self.old.locks }
         ensures copies { self.new.copies ≡ changed (has_number number) (λ c. record c { standing = Held lock hold (is_deferred c.standing) } ∷ []) self.old.copies }
         ensures spare { self.new.spare ≡ self.old.spare }
+        ensures locks { self.new.locks ≡ self.old.locks - 1 }
         ensures expires { self.new.expires ≡ self.old.expires }
+        ensures heads { self.new.heads ≡ except number self.old.heads }
     {
         self.rises();
-        let hash = sessions::hash_at(&self.copies, number);
+        self.by_lock.rises();
+        let held = self.lock_at(number);
+        let hash = sessions::hash_at(&self.slots, &self.order, number);
         let due = dues::moment_of(dues::hold_deadline(hold));
         sessions::mark(&mut self.by_session, hash, number, false);
+        rows::hold_row(&mut self.slots, &self.order, number, lock, hold);
         self.order.change(u128::from(number), false, due);
-        rows::hold_row(&mut self.copies, number, lock, hold);
+        groups::regroup(&mut self.by_lock, held, number, Some(lock));
+        self.locks -= 1;
     }
 
     /// The lock of the copy of this number lives until then, in ms since 1970.
+    #[tactic(auto, using(crate::proofs::Finding::leads))]
     pub fn renew(&mut self, number: u64, until: u64)
         ensures copies { self.new.copies ≡ changed (has_number number) (λ c. record c { standing = prolonged_standing until c.standing } ∷ []) self.old.copies }
+        ensures spare { self.new.spare ≡ self.old.spare }
+        ensures locks { self.new.locks ≡ self.old.locks }
+        ensures expires { self.new.expires ≡ self.old.expires }
+        ensures heads { self.new.heads ≡ self.old.heads }
+    {
+        self.rises();
+        let marked = dues::is_ready_at(&self.slots, &self.order, number);
+        let due = dues::due_renewed(self.expires, &self.slots, &self.order, number, until);
+        rows::prolong_row(&mut self.slots, &self.order, number, until);
+        self.order.change(u128::from(number), marked, due);
+    }
+
+    // ---- heads of sessions
+
+    /// Tells that the copy of this number is the head of its session. That is forgotten once it stands
+    /// otherwise; of a copy that is of none, or has the greatest number, it isn't kept.
+    #[tactic(auto, using(crate::proofs::Finding::leads))]
+    pub fn tell_head(&mut self, number: u64)
+        ensures locks { self.new.locks ≡ self.old.locks }
+        ensures heads { (n : ℕ) → is_among n self.new.heads ≡ ((n == number && (is_usual number && is_of_session number self.old.copies)) || is_among n self.old.heads) }
+        ensures copies { self.new.copies ≡ self.old.copies }
         ensures spare { self.new.spare ≡ self.old.spare }
         ensures expires { self.new.expires ≡ self.old.expires }
     {
         self.rises();
-        let marked = dues::is_ready_at(&self.copies, number);
-        let due = dues::due_renewed(self.expires, &self.copies, number, until);
-        self.order.change(u128::from(number), marked, due);
-        rows::prolong_row(&mut self.copies, number, until);
+        let hash = sessions::hash_at(&self.slots, &self.order, number);
+        heads::tell(&mut self.by_session, hash, number, true);
     }
 
-    // ---- their order
+    /// Tells that the copy of this number is no head.
+    #[tactic(auto, using(crate::proofs::Finding::leads))]
+    pub fn forget_head(&mut self, number: u64)
+        ensures locks { self.new.locks ≡ self.old.locks }
+        ensures heads { self.new.heads ≡ except number self.old.heads }
+        ensures copies { self.new.copies ≡ self.old.copies }
+        ensures spare { self.new.spare ≡ self.old.spare }
+        ensures expires { self.new.expires ≡ self.old.expires }
+    {
+        self.rises();
+        let hash = sessions::hash_at(&self.slots, &self.order, number);
+        heads::tell(&mut self.by_session, hash, number, false);
+    }
 
-    // Their numbers rise: for the proofs of what looks for one.
-    #[tactic(auto, using(crate::proofs::Mirror::in_order))]
-    fn rises(&self)
+    // ---- their order, and their locks
+
+    // Under which lock the copy of this number is held, if any; none where there is no such copy.
+    fn lock_at(&self, number: u64) -> Option<Option<u64>>
+        ensures { result ≡ option_map held_lock (find (has_number number) self.now.copies) }
+    {
+        match self.get(number) {
+            Some(copy) => Some(locks::lock_of(copy.standing)),
+            None => None,
+        }
+    }
+
+    /// Their numbers rise: for the proofs of what looks for one.
+    #[tactic(auto, using(crate::proofs::Finding::order_mirrored))]
+    pub fn rises(&self)
         ensures { AreInOrder self.now.copies }
     {
         self.order.rises();
     }
 }
 
-// The row of a copy in the index by number.
-fn row_of(expires: bool, copy: &StoredCopy) -> Row
-    ensures { result ≡ row_in expires copy.now }
+// The row in the index by number of a copy that stands under this key.
+fn row_of(expires: bool, copy: &StoredCopy, key: usize) -> Row
+    ensures { result ≡ record (row_in expires copy.now) { value = key } }
 {
     Row {
         key: u128::from(copy.number),
-        value: copy.number,
+        value: key as u64,
         marked: is_ready(copy.standing),
         due: dues::due_of(expires, copy),
     }

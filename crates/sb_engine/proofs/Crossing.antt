@@ -48,7 +48,7 @@ entity_send : IsSend entity.the_row
 entity_send = search (crosses, sendable, listing_send, part_send, window_send) depth 60 fits 20000
 
 entities_send : IsSend entities.the_row
-entities_send = search (crosses, sendable, vec.the_send, entity_send) depth 60 fits 20000
+entities_send = search (crosses, sendable, vec.the_send, entity_send, index_send) depth 60 fits 20000
 
 store_send : IsSend store.the_field.row
 store_send = search (crosses, sendable, global.the_field_send, entities_send, txns_send) depth 60 fits 20000

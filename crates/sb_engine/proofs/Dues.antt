@@ -40,13 +40,13 @@ crossed false false false d = refl
 crossed_thrice : (a b c d e f : Bool) → ((a || b) || (c || d) || (e || f)) ≡ ((a || c || e) || (b || d || f))
 crossed_thrice a b c d e f = ap (λ (x : Bool). x || (e || f)) (crossed a b c d) ∙ crossed (a || c) (b || d) e f
 
-neither : (a b : Bool) → (a || b) ≡ false → (a ≡ false) × (b ≡ false)
+pub neither : (a b : Bool) → (a || b) ≡ false → (a ≡ false) × (b ≡ false)
 neither true b is = absurd cc
 neither false b is = (refl, is)
 
 -- ---- something in a list
 
-abbrev some : {Y : Type 0} → List Y → Bool
+abbrev pub some : {Y : Type 0} → List Y → Bool
 some ys = not (is_none_in ys)
 
 some_append : {Y : Type 0} (xs ys : List Y) → some (xs ++ ys) ≡ (some xs || some ys)
@@ -60,7 +60,7 @@ some_flat : {X Y : Type 0} (f : X → List Y) (xs : List X) → some (flat_map f
 some_flat f [] = refl
 some_flat f (x ∷ xs) = some_append (f x) (flat_map f xs) ∙ ap (λ (b : Bool). some (f x) || b) (some_flat f xs)
 
-some_passed : {X Y : Type 0} (g : X → Y) (p : X → Bool) (xs : List X) → some (map g (filter p xs)) ≡ list_any p xs
+pub some_passed : {X Y : Type 0} (g : X → Y) (p : X → Bool) (xs : List X) → some (map g (filter p xs)) ≡ list_any p xs
 some_passed g p [] = refl
 some_passed g p (x ∷ xs) = go (p x) (some_passed g p xs) where
   go : (b : Bool) → some (map g (filter p xs)) ≡ list_any p xs → some (map g (cond b (x ∷ filter p xs) (filter p xs))) ≡ (b || list_any p xs)
@@ -74,7 +74,7 @@ module _ {X : Type 0} where
   any_or p q [] = refl
   any_or p q (x ∷ xs) = crossed (p x) (list_any p xs) (q x) (list_any q xs) ∙ ap (λ (b : Bool). (p x || q x) || b) (any_or p q xs)
 
-  any_same : (p q : X → Bool) → ((x : X) → p x ≡ q x) → (xs : List X) → list_any p xs ≡ list_any q xs
+  pub any_same : (p q : X → Bool) → ((x : X) → p x ≡ q x) → (xs : List X) → list_any p xs ≡ list_any q xs
   any_same p q same [] = refl
   any_same p q same (x ∷ xs) = ap (λ (b : Bool). b || list_any p xs) (same x) ∙ ap (λ (b : Bool). q x || b) (any_same p q same xs)
 
@@ -142,7 +142,7 @@ module _ (t : ℕ) (part : Part) where
 
   -- ---- what is due in it
 
-  sessions_due : (e : Entity) → some (closes_in t e part) ≡ list_any (λ x. has_passed t (session_deadline x)) (leaf_of part e).sessions
+  pub sessions_due : (e : Entity) → some (closes_in t e part) ≡ list_any (λ x. has_passed t (session_deadline x)) (leaf_of part e).sessions
   sessions_due e = some_flat (λ x. closes_due t e part x.holder) (leaf_of part e).sessions ∙ any_same (λ x. some (closes_due t e part x.holder)) (λ x. has_passed t (session_deadline x)) (λ x. at x.holder) (leaf_of part e).sessions where
     at : (o : Option Holder) → some (closes_due t e part o) ≡ has_passed t (elim o [ Some h ↦ Some h.until | None ↦ None ])
     at None = refl

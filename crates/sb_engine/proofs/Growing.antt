@@ -1,9 +1,7 @@
 -- How a plan grows, step by step.
-use Rattle.std.proofs.Common.{◌≡◌, ℕ, ◌+◌, ◌<◌, ◌≤◌, Bool, true, false, cond, List, [], ◌∷◌, ◌++◌, length, get_or, take, filter, refl, ap, sym, ◌∙◌, subst}
+use Rattle.std.proofs.Common.{◌≡◌, ℕ, Bool, true, false, cond, List, [], ◌∷◌, ◌++◌, filter, refl, ap, sym, ◌∙◌, subst}
 use Rattle.std.specs.List.{flat_map}
-use Rattle.std.proofs.lemmas.Grind.{flat_map-append}
-use Rattle.std.proofs.lemmas.List.{append_assoc, append-nil, take_all}
-use Rattle.std.proofs.lemmas.List.Elements.{filter_more, filter-append}
+use Rattle.std.proofs.lemmas.List.{append_assoc, append-nil}
 use Rattle.sb_machine.specs.Changes.{after, after_all}
 use Rattle.sb_machine.specs.Delivery.{carried}
 use Rattle.sb_machine.specs.Namespace.{listed, last_at}
@@ -44,11 +42,6 @@ module _ {X : Type 0} where
   abbrev pub each : (X → Bool) → (X → List Change) → List X → List Change
   each p f xs = flat_map f (filter p xs)
 
-  each_more : (p : X → Bool) (f : X → List Change) (xs : List X) (i : ℕ) (x : X) → i < length xs → x ≡ get_or xs i x → each p f (take (i + 1) xs) ≡ each p f (take i xs) ++ each p f (x ∷ [])
-  each_more p f xs i x within here =
-      ap (flat_map f) (filter_more p xs i x within ∙ ap (λ (y : X). filter p (take i xs) ++ cond (p y) (y ∷ []) []) (sym here))
-      ∙ flat_map-append f (filter p (take i xs)) (cond (p x) (x ∷ []) [])
-
   -- one that passes, and one that doesn't
   pub grown_one : (s : Space) (p : X → Bool) (f : X → List Change) (x : X) (before after : Given) (old new : List Change) → p x ≡ true → IsGrown s (f x) before after old new → IsGrown s (each p f (x ∷ [])) before after old new
   grown_one s p f x before after old new passes one =
@@ -60,15 +53,10 @@ module _ {X : Type 0} where
       let is : each p f (x ∷ []) ≡ [] = ap (λ (b : Bool). flat_map f (cond b (x ∷ []) [])) fails in
       subst (λ (l : List Change). IsGrown s l given given old old) (sym is) (grown_none s given old)
 
-  pub grown_next : (s : Space) (p : X → Bool) (f : X → List Change) (xs : List X) (i : ℕ) (x : X) (before between after : Given) (old mid new : List Change) → i < length xs → x ≡ get_or xs i x → IsGrown s (each p f (take i xs)) before between old mid → IsGrown s (each p f (x ∷ [])) between after mid new → IsGrown s (each p f (take (i + 1) xs)) before after old new
-  grown_next s p f xs i x before between after old mid new within here so_far next =
-      subst (λ (l : List Change). IsGrown s l before after old new) (sym (each_more p f xs i x within here)) (grown_more s (each p f (take i xs)) (each p f (x ∷ [])) before between after old mid new so_far next)
-
-  pub grown_all : (s : Space) (p : X → Bool) (f : X → List Change) (xs : List X) (i : ℕ) (before after : Given) (old new : List Change) → length xs ≤ i → IsGrown s (each p f (take i xs)) before after old new → IsGrown s (each p f xs) before after old new
-  grown_all s p f xs i before after old new past so_far = subst (λ (l : List X). IsGrown s (each p f l) before after old new) (take_all i xs past) so_far
-
-  -- of two lists in turn
-  pub grown_both : (s : Space) (p : X → Bool) (f : X → List Change) (xs ys zs : List X) (before between after : Given) (old mid new : List Change) → xs ++ ys ≡ zs → IsGrown s (each p f xs) before between old mid → IsGrown s (each p f ys) between after mid new → IsGrown s (each p f zs) before after old new
-  grown_both s p f xs ys zs before between after old mid new are one two =
-      let is : each p f (xs ++ ys) ≡ each p f xs ++ each p f ys = ap (flat_map f) (filter-append p xs ys) ∙ flat_map-append f (filter p xs) (filter p ys) in
-      subst (λ (l : List X). IsGrown s (each p f l) before after old new) are (subst (λ (l : List Change). IsGrown s l before after old new) (sym is) (grown_more s (each p f xs) (each p f ys) before between after old mid new one two))
+  -- one by one they are all
+  pub each_in_turn : (p : X → Bool) (f : X → List Change) (xs : List X) → flat_map (λ x. each p f (x ∷ [])) xs ≡ each p f xs
+  each_in_turn p f [] = refl
+  each_in_turn p f (x ∷ xs) = at (p x) (each_in_turn p f xs) where
+    at : (b : Bool) → flat_map (λ x. each p f (x ∷ [])) xs ≡ each p f xs → flat_map f (cond b (x ∷ []) []) ++ flat_map (λ x. each p f (x ∷ [])) xs ≡ flat_map f (cond b (x ∷ filter p xs) (filter p xs))
+    at true ih = ap (λ (l : List Change). l ++ flat_map (λ x. each p f (x ∷ [])) xs) (append-nil (f x)) ∙ ap (λ (l : List Change). f x ++ l) ih
+    at false ih = ih

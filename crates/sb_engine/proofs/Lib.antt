@@ -18,9 +18,11 @@ mod Rules
 mod Small
 mod Exhausting
 pub mod Dues
+pub mod DueEntities
 pub mod Turning
 pub mod Items
 pub mod Later
 pub mod Sooner
 pub mod Told
+pub mod Onward
 pub mod Crossing

@@ -1,5 +1,5 @@
 -- What the moments that a shelf keeps tell of what is due, and of what a sweep looks for.
-use Rattle.std.proofs.Common.{Bool, List, None, Option, Some, [], ap, arith, cond, false, filter, map, min, refl, sym, true, ℕ, ◌&&◌, ◌+◌, ◌*◌, ◌<◌, ◌≤◌, ◌∙◌, ◌∷◌, ◌≡◌}
+use Rattle.std.proofs.Common.{Bool, List, None, Option, Some, [], ap, arith, cond, false, filter, map, min, refl, sym, true, ℕ, ◌&&◌, ◌+◌, ◌*◌, ◌<◌, ◌∙◌, ◌∷◌, ◌≡◌}
 use Rattle.std.specs.Prelude.{nat_le, nat_lt, not, ◌||◌}
 use Rattle.std.specs.List.{fold, list_any}
 use Rattle.std.proofs.lemmas.Bool.Decides.{nat_tests}
@@ -16,11 +16,10 @@ use Rattle.sb_machine.specs.declared.state.Standing.TheVariants.{Deferred, Held,
 use Rattle.sb_machine.specs.declared.state.StoredCopy.{StoredCopy}
 use Rattle.sb_copies.specs.Dues.{copy_expiry, due_by, due_of, expiry, hold_deadline, is_due, least_of, moment_of, never, standing_due}
 use Rattle.sb_engine.specs.Deadlines.{copy_deadline, expires_as, has_passed, session_deadline, tells}
-use Rattle.sb_engine.specs.Soonest.{sooner}
 use Rattle.sb_engine.specs.Sweeps.{is_looked_for, is_told}
 use Rattle.sb_engine.specs.declared.time.finding.Search.{Search}
 use Rattle.sb_engine.specs.declared.time.finding.Search.TheVariants.{Come, Ended, Expired}
-use Rattle.sb_engine.proofs.Dues.{ended_holder, none_of}
+use Rattle.sb_engine.proofs.Dues.{any_same, ended_holder, none_of}
 
 both : (a b : Bool) → (a && b) ≡ true → (a ≡ true) × (b ≡ true)
 both true b e = (refl, e)
@@ -63,7 +62,7 @@ module _ (t : ℕ) (c : StoredCopy) where
   come_due e (Held lock hold deferred) is = absurd (let bad : false ≡ true = is in cc)
   come_due e (Scheduled at) is = low_min at t is
 
-told_one : (search : Search) (t : ℕ) (sessions : List Session) (e : Bool) → is_told search t sessions e ≡ true → (c : StoredCopy) → is_looked_for search t sessions c ≡ true → is_due e t c ≡ true
+pub told_one : (search : Search) (t : ℕ) (sessions : List Session) (e : Bool) → is_told search t sessions e ≡ true → (c : StoredCopy) → is_looked_for search t sessions c ≡ true → is_due e t c ≡ true
 told_one Ended t sessions e told c is = ended_due t c e sessions (not_so (list_any (λ x. has_passed t (session_deadline x)) sessions) told) c.standing is
 told_one Expired t sessions true told c is = expired_due t c c.standing is
 told_one Expired t sessions false told c is = absurd (let bad : false ≡ true = told in cc)
@@ -90,17 +89,17 @@ expires_so Main e is = is
 expires_so Dead e is = not_so e is
 expires_so Transfer e is = not_so e is
 
-is_lt : (a b : ℕ) → nat_lt a b ≡ true → a < b
+pub is_lt : (a b : ℕ) → nat_lt a b ≡ true → a < b
 is_lt a b e = grind (arith, nat_tests)
 
-passed : (t : ℕ) → t < never → (o : Option ℕ) → nat_le (moment_of o) t ≡ has_passed t o
+pub passed : (t : ℕ) → t < never → (o : Option ℕ) → nat_le (moment_of o) t ≡ has_passed t o
 passed t p None = grind (arith, nat_tests)
 passed t p (Some d) = grind (arith, nat_tests)
 
-min_due : (a b m : ℕ) → nat_le (min a b) m ≡ (nat_le a m || nat_le b m)
+pub min_due : (a b m : ℕ) → nat_le (min a b) m ≡ (nat_le a m || nat_le b m)
 min_due a b m = grind (arith, nat_tests)
 
-or_assoc : (a b c : Bool) → ((a || b) || c) ≡ (a || (b || c))
+pub or_assoc : (a b c : Bool) → ((a || b) || c) ≡ (a || (b || c))
 or_assoc true b c = refl
 or_assoc false b c = refl
 
@@ -108,59 +107,25 @@ or_false : (a : Bool) → a ≡ (a || false)
 or_false true = refl
 or_false false = refl
 
-fold_due : (e : Bool) (t a : ℕ) (cs : List StoredCopy) → nat_le (fold min a (map (due_of e) cs)) t ≡ (nat_le a t || list_any (is_due e t) cs)
-fold_due e t a [] = or_false (nat_le a t)
-fold_due e t a (c ∷ cs) = fold_due e t (min a (due_of e c)) cs ∙ ap (λ (b : Bool). b || list_any (is_due e t) cs) (min_due a (due_of e c) t) ∙ or_assoc (nat_le a t) (is_due e t c) (list_any (is_due e t) cs)
-
-any_same : (p q : StoredCopy → Bool) → ((c : StoredCopy) → p c ≡ q c) → (cs : List StoredCopy) → list_any p cs ≡ list_any q cs
-any_same p q same [] = refl
-any_same p q same (c ∷ cs) = ap (λ (b : Bool). b || list_any p cs) (same c) ∙ ap (λ (b : Bool). q c || b) (any_same p q same cs)
+pub fold_due : {X : Type 0} (f : X → ℕ) (t a : ℕ) (xs : List X) → nat_le (fold min a (map f xs)) t ≡ (nat_le a t || list_any (λ x. nat_le (f x) t) xs)
+fold_due f t a [] = or_false (nat_le a t)
+fold_due f t a (x ∷ xs) = fold_due f t (min a (f x)) xs ∙ ap (λ (b : Bool). b || list_any (λ x. nat_le (f x) t) xs) (min_due a (f x) t) ∙ or_assoc (nat_le a t) (nat_le (f x) t) (list_any (λ x. nat_le (f x) t) xs)
 
 never_yet : (t : ℕ) → t < never → nat_le never t ≡ false
 never_yet t p = grind (arith, nat_tests)
 
-due_as : (part : Part) (e : Bool) (t : ℕ) → e ≡ is_main part → t < never → (c : StoredCopy) → is_due e t c ≡ has_passed t (copy_deadline part c)
+-- the least moment of many, before the last that there is
+pub any_due : {X : Type 0} (f : X → ℕ) (q : X → Bool) (t : ℕ) → t < never → ((x : X) → nat_le (f x) t ≡ q x) → (xs : List X) → nat_le (fold min never (map f xs)) t ≡ list_any q xs
+any_due f q t p same xs =
+    fold_due f t never xs
+    ∙ ap (λ (b : Bool). b || list_any (λ x. nat_le (f x) t) xs) (never_yet t p)
+    ∙ any_same (λ x. nat_le (f x) t) q same xs
+
+pub due_as : (part : Part) (e : Bool) (t : ℕ) → e ≡ is_main part → t < never → (c : StoredCopy) → is_due e t c ≡ has_passed t (copy_deadline part c)
 due_as part e t is p c = ap (λ (b : Bool). nat_le (moment_of (standing_due b (copy_expiry c) c.standing)) t) is ∙ passed t p (standing_due (is_main part) (copy_expiry c) c.standing)
 
 pub any_told : (part : Part) (e : Bool) (t : ℕ) (cs : List StoredCopy) → tells part e t ≡ true → nat_le (least_of e cs) t ≡ list_any (λ c. has_passed t (copy_deadline part c)) cs
 any_told part e t cs told =
     let it = both (expires_as part e) (nat_lt t never) told in
     let p : t < never = is_lt t never it.1 in
-    fold_due e t never cs
-    ∙ ap (λ (b : Bool). b || list_any (is_due e t) cs) (never_yet t p)
-    ∙ any_same (is_due e t) (λ c. has_passed t (copy_deadline part c)) (due_as part e t (expires_so part e it.0) p) cs
-
--- ---- the least moment
-
-min_assoc : (a b c : ℕ) → min (min a b) c ≡ min a (min b c)
-min_assoc a b c = omega arith
-
-min_comm : (a b : ℕ) → min a b ≡ min b a
-min_comm a b = omega arith
-
-fold_start : (a b : ℕ) (xs : List ℕ) → fold min (min a b) xs ≡ min a (fold min b xs)
-fold_start a b [] = refl
-fold_start a b (x ∷ xs) = ap (λ (z : ℕ). fold min z xs) (min_assoc a b x) ∙ fold_start a (min b x) xs
-
-sooner_as : (o : Option ℕ) (m : ℕ) → m ≤ never → sooner o m ≡ min m (moment_of o)
-sooner_as None m p = omega (arith, p)
-sooner_as (Some d) m p = omega (arith, p)
-
-lower : (a b n : ℕ) → a ≤ n → min a b ≤ n
-lower a b n p = omega (arith, p)
-
-fold_sooner : (part : Part) (e : Bool) → e ≡ is_main part → (m : ℕ) (cs : List StoredCopy) → m ≤ never → fold (λ k c. sooner (copy_deadline part c) k) m cs ≡ fold min m (map (due_of e) cs)
-fold_sooner part e is m [] p = refl
-fold_sooner part e is m (c ∷ cs) p =
-    let one : sooner (copy_deadline part c) m ≡ min m (due_of e c) = sooner_as (copy_deadline part c) m p ∙ ap (λ (b : Bool). min m (moment_of (standing_due b (copy_expiry c) c.standing))) (sym is) in
-    ap (λ (k : ℕ). fold (λ k c. sooner (copy_deadline part c) k) k cs) one ∙ fold_sooner part e is (min m (due_of e c)) cs (lower m (due_of e c) never p)
-
-pub least_told : (part : Part) (e : Bool) (m : ℕ) (cs : List StoredCopy) → expires_as part e ≡ true → m ≤ never → min (least_of e cs) m ≡ fold (λ k c. sooner (copy_deadline part c) k) m cs
-least_told part e m cs told p =
-    min_comm (least_of e cs) m
-    ∙ sym (fold_start m never (map (due_of e) cs))
-    ∙ ap (λ (z : ℕ). fold min z (map (due_of e) cs)) (capped m p)
-    ∙ sym (fold_sooner part e (expires_so part e told) m cs p)
-  where
-    capped : (m : ℕ) → m ≤ never → min m never ≡ m
-    capped m p = omega (arith, p)
+    any_due (due_of e) (λ c. has_passed t (copy_deadline part c)) t p (due_as part e t (expires_so part e it.0) p) cs

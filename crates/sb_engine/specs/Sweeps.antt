@@ -15,7 +15,7 @@ use Rattle.sb_machine.specs.declared.state.Space.{Space}
 use Rattle.sb_machine.specs.declared.state.StoredCopy.{StoredCopy}
 use Rattle.sb_fanout.specs.Lasts.{Given}
 use Rattle.sb_entities.specs.Stores.{entity_in}
-use Rattle.sb_engine.specs.Deadlines.{has_passed, session_deadline}
+use Rattle.sb_engine.specs.Deadlines.{has_passed, never, session_deadline}
 use Rattle.sb_engine.specs.Growing.{Stands}
 use Rattle.sb_engine.specs.declared.time.finding.Found.{Found}
 use Rattle.sb_engine.specs.declared.time.finding.Search.{Search}
@@ -35,6 +35,13 @@ abbrev pub is_told : Search → ℕ → List Session → Bool → Bool
 is_told Ended t sessions expires = not (list_any (λ x. has_passed t (session_deadline x)) sessions)
 is_told Expired t sessions expires = expires
 is_told Come t sessions expires = true
+
+-- By when an entity has come due if a sweep of all parts finds something in it: what has expired in a part that isn't a main one doesn't
+-- come due, so any entity may have such.
+abbrev pub reach : Search → ℕ → ℕ
+reach Ended t = t
+reach Expired t = never
+reach Come t = t
 
 -- a message with its place
 abbrev pub item : Entity → Part → StoredCopy → Item

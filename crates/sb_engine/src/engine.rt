@@ -203,7 +203,7 @@ impl Engine {
     }
 
     /// What happens as time comes up to a moment, in ms since 1970; nobody waits for its answer.
-    /// It changes nothing, and looks at each copy.
+    /// It changes nothing, and looks at no entity of which nothing is due.
     pub fn plan_tick(&self, moment: u64) -> Result<Plan, Refusal>
         requires sweepable { IsSweepable (engine_state self.now).space }
         ensures ok { IfOk result (λ p. (carried_out moment p (engine_state self.now) ≡ advanced (engine_state self.now) moment) × (is_spent (engine_state self.now) moment ≡ false) × IsSound (engine_state self.now) moment p) }
@@ -229,7 +229,7 @@ impl Engine {
     }
 
     /// Carries a plan out at a moment, in ms since 1970; it takes no memory. Where the moment that is
-    /// kept for `is_due` has come, this looks at each copy.
+    /// kept for `is_due` has come, this looks at each open transaction.
     pub fn commit(&mut self, moment: u64, plan: Plan) -> Answered
         requires room { HasRoom self.old moment plan }
         ensures state { engine_state self.new ≡ carried_out moment plan (engine_state self.old) }

@@ -1,7 +1,6 @@
 -- One change of a list carried out, and the others left.
-use Rattle.std.proofs.Common.{◌≡◌, ℕ, zero, suc, Bool, true, false, List, [], ◌∷◌, Some, Result, Ok, Err, refl, sym, ap, ◌∙◌, subst}
+use Rattle.std.proofs.Common.{◌≡◌, ℕ, zero, suc, Bool, true, false, List, [], ◌∷◌, Some, refl, sym, ap, ◌∙◌, subst}
 use Rattle.std.specs.List.{list_any, slice_get}
-use Rattle.std.specs.Result.{IsOk}
 use Rattle.sb_machine.specs.Changes.{after, after_all, is_numbered}
 use Rattle.sb_machine.specs.declared.change.Change.{Change}
 use Rattle.sb_machine.specs.declared.state.Space.{Space}
@@ -43,7 +42,3 @@ none_passes {X = X} p (suc i) x (y ∷ ys) none found = at (p y) refl (λ k. non
   at : (b : Bool) → p y ≡ b → (list_any p ys ≡ false → p x ≡ false) → p x ≡ false
   at true is ih = let bad : true ≡ false = rw is at none in absurd cc
   at false is ih = let rest : list_any p ys ≡ false = rw is at none in ih rest
-
-pub not_ok : {T E : Type 0} (r : Result T E) (e : E) → r ≡ Err e → IsOk r → ⊥
-not_ok (Ok x) e is h = absurd cc
-not_ok (Err x) e is h = let bad : false ≡ true = h in absurd cc

@@ -16,7 +16,7 @@ use Rattle.sb_entities.proofs.Rising.{rising_append, rising_changed, rising_filt
 use Rattle.sb_entities.proofs.Seen.{changed_seen, filter_seen}
 use Rattle.sb_entities.proofs.Stocking.{entity_of, entities_seen}
 
-abbrev Rise : ℕ → List EntityStore → Type 0
+abbrev pub Rise : ℕ → List EntityStore → Type 0
 Rise last rows = AreRising number_of 0 last (entities_in rows)
 
 pub sorted : (last : ℕ) (rows : List EntityStore) → Rise last rows → IsSorted is_earlier rows
@@ -27,14 +27,19 @@ rise_pushed last n e rows new is next pushed h =
     let seen : entities_in new ≡ entities_in rows ++ entity_in e ∷ [] = ap entities_in pushed ∙ map-append entity_in rows (e ∷ []) in
     subst (λ (m : ℕ). Rise m new) (sym is) (subst (λ (es : List Entity). AreRising number_of 0 (last + 1) es) (sym seen) (rising_append number_of 0 last (entity_in e) (entities_in rows) next h))
 
+-- those that are left, and those that have changed, as they are seen
+pub seen_removed : (n : ℕ) (rows new : List EntityStore) → entries_in new ≡ filter (λ x. not (has_number n x)) (entries_in rows) → entities_in new ≡ filter (λ e. not (is_entity n e)) (entities_in rows)
+seen_removed n rows new is =
+    entities_seen new ∙ ap (map entity_of) is ∙ filter_seen entity_of (λ e. not (is_entity n e)) (entries_in rows) ∙ ap (filter (λ e. not (is_entity n e))) (sym (entities_seen rows))
+
+pub seen_changed : (n t : ℕ) (c : EntityChange) (rows new : List EntityStore) → entries_in new ≡ on_entry n (entry_after t c) (entries_in rows) → entities_in new ≡ changed (is_entity n) (λ e. entity_after t c e ∷ []) (entities_in rows)
+seen_changed n t c rows new is =
+    entities_seen new ∙ ap (map entity_of) is ∙ changed_seen entity_of (is_entity n) (λ x. entry_after t c x ∷ []) (λ e. entity_after t c e ∷ []) (λ x. refl) (entries_in rows) ∙ ap (changed (is_entity n) (λ e. entity_after t c e ∷ [])) (sym (entities_seen rows))
+
 pub rise_removed : (n last : ℕ) (rows new : List EntityStore) → entries_in new ≡ filter (λ x. not (has_number n x)) (entries_in rows) → Rise last rows → Rise last new
 rise_removed n last rows new is h =
-    let seen : entities_in new ≡ filter (λ e. not (is_entity n e)) (entities_in rows) =
-    entities_seen new ∙ ap (map entity_of) is ∙ filter_seen entity_of (λ e. not (is_entity n e)) (entries_in rows) ∙ ap (filter (λ e. not (is_entity n e))) (sym (entities_seen rows)) in
-    subst (λ (es : List Entity). AreRising number_of 0 last es) (sym seen) (rising_filter number_of (λ e. not (is_entity n e)) 0 last (entities_in rows) h)
+    subst (λ (es : List Entity). AreRising number_of 0 last es) (sym (seen_removed n rows new is)) (rising_filter number_of (λ e. not (is_entity n e)) 0 last (entities_in rows) h)
 
 pub rise_changed : (n last t : ℕ) (c : EntityChange) (rows new : List EntityStore) → entries_in new ≡ on_entry n (entry_after t c) (entries_in rows) → Rise last rows → Rise last new
 rise_changed n last t c rows new is h =
-    let seen : entities_in new ≡ changed (is_entity n) (λ e. entity_after t c e ∷ []) (entities_in rows) =
-    entities_seen new ∙ ap (map entity_of) is ∙ changed_seen entity_of (is_entity n) (λ x. entry_after t c x ∷ []) (λ e. entity_after t c e ∷ []) (λ x. refl) (entries_in rows) ∙ ap (changed (is_entity n) (λ e. entity_after t c e ∷ [])) (sym (entities_seen rows)) in
-    subst (λ (es : List Entity). AreRising number_of 0 last es) (sym seen) (rising_changed number_of (is_entity n) (entity_after t c) (number_after t c) 0 last (entities_in rows) h)
+    subst (λ (es : List Entity). AreRising number_of 0 last es) (sym (seen_changed n t c rows new is)) (rising_changed number_of (is_entity n) (entity_after t c) (number_after t c) 0 last (entities_in rows) h)

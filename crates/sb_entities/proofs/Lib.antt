@@ -4,6 +4,7 @@ pub mod Lists
 pub mod Roomy
 pub mod Filling
 pub mod Promised
+pub mod WayBack
 pub mod Rising
 pub mod Bisecting
 pub mod InOrder
@@ -14,3 +15,14 @@ pub mod Carried
 pub mod Steps
 pub mod Opened
 pub mod Tallies
+pub mod DueIndex
+pub mod WhenDue
+pub mod Stretches
+pub mod ByHash
+pub mod HashFinds
+pub mod Holding
+pub mod Walking
+pub mod Firsts
+pub mod Leading
+pub mod Seating
+pub mod Next

@@ -14,9 +14,10 @@ use Rattle.sb_machine.specs.declared.change.Change.{Change}
 use Rattle.sb_machine.specs.declared.change.Change.TheVariants.{InLeaf, Notes, Makes, Removes, AddsRule, DropsRule, Begins, Queues, Drops}
 use Rattle.sb_machine.specs.declared.change.LeafChange.TheVariants.{Enters, Passes, Ends, Holds, Stands, Renews, Opens, Closes, Prolongs, Writes}
 use Rattle.sb_machine.specs.declared.state.Entity.{Entity}
+use Rattle.sb_machine.specs.declared.state.Standing.TheVariants.{Ready, Deferred, Held, Scheduled}
 use Rattle.sb_txn.specs.Txns.{Opened, has_txn, begun, with_queued, is_elsewhere}
 use Rattle.sb_entities.specs.Places.{place_of, part_place, is_same_place, is_same_entity_place, one_if, one_at, taken, taken_in, asked}
-use Rattle.sb_entities.specs.Rooms.{Room, spare_in, HasRoom}
+use Rattle.sb_entities.specs.Rooms.{Room, part_room, spare_in, HasRoom}
 use Rattle.sb_entities.specs.Stocks.{Entry, Stock, has_number, new_entry, entity_after, entry_after, entry_grown, on_entry, on_txn, txn_grown, stock_after, stock_grown, stock_grown_at, Promises, PromisesAll, IsReached, HasRoomFor}
 use Rattle.sb_entities.specs.Transactions.{txn_number, AreOpened}
 use Rattle.sb_entities.specs.declared.change.EntityChange.{EntityChange}
@@ -24,7 +25,7 @@ use Rattle.sb_entities.specs.declared.change.EntityChange.TheVariants.{InPart, N
 use Rattle.sb_entities.specs.declared.place.EntityPlace.{EntityPlace}
 use Rattle.sb_entities.specs.declared.place.EntityPlace.TheVariants.{OfPart, Ids, Rules}
 use Rattle.sb_entities.specs.declared.place.PartPlace.{PartPlace}
-use Rattle.sb_entities.specs.declared.place.PartPlace.TheVariants.{Copies, Sessions}
+use Rattle.sb_entities.specs.declared.place.PartPlace.TheVariants.{Copies, Sessions, Locks}
 use Rattle.sb_entities.specs.declared.place.Place.{Place}
 use Rattle.sb_entities.specs.declared.place.Place.TheVariants.{Entities, Transactions, InEntity, InTransaction}
 use Rattle.sb_entities.proofs.Lists.{is_equal, same_number, equal_is, if_some, each_implied, each_append, each_filter, each_dropped, each_changed, each_found, first_changed, first_filtered, first_pushed}
@@ -229,13 +230,19 @@ first_in n p c cs k Q one more h =
 pub nothing_in : (n : ℕ) (k : Stock) → IfSome (find (has_number n) k.entries) (λ x. Unit {0})
 nothing_in n k = if_all (λ (x : Entry). Unit {0}) (λ x. tt) (find (has_number n) k.entries)
 
+no_lock_in : (n : ℕ) (part : Part) (k : Stock) → IfSome (find (has_number n) k.entries) (λ x. 0 ≤ (part_room part x.room).locks)
+no_lock_in n part k = if_all (λ (x : Entry). 0 ≤ (part_room part x.room).locks) (λ x. omega arith) (find (has_number n) k.entries)
+
 pub promised_first : (c : Change) (cs : List Change) (k : Stock) → PromisesAll (c ∷ cs) k → HasRoomFor c k
 promised_first (InLeaf key (Enters fresh)) cs k h = first_in key.entity (OfPart key.part Copies) (InLeaf key (Enters fresh)) cs k (HasRoom (InPart key.part (k.last_lock + 1) (Enters fresh))) (rw (same_number key.entity, part_same key.part) refl) (λ r le. le) h
 promised_first (InLeaf key (Opens id until)) cs k h = first_in key.entity (OfPart key.part Sessions) (InLeaf key (Opens id until)) cs k (HasRoom (InPart key.part (k.last_lock + 1) (Opens id until))) (rw (same_number key.entity, part_same key.part) refl) (λ r le. le) h
 promised_first (InLeaf key (Passes cause)) cs k h = nothing_in key.entity k
 promised_first (InLeaf key (Ends n settled cause)) cs k h = nothing_in key.entity k
-promised_first (InLeaf key (Holds n hold)) cs k h = nothing_in key.entity k
-promised_first (InLeaf key (Stands n settled count standing)) cs k h = nothing_in key.entity k
+promised_first (InLeaf key (Holds n hold)) cs k h = first_in key.entity (OfPart key.part Locks) (InLeaf key (Holds n hold)) cs k (HasRoom (InPart key.part (k.last_lock + 1) (Holds n hold))) (rw (same_number key.entity, part_same key.part) refl) (λ r le. le) h
+promised_first (InLeaf key (Stands n settled count Ready)) cs k h = no_lock_in key.entity key.part k
+promised_first (InLeaf key (Stands n settled count Deferred)) cs k h = no_lock_in key.entity key.part k
+promised_first (InLeaf key (Stands n settled count (Held lock hold deferred))) cs k h = first_in key.entity (OfPart key.part Locks) (InLeaf key (Stands n settled count (Held lock hold deferred))) cs k (HasRoom (InPart key.part (k.last_lock + 1) (Stands n settled count (Held lock hold deferred)))) (rw (same_number key.entity, part_same key.part) refl) (λ r le. le) h
+promised_first (InLeaf key (Stands n settled count (Scheduled at))) cs k h = no_lock_in key.entity key.part k
 promised_first (InLeaf key (Renews n until)) cs k h = nothing_in key.entity k
 promised_first (InLeaf key (Closes lock)) cs k h = nothing_in key.entity k
 promised_first (InLeaf key (Prolongs lock until)) cs k h = nothing_in key.entity k

@@ -28,8 +28,8 @@ txn_of r = r.transaction
 on_seen : (n t : ℕ) (c : EntityChange) (s : Space) (xs : List Entry) → record s { entities = map entity_of (on_entry n (entry_after t c) xs) } ≡ record s { entities = changed (is_entity n) (λ e. entity_after t c e ∷ []) (map entity_of xs) }
 on_seen n t c s xs = ap (λ (l : List Entity). record s { entities = l }) (changed_seen entity_of (is_entity n) (λ x. entry_after t c x ∷ []) (λ e. entity_after t c e ∷ []) (λ x. refl) xs)
 
-removed_seen : (s : Space) (r q : ℕ) (es ds : List Entity) (ts us : List Transaction) → r ≡ q → es ≡ ds → ts ≡ us → record s { removed = r; entities = es; transactions = ts } ≡ record s { removed = q; entities = ds; transactions = us }
-removed_seen s r q es ds ts us a b c =
+seen_removed : (s : Space) (r q : ℕ) (es ds : List Entity) (ts us : List Transaction) → r ≡ q → es ≡ ds → ts ≡ us → record s { removed = r; entities = es; transactions = ts } ≡ record s { removed = q; entities = ds; transactions = us }
+seen_removed s r q es ds ts us a b c =
     ap (λ (z : ℕ). record s { removed = z; entities = es; transactions = ts }) a
     ∙ ap (λ (z : List Entity). record s { removed = q; entities = z; transactions = ts }) b
     ∙ ap (λ (z : List Transaction). record s { removed = q; entities = ds; transactions = z }) c
@@ -41,7 +41,7 @@ space_after t (Makes kind path description rules) k =
     let new = new_entry (record { number = k.last_entity + 1; kind = kind; path = path; description = description; rules = rules }) in
     ap (λ (l : List Entity). record (space_of (stock_after t (Makes kind path description rules) k)) { entities = l }) (map-append entity_of k.entries (new ∷ []))
 space_after t (Removes n) k =
-    removed_seen (space_of k) _ _ _ _ _ _
+    seen_removed (space_of k) _ _ _ _ _ _
     (ap (λ (z : ℕ). k.removed + z) (sum_seen entity_of made_in (filter (has_number n) k.entries) ∙ ap (sum_by made_in) (filter_seen entity_of (is_entity n) k.entries)))
     (filter_seen entity_of (λ e. not (is_entity n e)) k.entries)
     (filter_seen txn_of (is_elsewhere n) k.txns.rows)

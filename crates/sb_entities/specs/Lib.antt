@@ -1,9 +1,16 @@
 -- A namespace in memory, in the order to read it: Names, Listings, Tables, Transactions, Numbers (what stands in memory); Views, Stores (the namespace
--- that it is); Tallies (the counts that it keeps); Places, Rooms, Stocks (which memory is promised before a change is made, so that making it can't fail).
+-- that it is); ByHash (how an entity is found by its address or its topic); Tallies (the counts that it keeps); Heads (which session is the next); EntityDues, Expiring, DueRows (when something
+-- of an entity comes due); Places, Rooms, Stocks, Released (which memory is promised before a change is made, so that making it can't fail).
+pub mod ByHash
+pub mod DueRows
+pub mod EntityDues
+pub mod Expiring
+pub mod Heads
 pub mod Listings
 pub mod Names
 pub mod Numbers
 pub mod Places
+pub mod Released
 pub mod Rooms
 pub mod Stocks
 pub mod Stores

@@ -5,22 +5,31 @@ use Rattle.sb_machine.specs.declared.call.Part.{Part}
 use Rattle.sb_machine.specs.declared.change.Change.{Change}
 use Rattle.sb_machine.specs.declared.change.Change.TheVariants.{InLeaf, Notes, Makes, AddsRule, Begins, Queues}
 use Rattle.sb_machine.specs.declared.change.LeafChange.{LeafChange}
-use Rattle.sb_machine.specs.declared.change.LeafChange.TheVariants.{Enters, Opens}
+use Rattle.sb_machine.specs.declared.change.LeafChange.TheVariants.{Enters, Holds, Opens, Stands}
+use Rattle.sb_machine.specs.declared.state.Standing.{Standing}
+use Rattle.sb_machine.specs.declared.state.Standing.TheVariants.{Held}
 use Rattle.sb_entities.specs.declared.change.EntityChange.{EntityChange}
 use Rattle.sb_entities.specs.declared.change.EntityChange.TheVariants.{InPart, NotesId, GainsRule, LosesRule}
 use Rattle.sb_entities.specs.declared.place.EntityPlace.{EntityPlace}
 use Rattle.sb_entities.specs.declared.place.EntityPlace.TheVariants.{OfPart, Ids, Rules}
 use Rattle.sb_entities.specs.declared.place.PartPlace.{PartPlace}
-use Rattle.sb_entities.specs.declared.place.PartPlace.TheVariants.{Copies, Sessions}
+use Rattle.sb_entities.specs.declared.place.PartPlace.TheVariants.{Copies, Sessions, Locks}
 use Rattle.sb_entities.specs.declared.place.Place.{Place}
 use Rattle.sb_entities.specs.declared.place.Place.TheVariants.{Entities, Transactions, InEntity, InTransaction}
 
 -- ---- where a change needs a slot
 
+-- what a message adds to that stands so from then on, if anything: one that is held does to the locks
+abbrev pub place_to_stand : Standing → Option PartPlace
+place_to_stand (Held lock hold deferred) = Some Locks
+place_to_stand _ = None
+
 -- the list of a part that a change of it adds to, if any
 abbrev pub part_place : LeafChange → Option PartPlace
 part_place (Enters fresh) = Some Copies
 part_place (Opens id until) = Some Sessions
+part_place (Holds n hold) = Some Locks
+part_place (Stands n settled count standing) = place_to_stand standing
 part_place _ = None
 
 -- the list of an entity that a change of it adds to, if any
@@ -50,6 +59,7 @@ place_of _ = None
 abbrev pub is_same_part_place : PartPlace → PartPlace → Bool
 is_same_part_place Copies Copies = true
 is_same_part_place Sessions Sessions = true
+is_same_part_place Locks Locks = true
 is_same_part_place _ _ = false
 
 -- whether two are the same list of an entity

@@ -36,9 +36,9 @@ abbrev pub no_room : Room
 no_room = record {
   ids = 0;
   rules = 0;
-  main = record { copies = 0; sessions = 0 };
-  dead = record { copies = 0; sessions = 0 };
-  transfer = record { copies = 0; sessions = 0 };
+  main = record { copies = 0; sessions = 0; locks = 0 };
+  dead = record { copies = 0; sessions = 0; locks = 0 };
+  transfer = record { copies = 0; sessions = 0; locks = 0 };
 }
 
 -- a new entity, which has no slots yet

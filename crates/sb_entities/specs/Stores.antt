@@ -26,7 +26,7 @@ space_in s = record {
 
 -- the slots of a part in memory
 abbrev pub part_room_in : PartStore → PartRoom
-part_room_in p = record { copies = p.copies.spare; sessions = p.sessions.spare }
+part_room_in p = record { copies = p.copies.spare; sessions = p.sessions.spare; locks = p.copies.locks }
 
 -- the slots of an entity in memory
 abbrev pub room_in : EntityStore → Room

@@ -1,5 +1,4 @@
 // The namespace as delivery reads it.
-use crate::finding;
 use crate::space::SpaceStore;
 use sb_machine::{Directory, LeafKey, Listed};
 use std::alloc::{AllocError, Global};
@@ -13,11 +12,11 @@ impl Directory for SpaceStore {
     ghost last_of = { λ s key. spec.last_at key (space_in s) };
 
     fn destination(&self, name: &str) -> Option<&Listed> {
-        finding::destination(self.entities(), name)
+        self.entities.destination(name)
     }
 
     fn subscriptions_of(&self, alloc: Global, topic: &str) -> Result<Vec<&Listed>, AllocError> {
-        finding::subscriptions_of(alloc, self.entities(), topic)
+        self.entities.subscriptions_of(alloc, topic)
     }
 
     fn last(&self, key: LeafKey) -> u64 {

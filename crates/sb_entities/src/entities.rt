@@ -1,7 +1,11 @@
 // The entities of a namespace, in the order in which they were made.
-ghost use Rattle.std.specs.Prelude.{◌≡◌, ◌+◌, ◌-◌, ◌≤◌, ◌++◌, ◌∷◌, [], find, not, filter, OnOk, OnErr};
+ghost use Rattle.std.specs.Prelude.{◌≡◌, ◌+◌, ◌-◌, ◌≤◌, ◌++◌, ◌∷◌, [], find, map, not, filter, IfOk, OnOk, OnErr};
 ghost use Rattle.std.specs.Option.{option_map};
+ghost use Rattle.sb_machine.specs.Names as names;
 ghost use Rattle.sb_machine.specs.Namespace.{is_entity};
+ghost use Rattle.sb_machine.specs.Visits as visits;
+ghost use Rattle.sb_entities.specs.EntityDues.{due_entities, least_due_of};
+ghost use Rattle.sb_entities.specs.Released.{entry_shrunk};
 ghost use Rattle.sb_entities.specs.Stocks.{has_number, entry_after, entry_grown, given_in, on_entry, IsReadyAt};
 ghost use Rattle.sb_entities.specs.Stores.{entity_in, entries_in, entities_in};
 ghost use Rattle.sb_entities.specs.Tables.{number_of};
@@ -10,9 +14,11 @@ ghost use Rattle.sb_entities.specs.Tallies.{TellsOfAll};
 use crate::change::EntityChange;
 use crate::entity::EntityStore;
 use crate::place::EntityPlace;
-use crate::rows;
 use crate::slots::one_more;
 use crate::tally::Tally;
+use crate::{dues, finding, hashes, rows};
+use sb_index::Index;
+use sb_machine::{Listed, Path};
 use std::alloc::{AllocError, Global};
 use std::marker::Model;
 
@@ -22,11 +28,19 @@ pub struct Entities {
     rows: Vec<EntityStore>,
     spare: usize,
     last: u64,
+    // When something of each comes due, by number.
+    dues: Index,
+    // By the hash of the address, then by number.
+    by_path: Index,
+    // Those of subscriptions by the hash of the topic's name, then by number.
+    by_topic: Index,
 }
 
 impl Model for Entities {
     ghost use Rattle.std.specs.Prelude.{◌+◌, ◌≤◌, vec_len, vec_capacity};
     ghost use Rattle.sb_machine.specs.Keyed.{AreRising};
+    ghost use Rattle.sb_entities.specs.ByHash.{hash_of_path, hash_of_topic, HoldsBy};
+    ghost use Rattle.sb_entities.specs.DueRows.{HoldsDues};
     ghost use Rattle.sb_entities.specs.Tables.{number_of, Tabled};
     ghost use Rattle.sb_entities.specs.Views.{entities_in};
 
@@ -34,7 +48,7 @@ impl Model for Entities {
 
     ghost view = { λ s. record { rows = s.rows.items; spare = s.spare; last = s.last } };
 
-    ghost invariant = { λ s. AreRising number_of 0 s.last (entities_in s.rows.items) × (vec_len s.rows + s.spare ≤ vec_capacity s.rows) };
+    ghost invariant = { λ s. AreRising number_of 0 s.last (entities_in s.rows.items) × (vec_len s.rows + s.spare ≤ vec_capacity s.rows) × HoldsDues s.spare s.dues (entities_in s.rows.items) × (s.spare ≤ s.by_path.spare) × (s.spare ≤ s.by_topic.spare) × HoldsBy hash_of_path s.by_path.rows (entities_in s.rows.items) × HoldsBy hash_of_topic s.by_topic.rows (entities_in s.rows.items) };
 }
 
 impl Entities {
@@ -48,6 +62,9 @@ impl Entities {
             rows: Vec::new(alloc),
             spare: 0,
             last: 0,
+            dues: Index::new(alloc),
+            by_path: Index::new(alloc),
+            by_topic: Index::new(alloc),
         }
     }
 
@@ -71,6 +88,50 @@ impl Entities {
         rows::numbered(&self.rows, number)
     }
 
+    // ---- when they come due
+
+    /// Those of which something has come due by `moment`, in ms since 1970, in rising number.
+    pub fn due_by(&self, alloc: Global, moment: u64) -> Result<Vec<&EntityStore>, AllocError>
+        ensures { IfOk result (λ found. map (λ e. entity_in e.now) found.items ≡ due_entities moment (entities_in self.now.rows)) }
+    {
+        let numbers = self.dues.due_values(moment)?;
+        dues::entities_of(alloc, &self.rows, &numbers)
+    }
+
+    /// The least moment at which something of one comes due, in ms since 1970; `u64::MAX` where
+    /// nothing ever does.
+    pub fn least_due(&self) -> u64
+        ensures { result ≡ least_due_of (entities_in self.now.rows) }
+    {
+        match self.dues.least_due() {
+            Some(due) => due,
+            None => dues::NEVER,
+        }
+    }
+
+    // ---- by address
+
+    /// The entity that an address names.
+    pub fn at(&self, path: &Path) -> Option<&EntityStore>
+        ensures { option_map (λ e. entity_in e.now) result ≡ find (λ e. names.is_same_entity e.about.path path.now) (entities_in self.now.rows) }
+    {
+        finding::entity_at(&self.rows, &self.by_path, path)
+    }
+
+    /// What is listed of the queue or topic of this name.
+    pub fn destination(&self, name: &str) -> Option<&Listed>
+        ensures { option_map (λ e. e.now) result ≡ visits.destination (map (λ e. e.about) (entities_in self.now.rows)) name.now }
+    {
+        finding::destination(&self.rows, &self.by_path, name)
+    }
+
+    /// What is listed of a topic's subscriptions, in order of name.
+    pub fn subscriptions_of(&self, alloc: Global, topic: &str) -> Result<Vec<&Listed>, AllocError>
+        ensures { IfOk result (λ v. map (λ e. e.now) v.items ≡ visits.subscriptions_of (map (λ e. e.about) (entities_in self.now.rows)) topic.now) }
+    {
+        finding::subscriptions_of(alloc, &self.rows, &self.by_topic, topic)
+    }
+
     // ---- room
 
     /// Promises a slot to one entity more; where memory is wanting, all stays.
@@ -81,6 +142,9 @@ impl Entities {
         ensures last { self.new.last ≡ self.old.last }
     {
         let count = one_more(self.spare)?;
+        self.dues.reserve(count)?;
+        self.by_path.reserve(count)?;
+        self.by_topic.reserve(count)?;
         self.rows.reserve(count)?;
         self.spare = count;
         Ok(())
@@ -97,6 +161,27 @@ impl Entities {
         rows::reserve_row(&mut self.rows, number, place)
     }
 
+    /// Gives back a slot that was promised to one entity more; where none is promised, nothing. Its
+    /// memory stays, and serves the next promise.
+    pub fn release(&mut self)
+        ensures rows { self.new.rows ≡ self.old.rows }
+        ensures spare { self.new.spare ≡ self.old.spare - 1 }
+        ensures last { self.new.last ≡ self.old.last }
+    {
+        self.spare = self.spare.saturating_sub(1);
+    }
+
+    /// Gives back one slot that was promised in the entity of this number; where none is promised
+    /// there, or there is no such entity, nothing.
+    pub fn release_in(&mut self, number: u64, place: EntityPlace)
+        ensures rows { entries_in self.new.rows ≡ on_entry number (entry_shrunk place) (entries_in self.old.rows) }
+        ensures entities { entities_in self.new.rows ≡ entities_in self.old.rows }
+        ensures spare { self.new.spare ≡ self.old.spare }
+        ensures last { self.new.last ≡ self.old.last }
+    {
+        rows::release_row(&mut self.rows, number, place);
+    }
+
     // ---- changes
 
     /// Puts an entity of the next number behind all others, in a slot that was promised.
@@ -107,7 +192,16 @@ impl Entities {
         ensures spare { self.new.spare ≡ self.old.spare - 1 }
         ensures last { self.new.last ≡ self.old.last + 1 }
     {
-        self.last = entity.about().number;
+        self.dues.insert(dues::row_of(&entity));
+        let about = entity.about();
+        let number = about.number;
+        let hash = hashes::path_hash(&about.path);
+        let topic = hashes::topic_hash(&about.path);
+        self.by_path.rises();
+        self.by_topic.rises();
+        hashes::put(&mut self.by_path, Some(hash), number);
+        hashes::put(&mut self.by_topic, topic, number);
+        self.last = number;
         self.rows.push_reserved(entity);
         self.spare -= 1;
     }
@@ -118,6 +212,11 @@ impl Entities {
         ensures spare { self.new.spare ≡ self.old.spare }
         ensures last { self.new.last ≡ self.old.last }
     {
+        let _ = self.dues.remove(u128::from(number));
+        let hash = hashes::path_hash_at(&self.rows, number);
+        let topic = hashes::topic_hash_at(&self.rows, number);
+        hashes::take(&mut self.by_path, hash, number);
+        hashes::take(&mut self.by_topic, topic, number);
         rows::remove_rows(&mut self.rows, number);
     }
 
@@ -130,6 +229,8 @@ impl Entities {
         ensures spare { self.new.spare ≡ self.old.spare }
         ensures last { self.new.last ≡ self.old.last }
     {
-        rows::change_row(&mut self.rows, number, moment, change)
+        let tally = rows::change_row(&mut self.rows, number, moment, change);
+        dues::tell(&mut self.dues, &self.rows, number);
+        tally
     }
 }

@@ -1,14 +1,6 @@
 // One entity with its three parts.
-ghost use Rattle.std.specs.Prelude.{◌≡◌, ◌+◌, ◌≤◌, OnOk, OnErr};
-ghost use Rattle.sb_machine.specs.Changes.{max_number};
-ghost use Rattle.sb_machine.specs.Leaves.{copies_given};
-ghost use Rattle.sb_machine.specs.Namespace.{leaf_of, live_in, made_in};
-ghost use Rattle.sb_entities.specs.Rooms.{HasPartRoom, part_room};
-ghost use Rattle.sb_entities.specs.Stocks.{new_entry, entry_after, entry_grown, given_in, IsReady};
-ghost use Rattle.sb_entities.specs.Stores.{leaf_in, entity_in, room_in, entry_in};
-ghost use Rattle.sb_entities.specs.Tallies.{TellsOfEntity};
-ghost use Rattle.sb_entities.specs.declared.change.EntityChange.TheVariants.{InPart};
-ghost use Rattle.sb_entities.specs.declared.place.EntityPlace.TheVariants.{OfPart};
+ghost use Rattle.std.specs.Prelude.{◌≡◌, ◌+◌, true, false, OnOk, OnErr};
+ghost use Rattle.sb_entities.specs.Expiring.{expires_in};
 
 use crate::change::EntityChange;
 use crate::listing::Listing;
@@ -28,9 +20,26 @@ pub struct EntityStore {
     main: PartStore,
     dead: PartStore,
     transfer: PartStore,
+    // In its main part alone messages expire.
+    ghost expiring: { expires_in main ≡ true },
+    ghost lasting_dead: { expires_in dead ≡ false },
+    ghost lasting_transfer: { expires_in transfer ≡ false },
 }
 
 impl EntityStore {
+    ghost use Rattle.std.specs.Prelude.{◌≡◌, ◌+◌, ◌≤◌, OnOk, OnErr};
+    ghost use Rattle.sb_machine.specs.Changes.{max_number};
+    ghost use Rattle.sb_machine.specs.Leaves.{copies_given};
+    ghost use Rattle.sb_machine.specs.Namespace.{leaf_of, live_in, made_in};
+    ghost use Rattle.sb_entities.specs.EntityDues.{entity_due};
+    ghost use Rattle.sb_entities.specs.Released.{entry_shrunk};
+    ghost use Rattle.sb_entities.specs.Rooms.{HasPartRoom, part_room};
+    ghost use Rattle.sb_entities.specs.Stocks.{new_entry, entry_after, entry_grown, given_in, IsReady};
+    ghost use Rattle.sb_entities.specs.Stores.{leaf_in, entity_in, room_in, entry_in};
+    ghost use Rattle.sb_entities.specs.Tallies.{TellsOfEntity};
+    ghost use Rattle.sb_entities.specs.declared.change.EntityChange.TheVariants.{InPart};
+    ghost use Rattle.sb_entities.specs.declared.place.EntityPlace.TheVariants.{OfPart};
+
     /// What is listed of it.
     pub fn about(&self) -> &Listed
         ensures { result.now ≡ (entity_in self.now).about }
@@ -88,6 +97,14 @@ impl EntityStore {
         main + dead + transfer
     }
 
+    // When something of it comes due, in ms since 1970.
+    pub(crate) fn due(&self) -> u64
+        ensures { result ≡ entity_due (entity_in self.now) }
+    {
+        let others = self.dead.due().min(self.transfer.due());
+        self.main.due().min(others)
+    }
+
     // Promises one slot more; where memory is wanting, all stays.
     pub(crate) fn reserve(&mut self, place: EntityPlace) -> Result<(), AllocError>
         ensures ok { OnOk result (entry_in self.new ≡ entry_grown place (entry_in self.old)) }
@@ -108,6 +125,27 @@ impl EntityStore {
             Part::Main => self.main.reserve(place),
             Part::Dead => self.dead.reserve(place),
             Part::Transfer => self.transfer.reserve(place),
+        }
+    }
+
+    // Gives one promised slot back; where none is promised, nothing.
+    pub(crate) fn release(&mut self, place: EntityPlace)
+        ensures { entry_in self.new ≡ entry_shrunk place (entry_in self.old) }
+    {
+        match place {
+            EntityPlace::OfPart(part, place) => self.release_in_part(part, place),
+            EntityPlace::Ids => self.ids.release(),
+            EntityPlace::Rules => self.listing.release(),
+        }
+    }
+
+    fn release_in_part(&mut self, part: Part, place: PartPlace)
+        ensures { entry_in self.new ≡ entry_shrunk (OfPart part place) (entry_in self.old) }
+    {
+        match part {
+            Part::Main => self.main.release(place),
+            Part::Dead => self.dead.release(place),
+            Part::Transfer => self.transfer.release(place),
         }
     }
 

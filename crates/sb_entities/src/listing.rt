@@ -63,6 +63,14 @@ impl Listing {
         Ok(())
     }
 
+    /// Gives one promised rule back, with its list; where none is promised, nothing.
+    pub fn release(&mut self)
+        ensures about { self.new.about ≡ self.old.about }
+        ensures spare { self.new.spare ≡ self.old.spare - 1 }
+    {
+        drop(self.lists.pop_back());
+    }
+
     /// Adds a rule by name, in a list that was promised.
     pub fn add(&mut self, rule: Rule)
         requires room { 1 ≤ self.old.spare }

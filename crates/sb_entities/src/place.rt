@@ -2,13 +2,15 @@
 ghost use Rattle.std.specs.Prelude.{◌≡◌};
 ghost use Rattle.sb_entities.specs.Places as spec;
 
-use sb_machine::{Change, LeafChange, Part};
+use sb_machine::{Change, LeafChange, Part, Standing};
 
 /// What a part promises slots to.
 #[derive(Clone, Copy)]
 pub enum PartPlace {
     Copies,
     Sessions,
+    /// The locks under which its copies are held.
+    Locks,
 }
 
 /// What an entity promises slots to.
@@ -36,6 +38,17 @@ fn part_place(change: &LeafChange) -> Option<PartPlace>
     match change {
         LeafChange::Enters(_) => Some(PartPlace::Copies),
         LeafChange::Opens { .. } => Some(PartPlace::Sessions),
+        LeafChange::Holds { .. } => Some(PartPlace::Locks),
+        LeafChange::Stands { standing, .. } => place_to_stand(*standing),
+        _ => None,
+    }
+}
+
+fn place_to_stand(standing: Standing) -> Option<PartPlace>
+    ensures { result ≡ spec.place_to_stand standing }
+{
+    match standing {
+        Standing::Held { .. } => Some(PartPlace::Locks),
         _ => None,
     }
 }

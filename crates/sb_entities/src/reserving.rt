@@ -16,18 +16,23 @@ use std::alloc::AllocError;
 
 impl SpaceStore {
     /// Takes the memory that carrying out these changes needs; where it is wanting, the space
-    /// stays. It counts as wanting, too, where a change adds to an entity or a transaction whose
-    /// number is still to be given. Changes that add nothing take none.
+    /// stays, with exactly as many slots as before. It counts as wanting, too, where a change adds to
+    /// an entity or a transaction whose number is still to be given. Changes that add nothing take
+    /// none.
     pub fn reserve(&mut self, changes: &Changes) -> Result<(), AllocError>
         ensures space { space_in self.new ≡ space_in self.old }
         ensures room { OnOk result (IsRoomFor changes.now self.new) }
         ensures free { list_any (λ c. is_some (places.place_of c)) changes.now ≡ false → IsOk result }
+        ensures kept { OnErr result (stock_in self.new ≡ stock_in self.old) }
     {
         for index in 0..changes.len() {
             let Some(change) = changes.get(index) else {
                 return Ok(());
             };
-            self.reserve_for(change)?;
+            if let Err(wanting) = self.reserve_for(change) {
+                self.release_first(changes, index);
+                return Err(wanting);
+            }
         }
         Ok(())
     }
@@ -37,6 +42,7 @@ impl SpaceStore {
         ensures ok { OnOk result (stock_in self.new ≡ stock_grown_at (places.place_of change.now) (stock_in self.old)) }
         ensures reached { OnOk result (IsReached (places.place_of change.now) (stock_in self.old)) }
         ensures free { is_some (places.place_of change.now) ≡ false → IsOk result }
+        ensures err { OnErr result (stock_in self.new ≡ stock_in self.old) }
     {
         match place_of(change) {
             Some(place) => self.reserve_at(place),
@@ -48,6 +54,7 @@ impl SpaceStore {
         ensures space { space_in self.new ≡ space_in self.old }
         ensures ok { OnOk result (stock_in self.new ≡ stock_grown place (stock_in self.old)) }
         ensures reached { OnOk result (IsReached (Some place) (stock_in self.old)) }
+        ensures err { OnErr result (stock_in self.new ≡ stock_in self.old) }
     {
         match place {
             Place::Entities => self.entities.reserve(),

@@ -5,6 +5,7 @@ ghost use Rattle.std.specs.Option.{option_map};
 ghost use Rattle.sb_machine.specs.Changes.{max_number};
 ghost use Rattle.sb_machine.specs.Each.{IsSorted};
 ghost use Rattle.sb_machine.specs.Namespace.{is_entity, live_in, made_in};
+ghost use Rattle.sb_entities.specs.Released.{entry_shrunk};
 ghost use Rattle.sb_entities.specs.Stocks.{has_number, entry_after, entry_grown, given_in, on_entry, IsReady, IsReadyAt};
 ghost use Rattle.sb_entities.specs.Stores.{entity_in, entry_in, entries_in, entities_in};
 ghost use Rattle.sb_entities.specs.Tables.{is_earlier};
@@ -103,6 +104,30 @@ pub fn reserve_row(
     match place_of(rows, number) {
         Some(at) => reserve_at(rows, at, place),
         None => Ok(()),
+    }
+}
+
+// ---- giving a slot back
+
+fn release_at(rows: &mut Vec<EntityStore>, at: usize, place: EntityPlace)
+    requires { at < length rows.old.items }
+    ensures rows { IfSome (slice_get (entries_in rows.old.items) at) (λ x. entries_in rows.new.items ≡ slice_set (entries_in rows.old.items) at (entry_shrunk place x)) }
+    ensures len { vec_len rows.new ≡ vec_len rows.old }
+    ensures capacity { vec_capacity rows.new ≡ vec_capacity rows.old }
+{
+    let entity = &mut rows[at];
+    entity.release(place);
+}
+
+pub fn release_row(rows: &mut Vec<EntityStore>, number: u64, place: EntityPlace)
+    requires { IsSorted is_earlier rows.old.items }
+    ensures rows { entries_in rows.new.items ≡ on_entry number (entry_shrunk place) (entries_in rows.old.items) }
+    ensures entities { entities_in rows.new.items ≡ entities_in rows.old.items }
+    ensures len { vec_len rows.new ≡ vec_len rows.old }
+    ensures capacity { vec_capacity rows.new ≡ vec_capacity rows.old }
+{
+    if let Some(at) = place_of(rows, number) {
+        release_at(rows, at, place);
     }
 }
 

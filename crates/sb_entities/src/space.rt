@@ -6,7 +6,6 @@ ghost use Rattle.sb_entities.specs.Views.{entities_in};
 
 use crate::entities::Entities;
 use crate::entity::EntityStore;
-use crate::finding;
 use sb_machine::Path;
 use sb_txn::Txns;
 use std::alloc::Global;
@@ -120,7 +119,7 @@ impl SpaceStore {
     pub fn at(&self, path: &Path) -> Option<&EntityStore>
         ensures { option_map (λ e. entity_in e.now) result ≡ spec.entity_at path.now (space_in self.now) }
     {
-        finding::entity_at(self.entities.as_slice(), path)
+        self.entities.at(path)
     }
 
     /// The entity of this number.

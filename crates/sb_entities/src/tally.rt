@@ -2,6 +2,7 @@
 ghost use Rattle.std.specs.Prelude.{◌≡◌, ◌+◌, ◌-◌, ◌≤◌, length};
 ghost use Rattle.sb_machine.specs.Changes.{max_number};
 ghost use Rattle.sb_machine.specs.Leaves as leaves;
+ghost use Rattle.sb_entities.specs.Expiring.{expires_in};
 ghost use Rattle.sb_entities.specs.Rooms.{part_used, HasPartRoom};
 ghost use Rattle.sb_entities.specs.Stores.{leaf_in, part_room_in};
 ghost use Rattle.sb_entities.specs.Tallies.{TellsOfLeaf};
@@ -30,6 +31,7 @@ pub fn change_part(part: &mut PartStore, lock: u64, moment: u64, change: LeafCha
     requires fits { (leaf_in part.old).last + leaves.copies_given change ≤ max_number }
     ensures leaf { leaf_in part.new ≡ leaves.leaf_after lock moment change (leaf_in part.old) }
     ensures room { part_room_in part.new ≡ part_used change (part_room_in part.old) }
+    ensures expires { expires_in part.new ≡ expires_in part.old }
     ensures tally { TellsOfLeaf result (leaf_in part.old) (leaf_in part.new) }
     ensures given { result.given ≡ leaves.copies_given change }
 {

@@ -82,6 +82,14 @@ impl Index {
         promise(self.alloc, &mut self.nodes, count)
     }
 
+    /// Gives one promised node back to the allocator; where none is promised, nothing.
+    pub fn forget(&mut self)
+        ensures rows { self.new.rows ≡ self.old.rows }
+        ensures spare { self.new.spare ≡ self.old.spare - 1 }
+    {
+        drop(self.nodes.pop());
+    }
+
     pub fn len(&self) -> usize
         ensures { result ≡ length self.now.rows }
     {

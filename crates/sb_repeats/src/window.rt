@@ -66,6 +66,15 @@ impl Window {
         Ok(())
     }
 
+    /// Gives one promised slot back; where none is promised, nothing. Its memory stays, and serves
+    /// the next promise.
+    pub fn release(&mut self)
+        ensures ids { self.new.ids ≡ self.old.ids }
+        ensures spare { self.new.spare ≡ self.old.spare - 1 }
+    {
+        self.spare = self.spare.saturating_sub(1);
+    }
+
     /// Whether the id was accepted less than so many seconds before `moment`, in ms since 1970.
     pub fn is_known(&self, seconds: u64, id: &str, moment: u64) -> bool
         ensures { result ≡ spec.is_known seconds id.now moment self.now.ids }

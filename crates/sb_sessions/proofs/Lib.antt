@@ -1,4 +1,4 @@
-mod Next
+mod LeastEnd
 mod Placed
 mod Seats
 mod Sorted

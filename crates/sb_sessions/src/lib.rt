@@ -5,7 +5,8 @@
 //! is the case of the model's `leaf_after` that it carries out. To open a session takes a slot that
 //! was promised before, and so can't fail.
 //!
-//! The list is in rising ids, as the model puts them, so a session is found by bisection.
+//! The list is in rising ids, as the model puts them, so a session is found by bisection. When the
+//! first of their locks ends is kept as they change, so a tick looks at none of them.
 //!
 //! ```text
 //! let mut sessions = Sessions::new(alloc);
@@ -16,8 +17,8 @@
 //! ```
 #![tactic(auto)]
 
+mod ends;
 mod rows;
 mod sessions;
-mod waiting;
 
 pub use sessions::Sessions;

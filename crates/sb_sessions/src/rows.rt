@@ -1,5 +1,5 @@
 // Sessions as rows: where one stands, and what changes there.
-ghost use Rattle.std.specs.Prelude.{◌≡◌, ℕ, ◌==◌, ◌≤◌, ◌<◌, ◌+◌, [], ◌∷◌, length, find, position, IfSome, slice_set, vec_len, vec_capacity, None, Some, is_none};
+ghost use Rattle.std.specs.Prelude.{◌≡◌, ℕ, ◌==◌, ◌≤◌, ◌<◌, ◌+◌, [], ◌∷◌, length, find, position, IfSome, slice_set, vec_len, vec_capacity, None, Some, is_none, not};
 ghost use Rattle.std.specs.List.{slice_get, prefix_len};
 ghost use Rattle.std.specs.Option.{option_map};
 ghost use Rattle.std.specs.Ordering.{nat_cmp, is_lt};
@@ -8,6 +8,7 @@ ghost use Rattle.sb_machine.specs.Keyed.{changed, with_sorted};
 ghost use Rattle.sb_machine.specs.Leases.{is_living_holder as is_living};
 ghost use Rattle.sb_machine.specs.Leaves as leaf;
 ghost use Rattle.sb_machine.specs.Names.{is_before};
+ghost use Rattle.sb_machine.specs.Sessions.{holder_in};
 ghost use Rattle.sb_sessions.specs.Sessions.{seating, AreSorted};
 
 use sb_machine::{Holder, Session, is_living_holder};
@@ -69,6 +70,17 @@ pub fn session_of<'a>(rows: &'a [Session], id: &str) -> Option<&'a Session>
     match place_of(rows, id) {
         Some(place) => Some(&rows[place]),
         None => None,
+    }
+}
+
+/// Whether somebody holds the session of this id.
+pub fn is_held(rows: &[Session], id: &str) -> bool
+    requires { AreSorted rows.now }
+    ensures { is_none (holder_in id.now (seating rows.now)) ≡ not result }
+{
+    match session_of(rows, id) {
+        Some(session) => session.holder.is_some(),
+        None => false,
     }
 }
 

@@ -4,12 +4,12 @@ ghost use Rattle.std.specs.Option.{option_map};
 ghost use Rattle.sb_machine.specs.Keyed.{changed};
 ghost use Rattle.sb_machine.specs.Leases.{is_living_holder};
 ghost use Rattle.sb_machine.specs.Leaves.{has_id, is_held_under, opened, prolonged_holder, remembered};
-ghost use Rattle.sb_machine.specs.Sessions as spec;
-ghost use Rattle.sb_machine.specs.declared.state.Leaf.{Leaf};
+ghost use Rattle.sb_sessions.specs.Ends.{least_end};
 ghost use Rattle.sb_sessions.specs.Sessions.{seating};
 
-use crate::{rows, waiting};
-use sb_machine::{Session, StoredCopy, Token};
+use crate::ends::{NEVER, end_under, least_moved, least_opened};
+use crate::rows;
+use sb_machine::{Session, Token};
 use sb_model::{Rows, Text};
 use std::alloc::{AllocError, Global};
 use std::marker::Model;
@@ -19,17 +19,20 @@ use std::marker::Model;
 pub struct Sessions {
     sessions: Vec<Session>,
     spare: usize,
+    // when the first of their locks ends
+    least: u64,
 }
 
 impl Model for Sessions {
-    ghost use Rattle.std.specs.Prelude.{◌+◌, ◌≤◌, vec_len, vec_capacity};
+    ghost use Rattle.std.specs.Prelude.{◌≡◌, ◌+◌, ◌≤◌, vec_len, vec_capacity};
+    ghost use Rattle.sb_sessions.specs.Ends.{least_end};
     ghost use Rattle.sb_sessions.specs.Sessions.{AreSorted, Seated};
 
     ghost Value = { Seated };
 
     ghost view = { λ s. record { sessions = s.sessions.items; spare = s.spare } };
 
-    ghost invariant = { λ s. (vec_len s.sessions + s.spare ≤ vec_capacity s.sessions) × AreSorted s.sessions.items };
+    ghost invariant = { λ s. (vec_len s.sessions + s.spare ≤ vec_capacity s.sessions) × AreSorted s.sessions.items × (s.least ≡ least_end s.sessions.items) };
 }
 
 impl Sessions {
@@ -41,6 +44,7 @@ impl Sessions {
         Sessions {
             sessions: Vec::new(alloc),
             spare: 0,
+            least: NEVER,
         }
     }
 
@@ -64,6 +68,15 @@ impl Sessions {
             self.spare = count;
         }
         Ok(())
+    }
+
+    /// Gives one promised slot back; where none is promised, nothing. Its memory stays, and serves
+    /// the next promise.
+    pub fn release(&mut self)
+        ensures sessions { self.new.sessions ≡ self.old.sessions }
+        ensures spare { self.new.spare ≡ self.old.spare - 1 }
+    {
+        self.spare = self.spare.saturating_sub(1);
     }
 
     // ---- reading
@@ -100,16 +113,12 @@ impl Sessions {
         }
     }
 
-    /// The id of the next session that nobody holds: that of the first copy that may be received,
-    /// of the part's copies in these two slices.
-    pub fn next_session<'a>(
-        &self,
-        first: &'a [StoredCopy],
-        second: &'a [StoredCopy],
-    ) -> Option<&'a Text>
-        ensures { (leaf : Leaf) → leaf.sessions ≡ self.now.sessions → option_map (λ x. x.now) result ≡ spec.next_session leaf (first.now ++ second.now) }
+    /// The least moment at which the lock of one of them ends, in ms since 1970; `u64::MAX` where
+    /// nobody holds one.
+    pub fn least_end(&self) -> u64
+        ensures { result ≡ least_end self.now.sessions }
     {
-        waiting::next_session(&self.sessions, first, second)
+        self.least
     }
 
     // ---- changes
@@ -121,7 +130,9 @@ impl Sessions {
         ensures sessions { self.new.sessions ≡ opened lock id until (seating self.old.sessions) }
         ensures spare { self.new.spare ≡ self.old.spare - 1 }
     {
+        let held = rows::is_held(&self.sessions, id.as_str());
         rows::open_row(&mut self.sessions, id, lock, until);
+        self.least = least_opened(self.least, held, until);
         self.spare -= 1;
     }
 
@@ -131,7 +142,9 @@ impl Sessions {
         ensures sessions { self.new.sessions ≡ changed (is_held_under lock) (λ x. remembered (record x { holder = None })) self.old.sessions }
         ensures spare { self.new.spare ≡ self.old.spare }
     {
+        let was = end_under(&self.sessions, lock);
         rows::close_row(&mut self.sessions, lock);
+        self.least = least_moved(self.least, was, NEVER, &self.sessions);
     }
 
     /// The lock of a session lives until then, in ms since 1970.
@@ -139,7 +152,9 @@ impl Sessions {
         ensures sessions { self.new.sessions ≡ changed (is_held_under lock) (λ x. record x { holder = prolonged_holder until x.holder } ∷ []) self.old.sessions }
         ensures spare { self.new.spare ≡ self.old.spare }
     {
+        let was = end_under(&self.sessions, lock);
         rows::prolong_row(&mut self.sessions, lock, until);
+        self.least = least_moved(self.least, was, until, &self.sessions);
     }
 
     /// The session that is held under this lock remembers these bytes, or none.

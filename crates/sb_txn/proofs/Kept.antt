@@ -36,7 +36,7 @@ module _ {X : Type 0} where
         let rest = ih (found_behind p x xs (Some e) is found) in
         rw is (omega (arith, sum_by-cons f x (changed p g xs), sum_by-cons f x xs, rest))
 
-  sum_one : (f : X → ℕ) (x : X) → sum_by f (x ∷ []) ≡ f x
+  pub sum_one : (f : X → ℕ) (x : X) → sum_by f (x ∷ []) ≡ f x
   sum_one f x = from_zero (f x) where
     from_zero : (n : ℕ) → 0 + n ≡ n
     from_zero n = omega arith
@@ -48,7 +48,7 @@ module _ {X : Type 0} where
     at true is ih = omega (arith, sum_by-cons f x xs, ap f (found_here p x e xs is found))
     at false is ih = omega (arith, sum_by-cons f x xs, ih (found_behind p x xs (Some e) is found))
 
-  any_changed : (q p : X → Bool) (f : X → X) → ((x : X) → q (f x) ≡ q x) → (xs : List X) → list_any q (changed p (λ x. f x ∷ []) xs) ≡ list_any q xs
+  pub any_changed : (q p : X → Bool) (f : X → X) → ((x : X) → q (f x) ≡ q x) → (xs : List X) → list_any q (changed p (λ x. f x ∷ []) xs) ≡ list_any q xs
   any_changed q p f same [] = refl
   any_changed q p f same (x ∷ xs) = at (p x) refl (any_changed q p f same xs) where
     at : (b : Bool) → p x ≡ b → list_any q (changed p (λ y. f y ∷ []) xs) ≡ list_any q xs → list_any q (changed p (λ y. f y ∷ []) (x ∷ xs)) ≡ list_any q (x ∷ xs)
@@ -278,7 +278,7 @@ elsewhere_kept e rows keys keys' forgot nodes kept =
 -- ---- as it is done at a place
 
 -- what is said of the one that was found is so of the one that stands there
-of_found : (P : Opened → Type 0) (r : Opened) (o : Option Opened) → o ≡ Some r → IfSome o P → P r
+pub of_found : (P : Opened → Type 0) (r : Opened) (o : Option Opened) → o ≡ Some r → IfSome o P → P r
 of_found P r o e h = subst (λ (o : Option Opened). IfSome o P) e h
 
 pub node_there : (n i : ℕ) (rows : List Opened) (keys : Indexed) → Some i ≡ position (has_txn n) rows → IfSome (find (has_txn n) rows) (λ r. 1 ≤ r.spare) → IsKept rows keys → 1 ≤ keys.spare
@@ -300,7 +300,7 @@ queued_slots_at n i deadline op rows new found room is =
     let one : 1 ≤ it.0.spare = of_found (λ (r : Opened). 1 ≤ r.spare) it.0 (find (has_txn n) rows) it.1 room in
     ap (λ (l : List Opened). slots_of l + 1) is ∙ queued_slots n deadline op it.0 rows it.1 one
 
-seen_place : (n i : ℕ) (rows rows' : List Opened) → rows' ≡ rows → Some i ≡ position (has_txn n) rows' → Some i ≡ position (has_txn n) rows
+pub seen_place : (n i : ℕ) (rows rows' : List Opened) → rows' ≡ rows → Some i ≡ position (has_txn n) rows' → Some i ≡ position (has_txn n) rows
 seen_place n i rows rows' same found = subst (λ (l : List Opened). Some i ≡ position (has_txn n) l) same found
 
 spare_seen : (n i had : ℕ) (rows rows' : List Opened) → rows' ≡ rows → Some i ≡ position (has_txn n) rows → IfSome (slice_get rows' i) (λ r. had ≡ r.spare) → (r : Opened) × (find (has_txn n) rows ≡ Some r) × (had ≡ r.spare)

@@ -3,5 +3,6 @@ mod Keys
 mod Kept
 mod Numbered
 mod Placed
+mod Releasing
 mod Steps
 mod Views

@@ -36,6 +36,10 @@ with_queued deadline operation r = record { transaction = with_operation deadlin
 abbrev pub with_room : ℕ → Opened → Opened
 with_room count r = record r { spare = max r.spare count }
 
+-- one slot less, where there is one
+abbrev pub with_less_room : Opened → Opened
+with_less_room r = record r { spare = r.spare - 1 }
+
 -- whether a transaction is one of another entity
 abbrev pub is_elsewhere : ℕ → Transaction → Bool
 is_elsewhere entity x = not (x.entity == entity)

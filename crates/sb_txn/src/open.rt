@@ -1,6 +1,6 @@
 // One open transaction, with room for its operations.
-ghost use Rattle.std.specs.Prelude.{◌≡◌, ◌≤◌, OnOk, OnErr};
-ghost use Rattle.sb_txn.specs.Txns.{Opened, begun, with_queued, with_room};
+ghost use Rattle.std.specs.Prelude.{◌≡◌, ◌+◌, ◌≤◌, OnOk, OnErr};
+ghost use Rattle.sb_txn.specs.Txns.{Opened, begun, with_less_room, with_queued, with_room};
 
 use sb_machine::{Operation, Transaction};
 use sb_model::Rows;
@@ -88,6 +88,18 @@ impl OpenTransaction {
             self.spare = count;
         }
         Ok(())
+    }
+
+    // Answers how many slots that gives back: one, or none where none is promised.
+    pub(crate) fn release(&mut self) -> usize
+        ensures row { self.new ≡ with_less_room self.old }
+        ensures slots { self.new.spare + result ≡ self.old.spare }
+    {
+        if self.spare == 0 {
+            return 0;
+        }
+        self.spare -= 1;
+        1
     }
 
     pub(crate) fn queue(&mut self, deadline: u64, operation: Operation)

@@ -8,7 +8,7 @@ ghost use Rattle.sb_machine.specs.Keyed.{changed};
 ghost use Rattle.sb_machine.specs.SettleRow.{settles};
 ghost use Rattle.sb_txn.specs.Queued as spec;
 ghost use Rattle.sb_txn.specs.Queued.{is_earlier, slots_of, spare_of, AreKeyed, AreNumbered, IsKept};
-ghost use Rattle.sb_txn.specs.Txns.{transactions_of, has_txn, with_queued, with_room, is_elsewhere};
+ghost use Rattle.sb_txn.specs.Txns.{transactions_of, has_txn, with_less_room, with_queued, with_room, is_elsewhere};
 
 use crate::{OpenTransaction, queued};
 use sb_index::Index;
@@ -127,6 +127,33 @@ pub fn reserve_row(
     reserve_at(rows, place, count)?;
     *slots = wanted;
     Ok(())
+}
+
+fn release_at(rows: &mut Vec<OpenTransaction>, place: usize) -> usize
+    requires { place < length rows.old.items }
+    ensures rows { IfSome (slice_get rows.old.items place) (λ r. rows.new.items ≡ slice_set rows.old.items place (with_less_room r)) }
+    ensures slots { IfSome (slice_get rows.old.items place) (λ r. (with_less_room r).spare + result ≡ r.spare) }
+    ensures len { vec_len rows.new ≡ vec_len rows.old }
+    ensures capacity { vec_capacity rows.new ≡ vec_capacity rows.old }
+{
+    let row = &mut rows[place];
+    row.release()
+}
+
+// Answers how many slots that gives back. The nodes of the index stay.
+pub fn release_row(rows: &mut Vec<OpenTransaction>, keys: &Index, number: u64) -> usize
+    requires kept { IsKept rows.old.items keys.now }
+    ensures rows { rows.new.items ≡ changed (has_txn number) (λ r. with_less_room r ∷ []) rows.old.items }
+    ensures transactions { transactions_of rows.new.items ≡ transactions_of rows.old.items }
+    ensures kept { IsKept rows.new.items keys.now }
+    ensures slots { slots_of rows.new.items + result ≡ slots_of rows.old.items }
+    ensures len { vec_len rows.new ≡ vec_len rows.old }
+    ensures capacity { vec_capacity rows.new ≡ vec_capacity rows.old }
+{
+    match place_of(rows, number) {
+        Some(place) => release_at(rows, place),
+        None => 0,
+    }
 }
 
 fn queue_at(rows: &mut Vec<OpenTransaction>, place: usize, deadline: u64, operation: Operation)

@@ -6,7 +6,7 @@ ghost use Rattle.sb_machine.specs.Changes.{is_transaction, with_operation};
 ghost use Rattle.sb_machine.specs.Each.{Each};
 ghost use Rattle.sb_machine.specs.Keyed.{changed};
 ghost use Rattle.sb_machine.specs.SettleRow.{settles};
-ghost use Rattle.sb_txn.specs.Txns.{transactions_of, has_txn, begun, with_queued, with_room, is_elsewhere};
+ghost use Rattle.sb_txn.specs.Txns.{transactions_of, has_txn, begun, with_less_room, with_queued, with_room, is_elsewhere};
 
 use crate::{OpenTransaction, rows};
 use sb_index::Index;
@@ -90,6 +90,26 @@ impl Txns {
             number,
             count,
         )
+    }
+
+    /// Gives one slot back that was promised to transactions; where none is promised, nothing. Its
+    /// memory stays, and serves the next promise.
+    pub fn release(&mut self)
+        ensures rows { self.new.rows ≡ self.old.rows }
+        ensures spare { self.new.spare ≡ self.old.spare - 1 }
+    {
+        self.spare = self.spare.saturating_sub(1);
+    }
+
+    /// Gives one slot back that was promised to the operations of the transaction of this number;
+    /// where none is promised, or there is no such transaction, nothing. Its memory stays, and
+    /// serves the next promise.
+    pub fn release_operation(&mut self, number: u64)
+        ensures rows { self.new.rows ≡ changed (has_txn number) (λ r. with_less_room r ∷ []) self.old.rows }
+        ensures transactions { transactions_of self.new.rows ≡ transactions_of self.old.rows }
+        ensures spare { self.new.spare ≡ self.old.spare }
+    {
+        self.slots -= rows::release_row(&mut self.rows, &self.keys, number);
     }
 
     // ---- reading

@@ -75,8 +75,7 @@ fn held_until(moment: u64, holder: Option<Holder>) -> Option<u64>
 fn next_session(part: &PartStore) -> Option<&Text>
     ensures { option_map (λ x. x.now) result ≡ spec.next_session (leaf_in part.now) (leaf_in part.now).copies }
 {
-    let (first, second) = part.copies().as_slices();
-    part.sessions().next_session(first, second)
+    part.next_session()
 }
 
 fn accept_named(

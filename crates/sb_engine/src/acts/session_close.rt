@@ -1,5 +1,5 @@
 // Giving a session back, with its copies.
-ghost use Rattle.std.specs.Prelude.{◌≡◌, [], ◌∷◌, ◌++◌, filter, false, OnOk};
+ghost use Rattle.std.specs.Prelude.{◌≡◌, [], ◌∷◌, filter, map, false, IfOk, OnOk};
 ghost use Rattle.std.specs.List.{flat_map};
 ghost use Rattle.sb_machine.specs.Delivery as delivery;
 ghost use Rattle.sb_machine.specs.Leases as leases;
@@ -55,9 +55,9 @@ fn release_all_under(
     entity: &EntityStore,
     part: Part,
     lock: u64,
-    copies: &[StoredCopy],
+    copies: &[&StoredCopy],
 ) -> Result<(), AllocError>
-    ensures { OnOk result (IsGrown (space_in space.now) (flat_map (λ c. delivery.released (namespace.listed (space_in space.now)) moment (entity_in entity.now) part c false false) (filter (λ c. leases.is_under_session lock c.standing) copies.now)) (given_in lasts.old) (given_in lasts.new) changes.old changes.new) }
+    ensures { OnOk result (IsGrown (space_in space.now) (flat_map (λ c. delivery.released (namespace.listed (space_in space.now)) moment (entity_in entity.now) part c false false) (filter (λ c. leases.is_under_session lock c.standing) (map (λ c. c.now) copies.now))) (given_in lasts.old) (given_in lasts.new) changes.old changes.new) }
 {
     for copy in copies {
         release_under(
@@ -67,10 +67,10 @@ fn release_all_under(
     Ok(())
 }
 
-fn copies_in(entity: &EntityStore, part: Part) -> (&[StoredCopy], &[StoredCopy])
-    ensures { result.0.now ++ result.1.now ≡ (namespace.leaf_of part (entity_in entity.now)).copies }
+fn copies_in(entity: &EntityStore, part: Part) -> Result<Vec<&StoredCopy>, AllocError>
+    ensures { IfOk result (λ found. map (λ c. c.now) found.items ≡ (namespace.leaf_of part (entity_in entity.now)).copies) }
 {
-    entity.part(part).copies().as_slices()
+    entity.part(part).copies().all()
 }
 
 // A session is held no more, and its copies are released at `moment`, in ms since 1970: changes
@@ -88,12 +88,9 @@ fn closed(
     ensures { OnOk result (IsGrown (space_in space.now) (spec.closed (space_in space.now) moment (entity_in entity.now) part lock) (given_in lasts.old) (given_in lasts.new) changes.old changes.new) }
 {
     push_in(changes, entity, part, LeafChange::Closes { lock })?;
-    let (first, second) = copies_in(entity, part);
+    let copies = copies_in(entity, part)?;
     release_all_under(
-        alloc, space, lasts, changes, moment, entity, part, lock, first,
-    )?;
-    release_all_under(
-        alloc, space, lasts, changes, moment, entity, part, lock, second,
+        alloc, space, lasts, changes, moment, entity, part, lock, &copies,
     )
 }
 

@@ -18,10 +18,19 @@ fn copy_comes(part: Part, copy: &StoredCopy, moment: u64) -> bool
     has_passed(copy_deadline(part, copy), moment)
 }
 
-fn any_copy(part: Part, copies: &[StoredCopy], moment: u64) -> bool
-    ensures { result ≡ list_any (λ c. spec.has_passed moment (spec.copy_deadline part c)) copies.now }
+// Looks at one copy after another, and takes no memory.
+fn any_copy(part: Part, copies: &Shelf, moment: u64) -> bool
+    ensures { result ≡ list_any (λ c. spec.has_passed moment (spec.copy_deadline part c)) copies.now.copies }
 {
-    copies.iter().any(|c| copy_comes(part, c, moment))
+    copies.rises();
+    let mut from: u128 = 0;
+    'copies: while let Some(copy) = copies.first_from(from) {
+        if copy_comes(part, copy, moment) {
+            return true;
+        }
+        from = u128::from(copy.number) + 1;
+    }
+    false
 }
 
 /// Whether the lock of one of these sessions has ended by `moment`, in ms since 1970.
@@ -46,8 +55,7 @@ fn any_in(part: Part, copies: &Shelf, moment: u64) -> bool
     if tells(part, copies, moment) {
         return copies.least_due() <= moment;
     }
-    let (front, back) = copies.as_slices();
-    any_copy(part, front, moment) || any_copy(part, back, moment)
+    any_copy(part, copies, moment)
 }
 
 fn comes_in(part: Part, store: &PartStore, moment: u64) -> bool
@@ -86,13 +94,24 @@ fn any_transaction(rows: &[OpenTransaction], moment: u64) -> bool
     false
 }
 
+// At the last moment the least one doesn't tell whether something comes due then or nothing ever does.
+fn entity_comes(space: &SpaceStore, moment: u64) -> bool
+    ensures { result ≡ list_any (spec.comes_of moment) (space_in space.now).entities }
+{
+    if moment < u64::MAX {
+        return space.least_due() <= moment;
+    }
+    any_entity(space.entities(), moment)
+}
+
 fn comes(space: &SpaceStore, moment: u64) -> bool
     ensures { result ≡ spec.comes moment (space_in space.now) }
 {
-    any_entity(space.entities(), moment) || any_transaction(space.txns().as_slice(), moment)
+    entity_comes(space, moment) || any_transaction(space.txns().as_slice(), moment)
 }
 
-/// Whether something is due at `moment`, in ms since 1970: this looks at each entity and each session.
+/// Whether something is due at `moment`, in ms since 1970: this looks at each open transaction, and
+/// at the last moment at each copy.
 pub fn is_due(space: &SpaceStore, moment: u64) -> bool
     ensures { result ≡ machine.is_due moment (space_in space.now) }
 {

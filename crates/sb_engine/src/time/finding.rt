@@ -2,7 +2,7 @@
 ghost use Rattle.std.specs.Prelude.{◌≡◌, [], ◌++◌, map, filter, true, IfOk};
 ghost use Rattle.std.specs.List.{flat_map};
 ghost use Rattle.sb_machine.specs.declared.call.Part.TheVariants.{Main as MainPart};
-ghost use Rattle.sb_entities.specs.Stores.{entity_in, entities_in, space_in};
+ghost use Rattle.sb_entities.specs.Stores.{entity_in, space_in};
 ghost use Rattle.sb_engine.specs.Sweeps as spec;
 
 use crate::deliver::release::is_expired;
@@ -39,26 +39,6 @@ fn is_looked_for(search: Search, moment: u64, sessions: &[Session], copy: &Store
         Search::Expired => is_ready(copy.standing) && is_expired(copy, moment),
         Search::Come => has_come(copy.standing, moment),
     }
-}
-
-fn with_copies<'a>(
-    found: Vec<Found<'a>>,
-    search: Search,
-    moment: u64,
-    entity: &'a EntityStore,
-    part: Part,
-    sessions: &[Session],
-    copies: &'a [StoredCopy],
-) -> Result<Vec<Found<'a>>, AllocError>
-    ensures { IfOk result (λ v. spec.items_in v.items ≡ spec.items_in found.entry.items ++ map (spec.item (entity_in entity.now) part) (filter (spec.is_looked_for search moment sessions.now) copies.now)) }
-{
-    let mut found = found;
-    for copy in copies {
-        if is_looked_for(search, moment, sessions, copy) {
-            found.push(Found { entity, part, copy })?;
-        }
-    }
-    Ok(found)
 }
 
 fn with_each<'a>(
@@ -122,9 +102,8 @@ fn with_all<'a>(
 ) -> Result<Vec<Found<'a>>, AllocError>
     ensures { IfOk result (λ v. spec.items_in v.items ≡ spec.items_in found.entry.items ++ map (spec.item (entity_in entity.now) part) (filter (spec.is_looked_for search moment sessions.now) copies.now.copies)) }
 {
-    let (front, back) = copies.as_slices();
-    let found = with_copies(found, search, moment, entity, part, sessions, front)?;
-    with_copies(found, search, moment, entity, part, sessions, back)
+    let all = copies.all()?;
+    with_each(found, search, moment, entity, part, sessions, &all)
 }
 
 fn with_part<'a>(
@@ -160,32 +139,42 @@ fn with_entity<'a>(
 
 fn find_in_parts<'a>(
     alloc: Global,
-    entities: &'a [EntityStore],
+    entities: &[&'a EntityStore],
     search: Search,
     moment: u64,
 ) -> Result<Vec<Found<'a>>, AllocError>
-    ensures { IfOk result (λ v. spec.items_in v.items ≡ flat_map (spec.found_of search moment) (entities_in entities.now)) }
+    ensures { IfOk result (λ v. spec.items_in v.items ≡ flat_map (spec.found_of search moment) (map (λ e. entity_in e.now) entities.now)) }
 {
     let mut found = Vec::new(alloc);
     for entity in entities {
-        found = with_entity(found, search, moment, entity)?;
+        found = with_entity(found, search, moment, *entity)?;
     }
     Ok(found)
 }
 
 fn find_in_mains<'a>(
     alloc: Global,
-    entities: &'a [EntityStore],
+    entities: &[&'a EntityStore],
     search: Search,
     moment: u64,
 ) -> Result<Vec<Found<'a>>, AllocError>
-    ensures { IfOk result (λ v. spec.items_in v.items ≡ flat_map (λ e. spec.found_in search moment e MainPart) (entities_in entities.now)) }
+    ensures { IfOk result (λ v. spec.items_in v.items ≡ flat_map (λ e. spec.found_in search moment e MainPart) (map (λ e. entity_in e.now) entities.now)) }
 {
     let mut found = Vec::new(alloc);
     for entity in entities {
-        found = with_part(found, search, moment, entity, Part::Main)?;
+        found = with_part(found, search, moment, *entity, Part::Main)?;
     }
     Ok(found)
+}
+
+// What has expired in a part that isn't a main one doesn't come due, and is looked for in each entity.
+fn reach(search: Search, moment: u64) -> u64
+    ensures { result ≡ spec.reach search moment }
+{
+    match search {
+        Search::Ended | Search::Come => moment,
+        Search::Expired => u64::MAX,
+    }
 }
 
 /// What is found in all parts, by entity, then part, then number.
@@ -197,7 +186,8 @@ pub fn find_all<'a>(
 ) -> Result<Vec<Found<'a>>, AllocError>
     ensures { IfOk result (λ v. spec.items_in v.items ≡ flat_map (spec.found_of search moment) (space_in space.now).entities) }
 {
-    find_in_parts(alloc, space.entities(), search, moment)
+    let due = space.due_by(reach(search, moment))?;
+    find_in_parts(alloc, &due, search, moment)
 }
 
 /// What is found in main parts alone, by entity, then number.
@@ -209,5 +199,6 @@ pub fn find_main<'a>(
 ) -> Result<Vec<Found<'a>>, AllocError>
     ensures { IfOk result (λ v. spec.items_in v.items ≡ flat_map (λ e. spec.found_in search moment e MainPart) (space_in space.now).entities) }
 {
-    find_in_mains(alloc, space.entities(), search, moment)
+    let due = space.due_by(moment)?;
+    find_in_mains(alloc, &due, search, moment)
 }

@@ -13,7 +13,7 @@ ghost use Rattle.sb_machine.specs.declared.change.Change.TheVariants.{Drops as D
 ghost use Rattle.sb_fanout.specs.Deliveries.{IsDelivered};
 ghost use Rattle.sb_fanout.specs.Lasts.{given_in, is_listed};
 ghost use Rattle.sb_txn.specs.Txns.{transactions_of};
-ghost use Rattle.sb_entities.specs.Stores.{entity_in, entities_in, space_in};
+ghost use Rattle.sb_entities.specs.Stores.{entity_in, space_in};
 ghost use Rattle.sb_engine.specs.Growing.{IsGrown};
 ghost use Rattle.sb_engine.specs.Sweeps as spec;
 
@@ -190,12 +190,12 @@ fn close_of(changes: &mut Changes, moment: u64, entity: &EntityStore) -> Result<
 fn close_each(
     changes: &mut Changes,
     moment: u64,
-    entities: &[EntityStore],
+    entities: &[&EntityStore],
 ) -> Result<(), AllocError>
-    ensures { OnOk result (changes.new ≡ changes.old ++ flat_map (λ e. due.closes_in moment e MainPart ++ due.closes_in moment e DeadPart ++ due.closes_in moment e TransferPart) (entities_in entities.now)) }
+    ensures { OnOk result (changes.new ≡ changes.old ++ flat_map (λ e. due.closes_in moment e MainPart ++ due.closes_in moment e DeadPart ++ due.closes_in moment e TransferPart) (map (λ e. entity_in e.now) entities.now)) }
 {
     for entity in entities {
-        close_of(changes, moment, entity)?;
+        close_of(changes, moment, *entity)?;
     }
     Ok(())
 }
@@ -204,7 +204,8 @@ fn close_each(
 pub fn close_all(changes: &mut Changes, moment: u64, space: &SpaceStore) -> Result<(), AllocError>
     ensures { OnOk result (changes.new ≡ changes.old ++ due.due_sessions moment (space_in space.now)) }
 {
-    close_each(changes, moment, space.entities())
+    let due = space.due_by(moment)?;
+    close_each(changes, moment, &due)
 }
 
 // ---- transactions

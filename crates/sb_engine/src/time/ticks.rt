@@ -122,7 +122,8 @@ fn changes_of_tick(alloc: Global, space: &SpaceStore, moment: u64) -> Result<Cha
     plan_as_found(alloc, space, moment)
 }
 
-/// The changes as time comes up to `moment`, in ms since 1970: this looks at each copy.
+/// The changes as time comes up to `moment`, in ms since 1970: this looks at no entity of which
+/// nothing is due.
 pub fn plan_tick(alloc: Global, space: &SpaceStore, moment: u64) -> Result<Changes, Refusal>
     requires { IsSweepable (space_in space.now) }
     ensures changes { IfOk result (λ cs. cs ≡ due.tick_changes moment (space_in space.now)) }

@@ -62,7 +62,7 @@ impl Watched {
     }
 
     /// Whether something is due at `moment`, in ms since 1970. Before the moment that is kept this
-    /// looks at nothing, from then on at each copy.
+    /// looks at nothing, from then on at each open transaction; at the last moment at each copy.
     pub fn is_due(&self, moment: u64) -> bool
         ensures { result ≡ due.is_due moment (space_in self.now) }
     {

@@ -1,13 +1,13 @@
-use Rattle.std.proofs.Common.{◌≡◌, ◌++◌, ◌∷◌, [], ◌-◌, ◌∙◌, ap, arith}
+use Rattle.std.proofs.Common.{◌+◌, ◌-◌, ◌++◌, ◌∷◌, [], ◌≡◌, ◌∙◌, ap, arith}
 use Rattle.sb_machine.specs.Receiving.{browsed}
-use Rattle.sb_copies.proofs.Peeking.{begins, seen_one}
+use Rattle.sb_copies.specs.Shelf.{copies_in}
+use Rattle.sb_copies.proofs.Walking.{seen_all, seen_one}
 use Rattle.sb_copies.proofs.looks.peek.Goals as goal
 
-pub loop-place-init : goal.loop-place-init
-loop-place-init c = rw c.new-seen.ensures.items (begins c.args.rows.now.items c.place_from-first.result c.args.start c.args.count c.requires c.place_from-first.ensures)
+pub returns-in_default : goal.returns-in_default
+returns-in_default c = seen_all (copies_in c.args.slots.now c.args.order.now.rows) c.loop.from (c.args.count - c.loop.counter) c.loop.seen.items _ c.in_default.ensures c.loop.invariant
 
-pub loop-place-preserved : goal.loop-place-preserved
-loop-place-preserved c =
-    let x = c.index.result.now in
-    let gained : c.push.new.self.items ≡ c.loop-place.seen.items ++ browsed x ∷ [] = c.in_ok-push.ensures.items ∙ ap (λ s. c.loop-place.seen.items ++ s ∷ []) c.in_ok-browsed.ensures in
-    rw gained (seen_one c.args.rows.now.items c.loop-place.place c.loop-place.left (c.loop-place.left - 1) x c.loop-place.seen.items _ (omega arith) c.index.ensures (omega arith) c.loop-place.invariant)
+pub loop-preserved : goal.loop-preserved
+loop-preserved c =
+    let gained : c.push.new.self.items ≡ c.loop.seen.items ++ browsed c.in-Some.copy.now ∷ [] = c.in_ok-push.ensures.items ∙ ap (λ s. c.loop.seen.items ++ s ∷ []) c.in_ok-browsed.ensures in
+    rw gained (seen_one (copies_in c.args.slots.now c.args.order.now.rows) c.loop.from (c.from-from-in-loop.result + 1) (c.args.count - c.loop.counter) (c.args.count - (c.loop.counter + 1)) c.in-Some.copy.now c.loop.seen.items _ c.requires.order c.in-Some.ensures (ap (λ n. n + 1) c.from-from-in-loop.ensures) (omega arith) c.loop.invariant)

@@ -1,11 +1,11 @@
 use Rattle.std.proofs.Common.{refl}
-use Rattle.sb_machine.specs.Leaves.{has_number, is_deferred}
+use Rattle.sb_machine.specs.Leaves.{is_deferred}
 use Rattle.sb_machine.specs.declared.state.Standing.TheVariants.{Held}
-use Rattle.sb_machine.proofs.Places.{set_is, nothing_set}
+use Rattle.sb_copies.proofs.SlotChanges.{stood_led, unstood_led}
 use Rattle.sb_copies.proofs.rows.hold_row.Goals as goal
 
-pub returns-in-Some-clause-rows : goal.returns-in-Some-clause-rows
-returns-in-Some-clause-rows c = set_is (has_number c.args.number) (λ x. record x { standing = Held c.args.lock c.args.hold (is_deferred x.standing) }) c.in-Some.place c.args.rows.now.items _ c.hold_at.new.rows.items refl c.in-Some.ensures c.hold_at.ensures.rows
+pub returns-in-Some-clause-copies : goal.returns-in-Some-clause-copies
+returns-in-Some-clause-copies c = stood_led c.from.result c.args.number (λ x. record x { standing = Held c.args.lock c.args.hold (is_deferred x.standing) }) (λ x. refl) c.args.slots.now c.hold_at.new.slots c.in-Some.row c.args.order.now.rows c.from.ensures c.requires c.rises.ensures c.in-Some.ensures c.hold_at.ensures.stands c.hold_at.ensures.others
 
-pub returns-in_default-clause-rows : goal.returns-in_default-clause-rows
-returns-in_default-clause-rows c = nothing_set (has_number c.args.number) (λ x. record x { standing = Held c.args.lock c.args.hold (is_deferred x.standing) }) c.args.rows.now.items _ refl c.in_default.ensures
+pub returns-in_default-clause-copies : goal.returns-in_default-clause-copies
+returns-in_default-clause-copies c = unstood_led c.from.result c.args.number (λ x. record x { standing = Held c.args.lock c.args.hold (is_deferred x.standing) }) c.args.slots.now c.args.order.now.rows c.from.ensures c.requires c.in_default.ensures

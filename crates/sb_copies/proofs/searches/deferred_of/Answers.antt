@@ -2,14 +2,15 @@ use Rattle.std.proofs.Common.{◌&&◌, ◌==◌, sym}
 use Rattle.sb_machine.specs.Leaves.{is_deferred}
 use Rattle.sb_machine.specs.Messages.{has_text_of}
 use Rattle.sb_model.specs.declared.message.SystemName.TheVariants.{SessionId}
+use Rattle.sb_copies.specs.Shelf.{copies_in}
 use Rattle.sb_copies.proofs.Order.{both, one_fails, one_found, one_lacks}
 use Rattle.sb_copies.proofs.searches.deferred_of.Goals as goal
 
 pub returns-in_default : goal.returns-in_default
-returns-in_default c = sym (one_lacks c.args.number (λ x. is_deferred x.standing && (x.number == c.args.number) && has_text_of SessionId c.args.session.now x.message) c.args.rows.now.items (λ x e. (both (is_deferred x.standing) (x.number == c.args.number) (both (is_deferred x.standing && (x.number == c.args.number)) (has_text_of SessionId c.args.session.now x.message) e).0).1) (sym c.in_default.ensures))
+returns-in_default c = sym (one_lacks c.args.number (λ x. is_deferred x.standing && (x.number == c.args.number) && has_text_of SessionId c.args.session.now x.message) (copies_in c.args.slots.now c.args.order.now.rows) (λ x e. (both (is_deferred x.standing) (x.number == c.args.number) (both (is_deferred x.standing && (x.number == c.args.number)) (has_text_of SessionId c.args.session.now x.message) e).0).1) (sym c.in_default.ensures))
 
 pub returns-then-is_deferred_of : goal.returns-then-is_deferred_of
-returns-then-is_deferred_of c = sym (one_found c.args.number (λ x. is_deferred x.standing && (x.number == c.args.number) && has_text_of SessionId c.args.session.now x.message) c.in-Some.copy.now c.args.rows.now.items (λ x e. (both (is_deferred x.standing) (x.number == c.args.number) (both (is_deferred x.standing && (x.number == c.args.number)) (has_text_of SessionId c.args.session.now x.message) e).0).1) (sym c.in-Some.ensures) (sym c.if-is_deferred_of.ensures))
+returns-then-is_deferred_of c = sym (one_found c.args.number (λ x. is_deferred x.standing && (x.number == c.args.number) && has_text_of SessionId c.args.session.now x.message) c.in-Some.copy.now (copies_in c.args.slots.now c.args.order.now.rows) (λ x e. (both (is_deferred x.standing) (x.number == c.args.number) (both (is_deferred x.standing && (x.number == c.args.number)) (has_text_of SessionId c.args.session.now x.message) e).0).1) (sym c.in-Some.ensures) (sym c.if-is_deferred_of.ensures))
 
 pub returns-else-is_deferred_of : goal.returns-else-is_deferred_of
-returns-else-is_deferred_of c = sym (one_fails c.args.number (λ x. is_deferred x.standing && (x.number == c.args.number) && has_text_of SessionId c.args.session.now x.message) c.in-Some.copy.now c.args.rows.now.items (λ x e. (both (is_deferred x.standing) (x.number == c.args.number) (both (is_deferred x.standing && (x.number == c.args.number)) (has_text_of SessionId c.args.session.now x.message) e).0).1) c.requires (sym c.in-Some.ensures) (sym c.if-is_deferred_of.ensures))
+returns-else-is_deferred_of c = sym (one_fails c.args.number (λ x. is_deferred x.standing && (x.number == c.args.number) && has_text_of SessionId c.args.session.now x.message) c.in-Some.copy.now (copies_in c.args.slots.now c.args.order.now.rows) (λ x e. (both (is_deferred x.standing) (x.number == c.args.number) (both (is_deferred x.standing && (x.number == c.args.number)) (has_text_of SessionId c.args.session.now x.message) e).0).1) c.requires.order (sym c.in-Some.ensures) (sym c.if-is_deferred_of.ensures))

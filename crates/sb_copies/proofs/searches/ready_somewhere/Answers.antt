@@ -1,12 +1,22 @@
-use Rattle.std.proofs.Common.{◌&&◌}
+use Rattle.std.proofs.Common.{◌&&◌, ◌+◌, ap}
 use Rattle.sb_machine.specs.Leases as lease
 use Rattle.sb_machine.specs.Messages.{has_text_of}
 use Rattle.sb_model.specs.declared.message.SystemName.TheVariants.{SessionId}
-use Rattle.sb_machine.proofs.Places.{found_at, found_none}
+use Rattle.sb_copies.specs.Shelf.{copies_in}
+use Rattle.sb_copies.proofs.Walking.{fewer_left, looked_all, looked_first, looked_here, looked_on}
 use Rattle.sb_copies.proofs.searches.ready_somewhere.Goals as goal
 
-pub returns-in-Some : goal.returns-in-Some
-returns-in-Some c = found_at (λ x. lease.is_ready x.standing && has_text_of SessionId c.args.session.now x.message) c.args.rows.now.items c.in-Some.place c.index.result.now c.in-Some.ensures c.index.ensures
+pub loop-copy-init : goal.loop-copy-init
+loop-copy-init c = looked_first (λ x. lease.is_ready x.standing && has_text_of SessionId c.args.session.now x.message) (copies_in c.args.slots.now c.args.order.now.rows)
 
-pub returns-in-None : goal.returns-in-None
-returns-in-None c = found_none (λ x. lease.is_ready x.standing && has_text_of SessionId c.args.session.now x.message) c.args.rows.now.items c.in-None.ensures
+pub loop-copy-smaller : goal.loop-copy-smaller
+loop-copy-smaller c = fewer_left c.loop-copy.from (c.from-from.result + 1) c.in-Some.copy.now (copies_in c.args.slots.now c.args.order.now.rows) c.requires.order c.in-Some.ensures (ap (λ n. n + 1) c.from-from.ensures)
+
+pub loop-copy-preserved : goal.loop-copy-preserved
+loop-copy-preserved c = looked_on (λ x. lease.is_ready x.standing && has_text_of SessionId c.args.session.now x.message) c.loop-copy.from (c.from-from.result + 1) c.in-Some.copy.now (copies_in c.args.slots.now c.args.order.now.rows) c.requires.order c.in-Some.ensures (ap (λ n. n + 1) c.from-from.ensures) c.loop-copy.invariant c.if-is_ready_of.ensures
+
+pub returns-then-is_ready_of : goal.returns-then-is_ready_of
+returns-then-is_ready_of c = looked_here (λ x. lease.is_ready x.standing && has_text_of SessionId c.args.session.now x.message) c.loop-copy.from c.in-Some.copy.now (copies_in c.args.slots.now c.args.order.now.rows) c.requires.order c.in-Some.ensures c.loop-copy.invariant c.if-is_ready_of.ensures
+
+pub returns : goal.returns
+returns c = looked_all (λ x. lease.is_ready x.standing && has_text_of SessionId c.args.session.now x.message) c.loop-copy.from (copies_in c.args.slots.now c.args.order.now.rows) c.in_default.ensures c.loop-copy.invariant

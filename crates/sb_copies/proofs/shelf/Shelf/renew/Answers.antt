@@ -1,23 +1,42 @@
-use Rattle.std.proofs.Common.{◌∙◌, ap, refl, sym, subst, arith}
-use Rattle.sb_index.specs.Rows.{changed}
-use Rattle.sb_machine.specs.Leaves.{prolonged_standing}
+use Rattle.std.proofs.Common.{◌≡◌, ◌∷◌, [], ◌∙◌, ◌==◌, false, ℕ, Option, List, ap, refl, sym, subst, arith}
+use Rattle.std.specs.Option.{option_map_or}
+use Rattle.sb_machine.specs.Keyed.{changed}
+use Rattle.sb_machine.specs.Leases.{is_ready}
+use Rattle.sb_machine.specs.Leaves.{has_number, prolonged_standing}
 use Rattle.sb_machine.specs.declared.state.StoredCopy.{StoredCopy}
-use Rattle.sb_copies.specs.Shelf.{AreInOrder, Shelved}
+use Rattle.sb_copies.specs.ByLock.{held_lock}
+use Rattle.sb_copies.specs.BySession.{session_hash_of}
+use Rattle.sb_copies.specs.Heads.{undue_rows}
+use Rattle.sb_copies.specs.Shelf.{AreInOrder, Shelved, copies_in}
 use Rattle.sb_copies.proofs.Below.{below_changed}
-use Rattle.sb_copies.proofs.Mirror.{renewed, row_told}
-use Rattle.sb_copies.proofs.SessionChanges.{renewed_under, session_stays}
+use Rattle.sb_copies.proofs.GroupChanges.{group_stays}
+use Rattle.sb_copies.proofs.Mirror.{renewed}
+use Rattle.sb_copies.proofs.Renewing.{renewed_under, still_locked}
+use Rattle.sb_copies.proofs.SlotChanges.{told_led, told_long, told_mirrors}
 use Rattle.sb_copies.proofs.shelf.Shelf.renew.Goals as goal
+
+stands : (c : goal.After-change) → copies_in c.prolong_row.new.slots c.change.new.self.rows ≡ changed (has_number c.args.number) (λ x. record x { standing = prolonged_standing c.args.until x.standing } ∷ []) (copies_in c.self.inside.slots c.self.inside.order.rows)
+stands c = told_led c.from.result c.is_ready_at-marked.result c.due_renewed-due.result c.prolong_row.new.slots c.self.inside.order.rows c.change.new.self.rows _ c.change.ensures.rows c.prolong_row.ensures.copies
+
+pub returns-clause-copies : goal.returns-clause-copies
+returns-clause-copies c = stands c ∙ ap (λ (v : Shelved). changed (has_number c.args.number) (λ x. record x { standing = prolonged_standing c.args.until x.standing } ∷ []) v.copies) c.self.view_is
 
 pub invariant_of-self : goal.invariant_of-self
 invariant_of-self c =
     let s = c.self.inside in
-    let ordered : AreInOrder s.copies.items = subst (λ (v : Shelved). AreInOrder v.copies) (sym c.self.view_is) c.rises.ensures in
+    let before : List StoredCopy = copies_in s.slots s.order.rows in
+    let after : List StoredCopy = copies_in c.prolong_row.new.slots c.change.new.self.rows in
+    let ordered : AreInOrder before = subst (λ (v : Shelved). AreInOrder v.copies) (sym c.self.view_is) c.rises.ensures in
     let g : StoredCopy → StoredCopy = λ x. record x { standing = prolonged_standing c.args.until x.standing } in (
       omega (arith, c.self.invariant.0, c.change.ensures.spare, c.prolong_row.ensures.len, c.prolong_row.ensures.capacity),
-      row_told s.expires c.args.number c.is_ready_at-marked.result c.due_renewed-due.result g s.order.rows c.change.new.self.rows s.copies.items c.prolong_row.new.rows.items
-          (renewed s.expires c.args.number c.is_ready_at-marked.result c.due_renewed-due.result c.args.until s.copies.items c.is_ready_at-marked.ensures c.due_renewed-due.ensures)
-          c.self.invariant.1 ordered (c.change.ensures.rows ∙ ap (λ n. changed n c.is_ready_at-marked.result c.due_renewed-due.result s.order.rows) c.from.ensures) c.prolong_row.ensures.rows,
-      below_changed c.args.number g 18446744073709551616 (λ x. refl) s.copies.items c.prolong_row.new.rows.items c.self.invariant.2 c.prolong_row.ensures.rows,
-      omega (arith, c.self.invariant.3, c.change.ensures.spare),
-      session_stays c.args.number g (λ k x. refl) (renewed_under c.args.until) s.by_session.rows s.copies.items c.prolong_row.new.rows.items c.self.invariant.4 c.prolong_row.ensures.rows,
+      c.prolong_row.ensures.len ∙ told_long c.from.result c.is_ready_at-marked.result c.due_renewed-due.result _ s.order.rows c.change.new.self.rows c.change.ensures.rows c.self.invariant.1,
+      told_mirrors s.expires c.from.result c.args.number c.is_ready_at-marked.result c.due_renewed-due.result g s.slots c.prolong_row.new.slots s.order.rows c.change.new.self.rows c.from.ensures
+          (renewed s.expires c.args.number c.is_ready_at-marked.result c.due_renewed-due.result c.args.until before c.is_ready_at-marked.ensures c.due_renewed-due.ensures)
+          c.self.invariant.2 ordered c.change.ensures.rows (stands c),
+      below_changed c.args.number g 18446744073709551616 (λ x. refl) before after c.self.invariant.3 (stands c),
+      omega (arith, c.self.invariant.4, c.change.ensures.spare),
+      group_stays session_hash_of (λ (x : StoredCopy). is_ready x.standing) c.args.number g (λ k x. refl) (renewed_under c.args.until) (undue_rows s.by_session.rows) before after c.self.invariant.5 (stands c),
+      omega (arith, c.self.invariant.6, c.change.ensures.spare),
+      group_stays held_lock (λ x. false) c.args.number g (λ k x. ap (λ (o : Option ℕ). option_map_or (λ own. own == k) o false) (still_locked c.args.until x.standing)) (λ h x. refl) s.by_lock.rows before after c.self.invariant.7 (stands c),
+      c.self.invariant.8,
     )

@@ -1,4 +1,5 @@
-use Rattle.std.proofs.Common.{false, take}
+use Rattle.std.proofs.Common.{[], false, map, take, ◌∷◌}
+use Rattle.std.specs.List.{flat_map}
 use Rattle.sb_machine.specs.Delivery.{released}
 use Rattle.sb_machine.specs.Leases.{is_under_session}
 use Rattle.sb_machine.specs.Namespace.{listed}
@@ -9,4 +10,5 @@ use Rattle.sb_engine.proofs.Growing.{each}
 use Rattle.sb_engine.proofs.acts.session_close.release_all_under.Given as goal
 
 abbrev pub invariant-loop-copy : goal.invariant-loop-copy
-invariant-loop-copy l = IsGrown (space_in l.space) (each (λ c. is_under_session l.lock c.standing) (λ c. released (listed (space_in l.space)) l.moment (entity_in l.entity) l.part c false false) (take l.copy-index l.copies)) (given_in l.initial.lasts) (given_in l.lasts) l.initial.changes l.changes
+invariant-loop-copy l =
+    IsGrown (space_in l.space) (flat_map (λ x. each (λ c. is_under_session l.lock c.standing) (λ c. released (listed (space_in l.space)) l.moment (entity_in l.entity) l.part c false false) (x ∷ [])) (map (λ b. b.now) (take l.copy-index l.copies))) (given_in l.initial.lasts) (given_in l.lasts) l.initial.changes l.changes

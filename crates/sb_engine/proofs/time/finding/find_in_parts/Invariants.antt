@@ -1,10 +1,10 @@
-use Rattle.std.proofs.Common.{◌≡◌, ◌++◌, drop}
+use Rattle.std.proofs.Common.{◌≡◌, ◌++◌, drop, map}
 use Rattle.std.specs.List.{flat_map}
-use Rattle.sb_entities.specs.Stores.{entities_in}
+use Rattle.sb_entities.specs.Stores.{entity_in}
 use Rattle.sb_engine.specs.Sweeps.{found_of, items_in}
 use Rattle.sb_engine.proofs.time.finding.find_in_parts.Given as goal
 
 -- those found so far, and those still to be found, are all
 abbrev pub invariant-loop-entity : goal.invariant-loop-entity
 invariant-loop-entity l =
-    items_in l.found.items ++ flat_map (found_of l.search l.moment) (entities_in (drop l.entity-index l.entities)) ≡ flat_map (found_of l.search l.moment) (entities_in l.entities)
+    items_in l.found.items ++ flat_map (found_of l.search l.moment) (map (λ e. entity_in e.now) (drop l.entity-index l.entities)) ≡ flat_map (found_of l.search l.moment) (map (λ e. entity_in e.now) l.entities)

@@ -6,5 +6,9 @@ use Rattle.sb_entities.proofs.part.PartStore.enter.Goals as goal
 pub invariant_of-self : goal.invariant_of-self
 invariant_of-self c =
     let s = c.args.self.now in
-    let number : c.stored.result.number ≡ s.last + 1 = ap (λ (x : StoredCopy). x.number) c.stored.ensures in
-    record { numbered = below_put (s.last + 1 + 1) c.stored.result s.copies.copies c.push.new.self.copies (below_next (s.last + 1) s.copies.copies s.numbered) (omega (arith, number)) c.push.ensures.copies }
+    let number : c.stored-copy.result.number ≡ s.last + 1 = ap (λ (x : StoredCopy). x.number) c.stored-copy.ensures in
+    record {
+      numbered = below_put (s.last + 1 + 1) c.stored-copy.result s.copies.copies c.enter.new.copies.copies (below_next (s.last + 1) s.copies.copies s.numbered) (omega (arith, number)) c.enter.ensures.copies;
+      bounded = c.requires.fits;
+      heads = c.enter.ensures.heads;
+    }
