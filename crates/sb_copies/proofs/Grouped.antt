@@ -32,10 +32,10 @@ not_lt a b p = grind (arith, nat_tests)
 not_lower : (a b : ℕ) → nat_lt a b ≡ false → b ≤ a
 not_lower a b e = grind (arith, nat_tests)
 
-differ : (a b : ℕ) → (a == b) ≡ false → (a < b) ⊎ (b < a)
+pub differ : (a b : ℕ) → (a == b) ≡ false → (a < b) ⊎ (b < a)
 differ a b e = grind (arith, nat_tests)
 
-turned : (m n : ℕ) (b : Bool) → (m == n) ≡ b → (n == m) ≡ b
+pub turned : (m n : ℕ) (b : Bool) → (m == n) ≡ b → (n == m) ≡ b
 turned m n true e = grind (arith, nat_tests)
 turned m n false e = grind (arith, nat_tests)
 

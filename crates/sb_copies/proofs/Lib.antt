@@ -1,10 +1,13 @@
 pub mod Below
+mod Ending
 mod Finding
 mod Finds
 mod GroupChanges
 mod GroupMoves
 mod Grouped
+mod InOrder
 mod Leading
+mod Listing
 mod LockFinds
 pub mod Mirror
 mod OneRow
@@ -12,6 +15,7 @@ mod Order
 mod Renewing
 mod SessionFinds
 mod SlotChanges
+mod Stretches
 mod Told
 mod Undue
 mod Walking

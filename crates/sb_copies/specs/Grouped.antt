@@ -44,6 +44,10 @@ own_row marked h c = group_row h c.number (marked c)
 abbrev pub HoldsGroups : (StoredCopy → Option ℕ) → (StoredCopy → Bool) → List Row → List StoredCopy → Type 0
 HoldsGroups group marked rows copies = (h : ℕ) → filter (is_under h) rows ≡ map (own_row marked h) (filter (is_in_group group h) copies)
 
+-- the numbers that the rows under a group have as values
+abbrev pub numbers_under : ℕ → List Row → List ℕ
+numbers_under h rows = map (λ x. x.value) (filter (is_under h) rows)
+
 -- how many rows a message has that is in this group or in none
 abbrev pub rows_taken : Option ℕ → ℕ
 rows_taken (Some h) = 1

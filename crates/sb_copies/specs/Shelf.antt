@@ -1,10 +1,11 @@
 -- The messages of one queue or subqueue (the copies on a shelf), as contracts see them.
-use Rattle.std.specs.Prelude.{◌≡◌, ℕ, nat_lt, Bool, true, false, List, map, option_to_list}
+use Rattle.std.specs.Prelude.{◌≡◌, ℕ, nat_lt, Bool, true, false, List, map, find, option_to_list}
 use Rattle.std.specs.List.{flat_map, list_all}
 use Rattle.slab.specs.Slab.{Slab, get}
 use Rattle.sb_index.specs.Rows.{AreRising}
 use Rattle.sb_index.specs.declared.row.Row.{Row}
 use Rattle.sb_machine.specs.Leases.{is_ready}
+use Rattle.sb_machine.specs.Leaves.{has_number}
 use Rattle.sb_machine.specs.declared.state.StoredCopy.{StoredCopy}
 use Rattle.sb_copies.specs.Dues.{due_of}
 
@@ -46,6 +47,16 @@ rows_of copies = rows_in false copies
 -- each number is below those of all behind it
 abbrev pub AreInOrder : List StoredCopy → Type 0
 AreInOrder copies = AreRising (rows_of copies)
+
+-- ---- by their numbers
+
+-- the message of a number, if there is one
+abbrev pub numbered_at : List StoredCopy → ℕ → List StoredCopy
+numbered_at copies n = option_to_list (find (has_number n) copies)
+
+-- the messages of these numbers, in their order
+abbrev pub numbered_in : List StoredCopy → List ℕ → List StoredCopy
+numbered_in copies ns = flat_map (numbered_at copies) ns
 
 -- ---- in a slab, where the rows of an index by number have the keys of its slots as values
 

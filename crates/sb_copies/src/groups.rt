@@ -1,9 +1,10 @@
 // Rows of copies in an index by group, then by number.
-ghost use Rattle.std.specs.Prelude.{◌≡◌, ℕ, ◌+◌, ◌-◌, ◌≤◌, IfSome};
-ghost use Rattle.sb_index.specs.Rows.{Lacks};
+ghost use Rattle.std.specs.Prelude.{◌≡◌, ℕ, ◌+◌, ◌-◌, ◌*◌, ◌≤◌, ◌&&◌, ◌++◌, find, nat_le, IfOk, IfSome};
+ghost use Rattle.sb_index.specs.Rows.{is_from, Lacks};
 ghost use Rattle.sb_copies.specs.Grouped as spec;
 
 use sb_index::{Index, Row};
+use std::alloc::AllocError;
 
 /// How many keys a group has.
 pub const SPAN: u128 = 1 << 64;
@@ -70,4 +71,46 @@ pub fn mark(index: &mut Index, group: Option<u64>, number: u64, marked: bool)
     if let Some(group) = group {
         index.change(key_of(group, number), marked, u64::MAX);
     }
+}
+
+// ---- the numbers of a group
+
+/// And the numbers of the rows of a group, in rising keys: no row of another is looked at but one.
+pub fn with_numbers(found: Vec<u64>, index: &Index, group: u64) -> Result<Vec<u64>, AllocError>
+    ensures { IfOk result (λ v. v.items ≡ found.items ++ spec.numbers_under group index.now.rows) }
+{
+    index.rises();
+    let mut found = found;
+    let mut from = key_of(group, 0);
+    'rows: while let Some(row) = first_in(index, group, from) {
+        found.push(row.value)?;
+        let Some(next) = row.key.checked_add(1) else {
+            return Ok(found);
+        };
+        from = next;
+    }
+    Ok(found)
+}
+
+// The first row of a group whose key is at least `from`.
+fn first_in(index: &Index, group: u64, from: u128) -> Option<Row>
+    requires { group * spec.span ≤ from }
+    ensures { result ≡ find (λ x. is_from from x && spec.is_under group x) index.now.rows }
+{
+    index.rises();
+    let Some(row) = index.first_from(from) else {
+        return None;
+    };
+    if is_within(row, group) {
+        Some(row)
+    } else {
+        None
+    }
+}
+
+/// Whether a row is none behind those of this group.
+pub fn is_within(row: Row, group: u64) -> bool
+    ensures { result ≡ nat_le row.key (group * spec.span + (spec.span - 1)) }
+{
+    row.key <= u128::from(group) * SPAN + (SPAN - 1)
 }

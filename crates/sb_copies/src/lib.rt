@@ -6,7 +6,8 @@
 //! that is added has one above all others. The copies stand in the slots of a slab, and an index by
 //! number leads to each: so it is found, and taken out, without a look at those before it, and no
 //! other is moved. What adds a copy or has one held takes a slot that was promised before, and so
-//! can't fail. The copies that are held under a lock are found by that, without a look at any other.
+//! can't fail. The copies that are held under a lock are found by that, without a look at any other;
+//! so are those that are held under a session's lock, and those whose lock has ended.
 //!
 //! ```text
 //! let mut shelf = Shelf::new(alloc, true);               // copies expire there
@@ -27,9 +28,11 @@ mod heads;
 mod locks;
 mod looks;
 mod names;
+mod numbers;
 mod places;
 mod rows;
 mod searches;
+mod session_locks;
 mod sessions;
 mod shelf;
 mod standings;

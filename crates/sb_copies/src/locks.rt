@@ -1,16 +1,16 @@
 // Rows of copies in an index by the lock under which they are held.
-ghost use Rattle.std.specs.Prelude.{◌≡◌, ◌≤◌, ℕ, false, ◌+◌, ◌-◌, ◌*◌, ◌^◌, ◌&&◌, find, nat_le, IfOk};
+ghost use Rattle.std.specs.Prelude.{◌≡◌, ◌≤◌, ℕ, false, ◌+◌, ◌^◌, ◌&&◌, find, nat_le, IfOk};
 ghost use Rattle.std.specs.Option.{option_map};
 ghost use Rattle.sb_index.specs.Rows.{Lacks};
 ghost use Rattle.sb_machine.specs.Leases as lease;
 ghost use Rattle.sb_copies.specs.ByLock as spec;
-ghost use Rattle.sb_copies.specs.Grouped.{group_key, is_in_group, span, with_grouped};
+ghost use Rattle.sb_copies.specs.Grouped.{group_key, is_in_group, with_grouped};
 ghost use Rattle.sb_copies.specs.Shelf.{copies_in, AreBelow, AreInOrder, Leads};
 
-use crate::groups::{self, SPAN, key_of};
+use crate::groups::{self, is_within, key_of};
 use crate::names;
 use crate::places::numbered;
-use sb_index::{Index, Row};
+use sb_index::Index;
 use sb_machine::{Session, Standing, StoredCopy, Which};
 use slab::Slab;
 use std::alloc::AllocError;
@@ -104,16 +104,9 @@ fn held_from<'a>(
     let Some(row) = by_lock.first_from(key_of(lock, from)) else {
         return None;
     };
-    if is_of(row, lock) {
+    if is_within(row, lock) {
         numbered(slots, order, row.value)
     } else {
         None
     }
-}
-
-// Whether a row is none behind those of this lock.
-fn is_of(row: Row, lock: u64) -> bool
-    ensures { result ≡ nat_le row.key (lock * span + (span - 1)) }
-{
-    row.key <= u128::from(lock) * SPAN + (SPAN - 1)
 }

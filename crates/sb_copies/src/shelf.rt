@@ -1,9 +1,9 @@
 // The copies of one part, in the order in which they were put there.
-ghost use Rattle.std.specs.Prelude.{◌≡◌, ℕ, ◌==◌, ◌&&◌, ◌||◌, ◌≤◌, ◌<◌, ◌-◌, nat_le, max, [], ◌∷◌, ◌++◌, length, find, map, if◌then◌else◌, OnOk, OnErr, IfOk, None, Some};
+ghost use Rattle.std.specs.Prelude.{◌≡◌, ℕ, ◌==◌, ◌&&◌, ◌||◌, ◌≤◌, ◌<◌, ◌-◌, nat_le, max, [], ◌∷◌, ◌++◌, length, filter, find, map, if◌then◌else◌, OnOk, OnErr, IfOk, None, Some};
 ghost use Rattle.std.specs.Option.{option_map};
 ghost use Rattle.sb_machine.specs.Claims.{is_of};
 ghost use Rattle.sb_machine.specs.Keyed.{changed};
-ghost use Rattle.sb_machine.specs.Leases.{is_ready, is_scheduled, is_living, is_named};
+ghost use Rattle.sb_machine.specs.Leases.{has_ended, is_ready, is_scheduled, is_living, is_named, is_under_session};
 ghost use Rattle.sb_machine.specs.Leaves.{has_number, is_deferred, prolonged_standing};
 ghost use Rattle.sb_machine.specs.Messages.{has_text_of};
 ghost use Rattle.sb_machine.specs.Receiving.{is_ready_for, peeked};
@@ -13,10 +13,11 @@ ghost use Rattle.sb_copies.specs.ByLock.{held_lock, locks_taken};
 ghost use Rattle.sb_copies.specs.Dues.{due_by, least_of};
 ghost use Rattle.sb_copies.specs.Heads.{except, is_among, is_of_session, is_usual, IsLeast};
 ghost use Rattle.sb_copies.specs.Shelf.{row_in, AreBelow, AreInOrder};
+ghost use Rattle.sb_copies.specs.UnderSession.{under_lock};
 
 use crate::places::{first_from, numbered};
 use crate::standings::is_ready;
-use crate::{dues, groups, heads, locks, looks, rows, searches, sessions};
+use crate::{dues, groups, heads, locks, looks, rows, searches, session_locks, sessions};
 use sb_index::{Index, Row};
 use sb_machine::{CopyShown, Hold, Session, Standing, StoredCopy, Token, Which};
 use sb_model::Rows;
@@ -37,7 +38,9 @@ pub struct Shelf {
     by_session: Index,
     // those that are held, by lock, then number
     by_lock: Index,
-    // So many of its nodes are promised for holding; one more stands by for each slot.
+    // those that are held under a session's lock, by that, then number
+    under: Index,
+    // So many nodes of these two are promised for holding; one more stands by for each slot.
     locks: usize,
 }
 
@@ -48,13 +51,14 @@ impl Model for Shelf {
     ghost use Rattle.sb_copies.specs.BySession.{HoldsSessions};
     ghost use Rattle.sb_copies.specs.Heads.{heads_in, undue_rows, AreOwn};
     ghost use Rattle.sb_copies.specs.Shelf.{copies_in, AreBelow, Mirrors, Shelved};
+    ghost use Rattle.sb_copies.specs.UnderSession.{HoldsUnder};
 
     ghost Value = { Shelved };
 
     ghost view = { λ s. record { copies = copies_in s.slots s.order.rows; spare = s.order.spare; locks = s.locks; expires = s.expires; heads = heads_in s.by_session.rows } };
 
     // No slot is without a row: so none is lost.
-    ghost invariant = { λ s. HasRoomFor s.slots s.order.spare × (slab_len s.slots ≡ length s.order.rows) × Mirrors s.expires s.slots s.order.rows × AreBelow (2 ^ 64) (copies_in s.slots s.order.rows) × (s.order.spare ≤ s.by_session.spare) × HoldsSessions (undue_rows s.by_session.rows) (copies_in s.slots s.order.rows) × (s.locks + s.order.spare ≤ s.by_lock.spare) × HoldsLocks s.by_lock.rows (copies_in s.slots s.order.rows) × AreOwn s.by_session.rows };
+    ghost invariant = { λ s. HasRoomFor s.slots s.order.spare × (slab_len s.slots ≡ length s.order.rows) × Mirrors s.expires s.slots s.order.rows × AreBelow (2 ^ 64) (copies_in s.slots s.order.rows) × (s.order.spare ≤ s.by_session.spare) × HoldsSessions (undue_rows s.by_session.rows) (copies_in s.slots s.order.rows) × (s.locks + s.order.spare ≤ s.by_lock.spare) × HoldsLocks s.by_lock.rows (copies_in s.slots s.order.rows) × AreOwn s.by_session.rows × (s.locks + s.order.spare ≤ s.under.spare) × HoldsUnder s.under.rows (copies_in s.slots s.order.rows) };
 }
 
 impl Shelf {
@@ -73,6 +77,7 @@ impl Shelf {
             order: Index::new(alloc),
             by_session: Index::new(alloc),
             by_lock: Index::new(alloc),
+            under: Index::new(alloc),
             locks: 0,
         }
     }
@@ -99,6 +104,7 @@ impl Shelf {
         self.by_session.reserve(count)?;
         let nodes = locks::both(count, self.locks)?;
         self.by_lock.reserve(nodes)?;
+        self.under.reserve(nodes)?;
         self.order.reserve(count)
     }
 
@@ -120,6 +126,7 @@ impl Shelf {
     {
         let nodes = locks::both(count, self.order.spare())?;
         self.by_lock.reserve(nodes)?;
+        self.under.reserve(nodes)?;
         self.locks = self.locks.max(count);
         Ok(())
     }
@@ -137,8 +144,8 @@ impl Shelf {
         self.order.forget();
     }
 
-    /// Gives one slot promised for holding back; where none is promised, nothing. Its node stays, and
-    /// serves the next promise.
+    /// Gives one slot promised for holding back; where none is promised, nothing. Its nodes stay, and
+    /// serve the next promise.
     pub fn release_lock(&mut self)
         ensures copies { self.new.copies ≡ self.old.copies }
         ensures spare { self.new.spare ≡ self.old.spare }
@@ -286,6 +293,34 @@ impl Shelf {
         }
     }
 
+    /// Those that are held as long as the session's lock of this number, in order: no other is looked
+    /// at.
+    #[tactic(auto, using(crate::proofs::Finding::leads))]
+    pub fn under(&self, lock: u64) -> Result<Vec<&StoredCopy>, AllocError>
+        ensures { IfOk result (λ found. map (λ c. c.now) found.items ≡ filter (λ c. is_under_session lock c.standing) self.now.copies) }
+    {
+        self.rises();
+        session_locks::held_under(self.alloc, &self.slots, &self.order, &self.under, lock)
+    }
+
+    /// Those under a lock that has ended by `moment`, in ms since 1970, in order: what isn't due and is
+    /// under no session's lock that has ended isn't looked at. `sessions` are those of the part.
+    #[tactic(auto, using(crate::proofs::Finding::leads))]
+    pub fn ended(&self, moment: u64, sessions: &[Session]) -> Result<Vec<&StoredCopy>, AllocError>
+        ensures { IfOk result (λ found. map (λ c. c.now) found.items ≡ filter (λ c. has_ended moment sessions.now c.standing) self.now.copies) }
+    {
+        self.rises();
+        session_locks::ended(
+            self.alloc,
+            self.expires,
+            &self.slots,
+            &self.order,
+            &self.under,
+            moment,
+            sessions,
+        )
+    }
+
     /// Up to `count` copies from the number `start` on, as a look shows them.
     #[tactic(auto, using(crate::proofs::Finding::leads))]
     pub fn peek(&self, start: u64, count: u64) -> Result<Rows<CopyShown>, AllocError>
@@ -310,8 +345,10 @@ impl Shelf {
     {
         self.by_session.rises();
         self.by_lock.rises();
+        self.under.rises();
         sessions::put(&mut self.by_session, &copy);
         locks::put_held(&mut self.by_lock, &copy);
+        session_locks::put_under(&mut self.under, &copy);
         let key = self.slots.vacant_key();
         self.order.insert(row_of(self.expires, &copy, key));
         self.slots.insert_reserved(copy);
@@ -329,9 +366,11 @@ impl Shelf {
     {
         self.rises();
         let held = self.lock_at(number);
+        let under = self.session_lock_at(number);
         let hash = sessions::hash_at(&self.slots, &self.order, number);
         sessions::take(&mut self.by_session, hash, number);
         groups::regroup(&mut self.by_lock, held, number, None);
+        groups::regroup(&mut self.under, under, number, None);
         rows::take_row(&mut self.slots, &mut self.order, number)
     }
 
@@ -348,7 +387,9 @@ impl Shelf {
     {
         self.rises();
         self.by_lock.rises();
+        self.under.rises();
         let held = self.lock_at(number);
+        let under = self.session_lock_at(number);
         let hash = sessions::hash_at(&self.slots, &self.order, number);
         let marked = is_ready(standing);
         let due = dues::due_at(self.expires, &self.slots, &self.order, number, standing);
@@ -356,6 +397,8 @@ impl Shelf {
         rows::stand_row(&mut self.slots, &self.order, number, count, standing);
         self.order.change(u128::from(number), marked, due);
         groups::regroup(&mut self.by_lock, held, number, locks::lock_of(standing));
+        let under_now = session_locks::session_lock_of(standing);
+        groups::regroup(&mut self.under, under, number, under_now);
         self.locks -= locks::locks_taken(standing);
     }
 
@@ -371,13 +414,21 @@ impl Shelf {
     {
         self.rises();
         self.by_lock.rises();
+        self.under.rises();
         let held = self.lock_at(number);
+        let under = self.session_lock_at(number);
         let hash = sessions::hash_at(&self.slots, &self.order, number);
         let due = dues::moment_of(dues::hold_deadline(hold));
         sessions::mark(&mut self.by_session, hash, number, false);
         rows::hold_row(&mut self.slots, &self.order, number, lock, hold);
         self.order.change(u128::from(number), false, due);
         groups::regroup(&mut self.by_lock, held, number, Some(lock));
+        groups::regroup(
+            &mut self.under,
+            under,
+            number,
+            session_locks::hold_session(hold),
+        );
         self.locks -= 1;
     }
 
@@ -391,10 +442,13 @@ impl Shelf {
         ensures heads { self.new.heads ≡ self.old.heads }
     {
         self.rises();
+        self.under.rises();
+        let under = self.session_lock_at(number);
         let marked = dues::is_ready_at(&self.slots, &self.order, number);
         let due = dues::due_renewed(self.expires, &self.slots, &self.order, number, until);
         rows::prolong_row(&mut self.slots, &self.order, number, until);
         self.order.change(u128::from(number), marked, due);
+        groups::regroup(&mut self.under, under, number, None);
     }
 
     // ---- heads of sessions
@@ -436,6 +490,16 @@ impl Shelf {
     {
         match self.get(number) {
             Some(copy) => Some(locks::lock_of(copy.standing)),
+            None => None,
+        }
+    }
+
+    // The same of a session's lock.
+    fn session_lock_at(&self, number: u64) -> Option<Option<u64>>
+        ensures { result ≡ option_map under_lock (find (has_number number) self.now.copies) }
+    {
+        match self.get(number) {
+            Some(copy) => Some(session_locks::session_lock_of(copy.standing)),
             None => None,
         }
     }

@@ -9,12 +9,12 @@ returns-in_default c =
     let rows = c.args.by_lock.now.rows in
     held_nowhere c.args.lock c.args.from rows (copies_in c.args.slots.now c.args.order.now.rows) c.requires.holds (c.in_default.ensures ∙ ap (λ k. find (is_from k) rows) c.key_of.ensures)
 
-pub returns-then-is_of : goal.returns-then-is_of
-returns-then-is_of c =
+pub returns-then-is_within : goal.returns-then-is_within
+returns-then-is_within c =
     let rows = c.args.by_lock.now.rows in
-    c.numbered.ensures ∙ held_there c.args.lock c.args.from c.in-Some.row rows (copies_in c.args.slots.now c.args.order.now.rows) c.requires.holds c.requires.order (c.in-Some.ensures ∙ ap (λ k. find (is_from k) rows) c.key_of.ensures) (sym c.if-is_of.ensures)
+    c.numbered.ensures ∙ held_there c.args.lock c.args.from c.in-Some.row rows (copies_in c.args.slots.now c.args.order.now.rows) c.requires.holds c.requires.order (c.in-Some.ensures ∙ ap (λ k. find (is_from k) rows) c.key_of.ensures) (sym c.if-is_within.ensures)
 
-pub returns-else-is_of : goal.returns-else-is_of
-returns-else-is_of c =
+pub returns-else-is_within : goal.returns-else-is_within
+returns-else-is_within c =
     let rows = c.args.by_lock.now.rows in
-    held_past c.args.lock c.args.from c.in-Some.row rows (copies_in c.args.slots.now c.args.order.now.rows) c.requires.holds c.rises.ensures (c.in-Some.ensures ∙ ap (λ k. find (is_from k) rows) c.key_of.ensures) (sym c.if-is_of.ensures)
+    held_past c.args.lock c.args.from c.in-Some.row rows (copies_in c.args.slots.now c.args.order.now.rows) c.requires.holds c.rises.ensures (c.in-Some.ensures ∙ ap (λ k. find (is_from k) rows) c.key_of.ensures) (sym c.if-is_within.ensures)

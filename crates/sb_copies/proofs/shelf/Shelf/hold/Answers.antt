@@ -9,12 +9,15 @@ use Rattle.sb_machine.specs.declared.state.StoredCopy.{StoredCopy}
 use Rattle.sb_copies.specs.ByLock.{held_lock}
 use Rattle.sb_copies.specs.BySession.{session_hash_of}
 use Rattle.sb_copies.specs.Dues.{hold_deadline, moment_of, never}
+use Rattle.sb_copies.specs.Grouped.{rows_taken}
 use Rattle.sb_copies.specs.Heads.{except, undue_rows}
 use Rattle.sb_copies.specs.Shelf.{AreInOrder, Shelved, copies_in}
+use Rattle.sb_copies.specs.UnderSession.{under_lock}
 use Rattle.sb_copies.proofs.Below.{below_changed}
 use Rattle.sb_copies.proofs.GroupChanges.{told_so}
 use Rattle.sb_copies.proofs.GroupMoves.{moved_lacks, moved_so}
 use Rattle.sb_copies.proofs.OneRow.{heads_marked}
+use Rattle.sb_copies.proofs.Renewing.{at_most_one}
 use Rattle.sb_copies.proofs.SlotChanges.{told_led, told_long, told_mirrors}
 use Rattle.sb_copies.proofs.Undue.{own_marked, undue_marked}
 use Rattle.sb_copies.proofs.shelf.Shelf.hold.Goals as goal
@@ -29,6 +32,13 @@ regroup-requires-clause-apart c =
     let was : c.lock_at-held.result ≡ option_map held_lock (find (has_number c.args.number) (copies_in s.slots s.order.rows)) = subst (λ (v : Shelved). c.lock_at-held.result ≡ option_map held_lock (find (has_number c.args.number) v.copies)) (sym c.self.view_is) c.lock_at-held.ensures in
     moved_lacks held_lock (λ x. false) c.lock_at-held.result c.args.number s.by_lock.rows (copies_in s.slots s.order.rows) (omega arith) ordered c.self.invariant.3 was c.self.invariant.7
 
+pub regroup-requires-2-clause-apart : goal.regroup-requires-2-clause-apart
+regroup-requires-2-clause-apart c =
+    let s = c.self.inside in
+    let ordered : AreInOrder (copies_in s.slots s.order.rows) = subst (λ (v : Shelved). AreInOrder v.copies) (sym c.self.view_is) c.rises.ensures in
+    let was_under : c.session_lock_at-under.result ≡ option_map under_lock (find (has_number c.args.number) (copies_in s.slots s.order.rows)) = subst (λ (v : Shelved). c.session_lock_at-under.result ≡ option_map under_lock (find (has_number c.args.number) v.copies)) (sym c.self.view_is) c.session_lock_at-under.ensures in
+    moved_lacks under_lock (λ x. false) c.session_lock_at-under.result c.args.number s.under.rows (copies_in s.slots s.order.rows) (omega arith) ordered c.self.invariant.3 was_under c.self.invariant.10
+
 pub invariant_of-self : goal.invariant_of-self
 invariant_of-self c =
     let s = c.self.inside in
@@ -36,7 +46,9 @@ invariant_of-self c =
     let after : List StoredCopy = copies_in c.hold_row.new.slots c.change.new.self.rows in
     let ordered : AreInOrder before = subst (λ (v : Shelved). AreInOrder v.copies) (sym c.self.view_is) c.rises.ensures in
     let was : c.lock_at-held.result ≡ option_map held_lock (find (has_number c.args.number) (copies_in s.slots s.order.rows)) = subst (λ (v : Shelved). c.lock_at-held.result ≡ option_map held_lock (find (has_number c.args.number) v.copies)) (sym c.self.view_is) c.lock_at-held.ensures in
+    let was_under : c.session_lock_at-under.result ≡ option_map under_lock (find (has_number c.args.number) (copies_in s.slots s.order.rows)) = subst (λ (v : Shelved). c.session_lock_at-under.result ≡ option_map under_lock (find (has_number c.args.number) v.copies)) (sym c.self.view_is) c.session_lock_at-under.ensures in
     let room : 1 ≤ s.locks = subst (λ (v : Shelved). 1 ≤ v.locks) (sym c.self.view_is) c.requires.room in
+    let one : rows_taken c.hold_session.result ≤ 1 = at_most_one c.hold_session.result in
     let g : StoredCopy → StoredCopy = λ x. record x { standing = Held c.args.lock c.args.hold (is_deferred x.standing) } in
     let stands : after ≡ changed (has_number c.args.number) (λ x. g x ∷ []) before = told_led c.from.result false c.moment_of-due.result c.hold_row.new.slots c.self.inside.order.rows c.change.new.self.rows _ c.change.ensures.rows c.hold_row.ensures.copies in (
       omega (arith, c.self.invariant.0, c.change.ensures.spare, c.hold_row.ensures.len, c.hold_row.ensures.capacity),
@@ -50,6 +62,8 @@ invariant_of-self c =
       omega (arith, room, c.self.invariant.6, c.regroup.ensures.spare, c.change.ensures.spare),
       moved_so held_lock (λ x. false) c.args.number g (λ x. refl) c.lock_at-held.result (Some c.args.lock) s.by_lock.rows c.regroup.new.index.rows before after (omega arith) ordered c.self.invariant.3 c.rises-2.ensures was (λ x. refl) (λ x. refl) c.self.invariant.7 c.regroup.ensures.rows stands,
       own_marked c.hash_at-hash.result c.args.number false s.by_session.rows c.mark.new.index.rows c.self.invariant.8 c.mark.ensures.rows,
+      omega (arith, room, one, c.self.invariant.9, c.regroup-2.ensures.spare, c.change.ensures.spare),
+      moved_so under_lock (λ x. false) c.args.number g (λ x. refl) c.session_lock_at-under.result c.hold_session.result s.under.rows c.regroup-2.new.index.rows before after (omega arith) ordered c.self.invariant.3 c.rises-3.ensures was_under (λ x. sym c.hold_session.ensures) (λ x. refl) c.self.invariant.10 c.regroup-2.ensures.rows stands,
     )
 
 pub returns-clause-heads : goal.returns-clause-heads

@@ -8,6 +8,7 @@ use Rattle.sb_copies.specs.BySession.{session_hash_of}
 use Rattle.sb_copies.specs.Grouped.{group_key}
 use Rattle.sb_copies.specs.Heads.{undue_rows}
 use Rattle.sb_copies.specs.Shelf.{AreBelow, Shelved, copies_in}
+use Rattle.sb_copies.specs.UnderSession.{under_lock}
 use Rattle.sb_copies.proofs.Below.{below_put}
 use Rattle.sb_copies.proofs.Finding.{number_lacks}
 use Rattle.sb_copies.proofs.Grouped.{group_lacks, put_so}
@@ -32,6 +33,12 @@ put_held-requires-clause-apart c =
     let s = c.self.inside in
     let above : AreBelow c.args.copy.number (copies_in s.slots s.order.rows) = subst (λ (v : Shelved). AreBelow c.args.copy.number v.copies) (sym c.self.view_is) c.requires.above in
     λ h. group_lacks held_lock (λ x. false) h c.args.copy.number s.by_lock.rows (copies_in s.slots s.order.rows) (omega arith) above c.self.invariant.7
+
+pub put_under-requires-clause-apart : goal.put_under-requires-clause-apart
+put_under-requires-clause-apart c =
+    let s = c.self.inside in
+    let above : AreBelow c.args.copy.number (copies_in s.slots s.order.rows) = subst (λ (v : Shelved). AreBelow c.args.copy.number v.copies) (sym c.self.view_is) c.requires.above in
+    λ h. group_lacks under_lock (λ x. false) h c.args.copy.number s.under.rows (copies_in s.slots s.order.rows) (omega arith) above c.self.invariant.10
 
 above : (c : goal.After-insert_reserved) → AreBelow c.args.copy.number (copies_in c.self.inside.slots c.self.inside.order.rows)
 above c = subst (λ (v : Shelved). AreBelow c.args.copy.number v.copies) (sym c.self.view_is) c.requires.above
@@ -61,6 +68,8 @@ invariant_of-self c =
       omega (arith, room, c.self.invariant.6, c.put_held.ensures.spare, c.insert.ensures.spare),
       put_so held_lock (λ x. false) c.args.copy s.by_lock.rows c.put_held.new.by_lock.rows before after (omega arith) c.rises-2.ensures (above c) c.self.invariant.7 c.put_held.ensures.rows (one_more c),
       own_put c.args.copy s.by_session.rows c.put.new.by_session.rows c.self.invariant.8 c.put.ensures.rows,
+      omega (arith, room, c.self.invariant.9, c.put_under.ensures.spare, c.insert.ensures.spare),
+      put_so under_lock (λ x. false) c.args.copy s.under.rows c.put_under.new.under.rows before after (omega arith) c.rises-3.ensures (above c) c.self.invariant.10 c.put_under.ensures.rows (one_more c),
     )
 
 pub returns-clause-heads : goal.returns-clause-heads

@@ -18,6 +18,8 @@ invariant_of-self c =
       c.self.invariant.6,
       c.self.invariant.7,
       own_stays c.hash_at-hash.result c.args.number true s.by_session.rows c.tell.new.by_session.rows c.self.invariant.8 c.tell.ensures.rows,
+      c.self.invariant.9,
+      c.self.invariant.10,
     )
 
 pub returns-clause-heads : goal.returns-clause-heads
