@@ -1,6 +1,5 @@
 -- How a plan grows, step by step.
-use Rattle.std.proofs.Common.{◌≡◌, ℕ, Bool, true, false, cond, List, [], ◌∷◌, ◌++◌, filter, refl, ap, sym, ◌∙◌, subst}
-use Rattle.std.specs.List.{flat_map}
+use Rattle.std.proofs.Common.{◌≡◌, ℕ, true, List, [], ◌∷◌, ◌++◌, refl, ap, sym, ◌∙◌, subst}
 use Rattle.std.proofs.lemmas.List.{append_assoc, append-nil}
 use Rattle.sb_machine.specs.Changes.{after, after_all}
 use Rattle.sb_machine.specs.Delivery.{carried}
@@ -35,28 +34,3 @@ grown_kept s c given old new keeps is = record {
 
 pub grown_carried : (s : Space) (seq : ℕ) (vs : List Visit) (before after : Given) (old new : List Change) → IsCarried (listed s) (λ key. last_at key s) before seq vs after old new → IsGrown s (carried seq vs) before after old new
 grown_carried s seq vs before after old new is = record { changes = is.changes; stands = λ t now stands. is.stands now t stands }
-
--- ---- over those that pass a test, one after another
-
-module _ {X : Type 0} where
-  abbrev pub each : (X → Bool) → (X → List Change) → List X → List Change
-  each p f xs = flat_map f (filter p xs)
-
-  -- one that passes, and one that doesn't
-  pub grown_one : (s : Space) (p : X → Bool) (f : X → List Change) (x : X) (before after : Given) (old new : List Change) → p x ≡ true → IsGrown s (f x) before after old new → IsGrown s (each p f (x ∷ [])) before after old new
-  grown_one s p f x before after old new passes one =
-      let is : each p f (x ∷ []) ≡ f x = ap (λ (b : Bool). flat_map f (cond b (x ∷ []) [])) passes ∙ append-nil (f x) in
-      subst (λ (l : List Change). IsGrown s l before after old new) (sym is) one
-
-  pub grown_past : (s : Space) (p : X → Bool) (f : X → List Change) (x : X) (given : Given) (old : List Change) → p x ≡ false → IsGrown s (each p f (x ∷ [])) given given old old
-  grown_past s p f x given old fails =
-      let is : each p f (x ∷ []) ≡ [] = ap (λ (b : Bool). flat_map f (cond b (x ∷ []) [])) fails in
-      subst (λ (l : List Change). IsGrown s l given given old old) (sym is) (grown_none s given old)
-
-  -- one by one they are all
-  pub each_in_turn : (p : X → Bool) (f : X → List Change) (xs : List X) → flat_map (λ x. each p f (x ∷ [])) xs ≡ each p f xs
-  each_in_turn p f [] = refl
-  each_in_turn p f (x ∷ xs) = at (p x) (each_in_turn p f xs) where
-    at : (b : Bool) → flat_map (λ x. each p f (x ∷ [])) xs ≡ each p f xs → flat_map f (cond b (x ∷ []) []) ++ flat_map (λ x. each p f (x ∷ [])) xs ≡ flat_map f (cond b (x ∷ filter p xs) (filter p xs))
-    at true ih = ap (λ (l : List Change). l ++ flat_map (λ x. each p f (x ∷ [])) xs) (append-nil (f x)) ∙ ap (λ (l : List Change). f x ++ l) ih
-    at false ih = ih

@@ -1,5 +1,5 @@
 // Giving a session back, with its copies.
-ghost use Rattle.std.specs.Prelude.{◌≡◌, [], ◌∷◌, filter, map, false, IfOk, OnOk};
+ghost use Rattle.std.specs.Prelude.{◌≡◌, filter, map, false, IfOk, OnOk};
 ghost use Rattle.std.specs.List.{flat_map};
 ghost use Rattle.sb_machine.specs.Delivery as delivery;
 ghost use Rattle.sb_machine.specs.Leases as leases;
@@ -17,14 +17,13 @@ use crate::Draft;
 use crate::deliver::release::{push_in, released};
 use crate::find::holding::held_at_address;
 use crate::plan::drafting::planned;
-use sb_copies::is_under_session;
 use sb_entities::{EntityStore, SpaceStore};
 use sb_fanout::Lasts;
 use sb_machine::{Changes, LeafChange, Part, Path, Refusal, Reply, StoredCopy, Token};
 use std::alloc::{AllocError, Global};
 
-// A copy under a session's lock is released without a raise.
-fn release_under(
+// Each of these is released without a raise.
+fn release_all(
     alloc: Global,
     space: &SpaceStore,
     lasts: &mut Lasts,
@@ -32,45 +31,22 @@ fn release_under(
     moment: u64,
     entity: &EntityStore,
     part: Part,
-    lock: u64,
-    copy: &StoredCopy,
-) -> Result<(), AllocError>
-    ensures { OnOk result (IsGrown (space_in space.now) (flat_map (λ c. delivery.released (namespace.listed (space_in space.now)) moment (entity_in entity.now) part c false false) (filter (λ c. leases.is_under_session lock c.standing) (copy.now ∷ []))) (given_in lasts.old) (given_in lasts.new) changes.old changes.new) }
-{
-    if !is_under_session(copy.standing, lock) {
-        return Ok(());
-    }
-    released(
-        alloc, space, lasts, changes, entity, part, copy, false, false, moment,
-    )
-}
-
-// The same of each of these.
-fn release_all_under(
-    alloc: Global,
-    space: &SpaceStore,
-    lasts: &mut Lasts,
-    changes: &mut Changes,
-    moment: u64,
-    entity: &EntityStore,
-    part: Part,
-    lock: u64,
     copies: &[&StoredCopy],
 ) -> Result<(), AllocError>
-    ensures { OnOk result (IsGrown (space_in space.now) (flat_map (λ c. delivery.released (namespace.listed (space_in space.now)) moment (entity_in entity.now) part c false false) (filter (λ c. leases.is_under_session lock c.standing) (map (λ c. c.now) copies.now))) (given_in lasts.old) (given_in lasts.new) changes.old changes.new) }
+    ensures { OnOk result (IsGrown (space_in space.now) (flat_map (λ c. delivery.released (namespace.listed (space_in space.now)) moment (entity_in entity.now) part c false false) (map (λ c. c.now) copies.now)) (given_in lasts.old) (given_in lasts.new) changes.old changes.new) }
 {
     for copy in copies {
-        release_under(
-            alloc, space, lasts, changes, moment, entity, part, lock, copy,
+        released(
+            alloc, space, lasts, changes, entity, part, copy, false, false, moment,
         )?;
     }
     Ok(())
 }
 
-fn copies_in(entity: &EntityStore, part: Part) -> Result<Vec<&StoredCopy>, AllocError>
-    ensures { IfOk result (λ found. map (λ c. c.now) found.items ≡ (namespace.leaf_of part (entity_in entity.now)).copies) }
+fn copies_under(entity: &EntityStore, part: Part, lock: u64) -> Result<Vec<&StoredCopy>, AllocError>
+    ensures { IfOk result (λ found. map (λ c. c.now) found.items ≡ filter (λ c. leases.is_under_session lock c.standing) (namespace.leaf_of part (entity_in entity.now)).copies) }
 {
-    entity.part(part).copies().all()
+    entity.part(part).copies().under(lock)
 }
 
 // A session is held no more, and its copies are released at `moment`, in ms since 1970: changes
@@ -88,10 +64,8 @@ fn closed(
     ensures { OnOk result (IsGrown (space_in space.now) (spec.closed (space_in space.now) moment (entity_in entity.now) part lock) (given_in lasts.old) (given_in lasts.new) changes.old changes.new) }
 {
     push_in(changes, entity, part, LeafChange::Closes { lock })?;
-    let copies = copies_in(entity, part)?;
-    release_all_under(
-        alloc, space, lasts, changes, moment, entity, part, lock, &copies,
-    )
+    let copies = copies_under(entity, part, lock)?;
+    release_all(alloc, space, lasts, changes, moment, entity, part, &copies)
 }
 
 fn close(

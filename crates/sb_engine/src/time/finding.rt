@@ -4,6 +4,7 @@ ghost use Rattle.std.specs.List.{flat_map};
 ghost use Rattle.sb_machine.specs.declared.call.Part.TheVariants.{Main as MainPart};
 ghost use Rattle.sb_entities.specs.Stores.{entity_in, space_in};
 ghost use Rattle.sb_engine.specs.Sweeps as spec;
+ghost use Rattle.sb_engine.specs.declared.time.finding.Search.TheVariants.{Ended};
 
 use crate::deliver::release::is_expired;
 use crate::time::due::any_session;
@@ -90,6 +91,37 @@ fn with_due<'a>(
     with_each(found, search, moment, entity, part, sessions, &due)
 }
 
+fn with_these<'a>(
+    found: Vec<Found<'a>>,
+    entity: &'a EntityStore,
+    part: Part,
+    copies: &[&'a StoredCopy],
+) -> Result<Vec<Found<'a>>, AllocError>
+    ensures { IfOk result (λ v. spec.items_in v.items ≡ spec.items_in found.entry.items ++ map (spec.item (entity_in entity.now) part) (map (λ c. c.now) copies.now)) }
+{
+    let mut found = found;
+    for copy in copies {
+        let copy = *copy;
+        found.push(Found { entity, part, copy })?;
+    }
+    Ok(found)
+}
+
+// Looks at what has come due, and at what is under the locks of sessions that ended.
+fn with_ended<'a>(
+    found: Vec<Found<'a>>,
+    moment: u64,
+    entity: &'a EntityStore,
+    part: Part,
+    sessions: &[Session],
+    copies: &'a Shelf,
+) -> Result<Vec<Found<'a>>, AllocError>
+    ensures { IfOk result (λ v. spec.items_in v.items ≡ spec.items_in found.entry.items ++ map (spec.item (entity_in entity.now) part) (filter (spec.is_looked_for Ended moment sessions.now) copies.now.copies)) }
+{
+    let ended = copies.ended(moment, sessions)?;
+    with_these(found, entity, part, &ended)
+}
+
 // Looks at each copy.
 fn with_all<'a>(
     found: Vec<Found<'a>>,
@@ -104,6 +136,26 @@ fn with_all<'a>(
 {
     let all = copies.all()?;
     with_each(found, search, moment, entity, part, sessions, &all)
+}
+
+// Where more is looked for than what has come due.
+fn with_more<'a>(
+    found: Vec<Found<'a>>,
+    search: Search,
+    moment: u64,
+    entity: &'a EntityStore,
+    part: Part,
+    sessions: &[Session],
+    copies: &'a Shelf,
+) -> Result<Vec<Found<'a>>, AllocError>
+    ensures { IfOk result (λ v. spec.items_in v.items ≡ spec.items_in found.entry.items ++ map (spec.item (entity_in entity.now) part) (filter (spec.is_looked_for search moment sessions.now) copies.now.copies)) }
+{
+    match search {
+        Search::Ended => with_ended(found, moment, entity, part, sessions, copies),
+        Search::Expired | Search::Come => {
+            with_all(found, search, moment, entity, part, sessions, copies)
+        }
+    }
 }
 
 fn with_part<'a>(
@@ -121,7 +173,7 @@ fn with_part<'a>(
     if is_told(search, moment, sessions, copies) {
         return with_due(found, search, moment, entity, part, sessions, copies);
     }
-    with_all(found, search, moment, entity, part, sessions, copies)
+    with_more(found, search, moment, entity, part, sessions, copies)
 }
 
 fn with_entity<'a>(
