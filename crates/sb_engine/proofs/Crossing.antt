@@ -19,9 +19,9 @@ use Rattle.sb_entities.specs.contracts.entity.EntityStore as entity
 use Rattle.sb_entities.specs.contracts.listing.Listing as listing
 use Rattle.sb_entities.specs.contracts.part.PartStore as part
 use Rattle.sb_entities.specs.contracts.space.SpaceStore as store
+use Rattle.sb_engine.specs.contracts.deliver.arrivals.Marks as marks
+use Rattle.sb_engine.specs.contracts.deliver.arrivals.Marks.TheInside as inside
 use Rattle.sb_engine.specs.contracts.engine.Engine as engine
-use Rattle.sb_engine.specs.contracts.time.watched.Watched as watched
-use Rattle.sb_engine.specs.contracts.time.watched.Watched.TheInside as inside
 
 index_send : IsSend index.the_row
 index_send = search (crosses, tree.crosses, sendable, global.the_field_send) depth 60 fits 20000
@@ -53,8 +53,8 @@ entities_send = search (crosses, sendable, vec.the_send, entity_send, index_send
 store_send : IsSend store.the_field.row
 store_send = search (crosses, sendable, global.the_field_send, entities_send, txns_send) depth 60 fits 20000
 
-watched_send : IsSend watched.the_field.row
-watched_send = view_send inside.the_row _ _ _ _ (recorded_send inside.the_field.row _ _ inside.the_type.to_one (struct_send (shape inside.the_type) (store_send, (search sendable, (search sendable, tt)))))
+marks_send : IsSend marks.the_field.row
+marks_send = view_send inside.the_row _ _ _ _ (recorded_send inside.the_field.row _ _ inside.the_type.to_one (struct_send (shape inside.the_type) (search sendable, tt)))
 
 pub engine_send : IsSend engine.the_field.row
-engine_send = search (crosses, sendable, global.the_field_send, clients.the_send, watched_send) depth 60 fits 20000
+engine_send = search (crosses, sendable, global.the_field_send, clients.the_send, store_send, marks_send) depth 60 fits 20000

@@ -1,9 +1,9 @@
--- What the least moments of entities tell of what is due, and that a sweep finds nothing in one that isn't.
+-- What the least moments tell of what is due, and that a sweep finds nothing in an entity of which nothing is.
 use Rattle.std.proofs.Common.{Bool, List, None, Option, Some, [], ap, arith, cond, false, filter, map, min, refl, sym, true, ℕ, ◌++◌, ◌<◌, ◌≤◌, ◌∙◌, ◌∷◌, ◌≡◌}
 use Rattle.std.specs.Prelude.{nat_le, not, ◌||◌}
 use Rattle.std.specs.List.{flat_map, fold, list_any}
 use Rattle.std.proofs.lemmas.Bool.Decides.{nat_tests}
-use Rattle.sb_machine.specs.Due.{closes_in}
+use Rattle.sb_machine.specs.Due.{closes_in, is_due as is_due_in}
 use Rattle.sb_machine.specs.Names.{is_main}
 use Rattle.sb_machine.specs.Namespace.{leaf_of}
 use Rattle.sb_machine.specs.declared.call.Part.{Part}
@@ -12,16 +12,17 @@ use Rattle.sb_machine.specs.declared.state.Entity.{Entity}
 use Rattle.sb_machine.specs.declared.state.Holder.{Holder}
 use Rattle.sb_machine.specs.declared.state.Leaf.{Leaf}
 use Rattle.sb_machine.specs.declared.state.Session.{Session}
+use Rattle.sb_machine.specs.declared.state.Space.{Space}
 use Rattle.sb_machine.specs.declared.state.StoredCopy.{StoredCopy}
+use Rattle.sb_machine.specs.declared.state.Transaction.{Transaction}
 use Rattle.sb_copies.specs.Dues.{due_of, is_due, least_of, moment_of, never}
 use Rattle.sb_sessions.specs.Ends.{end_of, least_end}
 use Rattle.sb_entities.specs.EntityDues.{due_entities, entity_due, is_due_by, leaf_due, least_due_of}
-use Rattle.sb_engine.specs.Deadlines.{comes_in, comes_of, copy_deadline, has_passed, session_deadline}
-use Rattle.sb_engine.specs.Soonest.{sooner, soonest_in, soonest_of}
+use Rattle.sb_engine.specs.Deadlines.{comes, comes_in, comes_of, copy_deadline, has_passed, least_deadline, session_deadline, soonest}
 use Rattle.sb_engine.specs.Sweeps.{found_in, found_of, is_looked_for, is_told, item, reach}
 use Rattle.sb_engine.specs.declared.time.finding.Search.{Search}
 use Rattle.sb_engine.specs.declared.time.finding.Search.TheVariants.{Come, Ended, Expired}
-use Rattle.sb_engine.proofs.Dues.{neither, none_of, sessions_due, some, some_passed}
+use Rattle.sb_engine.proofs.Dues.{comes_is_due, neither, none_of, sessions_due, some, some_passed}
 use Rattle.sb_engine.proofs.Told.{any_due, due_as, fold_due, min_due, or_assoc, passed, told_one}
 
 or_comm : (a b : Bool) → (a || b) ≡ (b || a)
@@ -63,66 +64,41 @@ module _ (t : ℕ) (before : t < never) where
       ∙ ap (λ (b : Bool). comes_in t Main e.main || b || nat_le transfer t) (part_as Dead e.dead)
       ∙ ap (λ (b : Bool). comes_in t Main e.main || comes_in t Dead e.dead || b) (part_as Transfer e.transfer)
 
-  pub least_tells : (es : List Entity) → nat_le (least_due_of es) t ≡ list_any (comes_of t) es
+  least_tells : (es : List Entity) → nat_le (least_due_of es) t ≡ list_any (comes_of t) es
   least_tells es = any_due entity_due (comes_of t) t before entity_as es
 
--- ---- the least moment
+-- ---- the first moment
 
-min_assoc : (a b c : ℕ) → min (min a b) c ≡ min a (min b c)
-min_assoc a b c = omega arith
+module _ (t : ℕ) (s : Space) where
+  soonest_comes : t < never → nat_le (soonest s) t ≡ comes t s
+  soonest_comes before =
+      min_due (least_due_of s.entities) (least_deadline s.transactions) t
+      ∙ ap (λ (b : Bool). b || nat_le (least_deadline s.transactions) t) (least_tells t before s.entities)
+      ∙ ap (λ (b : Bool). list_any (comes_of t) s.entities || b) (any_due (λ (x : Transaction). x.deadline) (λ (x : Transaction). nat_le x.deadline t) t before (λ x. refl) s.transactions)
 
-lower : (a b n : ℕ) → a ≤ n → min a b ≤ n
-lower a b n p = omega (arith, p)
+  pub soonest_tells : t < never → nat_le (soonest s) t ≡ is_due_in t s
+  soonest_tells before = soonest_comes before ∙ comes_is_due t s
 
-capped : (m : ℕ) → m ≤ never → m ≡ min m never
-capped m p = omega (arith, p)
+  -- none is past the last that there is
+  least_within : (m : ℕ) (ms : List ℕ) → fold min m ms ≤ m
+  least_within m [] = omega arith
+  least_within m (x ∷ ms) = let next : fold min (min m x) ms ≤ min m x = least_within (min m x) ms in omega (arith, next)
 
-fold_start : (a b : ℕ) (xs : List ℕ) → fold min (min a b) xs ≡ min a (fold min b xs)
-fold_start a b [] = refl
-fold_start a b (x ∷ xs) = ap (λ (z : ℕ). fold min z xs) (min_assoc a b x) ∙ fold_start a (min b x) xs
+  pub none_sooner : t < soonest s → is_due_in t s ≡ false
+  none_sooner sooner =
+      let within : least_deadline s.transactions ≤ never = least_within never (map (λ (x : Transaction). x.deadline) s.transactions) in
+      sym (soonest_tells (below (least_due_of s.entities) (least_deadline s.transactions) sooner within)) ∙ past (soonest s) sooner
+    where
+      below : (a b : ℕ) → t < min a b → b ≤ never → t < never
+      below a b lt le = omega (arith, lt, le)
 
--- each step takes the lesser
-fold_lesser : {X : Type 0} (step : ℕ → X → ℕ) (f : X → ℕ) → ((m : ℕ) (x : X) → m ≤ never → step m x ≡ min m (f x)) → (m : ℕ) (xs : List X) → m ≤ never → fold step m xs ≡ fold min m (map f xs)
-fold_lesser step f is m [] p = refl
-fold_lesser step f is m (x ∷ xs) p = ap (λ (k : ℕ). fold step k xs) (is m x p) ∙ fold_lesser step f is (min m (f x)) xs (lower m (f x) never p)
+      past : (m : ℕ) → t < m → nat_le m t ≡ false
+      past m is = grind (arith, nat_tests)
 
-from_never : (m : ℕ) (xs : List ℕ) → m ≤ never → fold min m xs ≡ min m (fold min never xs)
-from_never m xs p = ap (λ (k : ℕ). fold min k xs) (capped m p) ∙ fold_start m never xs
-
-sooner_as : (o : Option ℕ) (m : ℕ) → m ≤ never → sooner o m ≡ min m (moment_of o)
-sooner_as None m p = omega (arith, p)
-sooner_as (Some d) m p = omega (arith, p)
-
-soonest_in_as : (part : Part) (m : ℕ) (leaf : Leaf) → m ≤ never → soonest_in part m leaf ≡ min m (leaf_due (is_main part) leaf)
-soonest_in_as part m leaf p =
-    let copies = least_of (is_main part) leaf.copies in
-    let sessions = least_end leaf.sessions in
-    let by_session : fold (λ k x. sooner (session_deadline x) k) m leaf.sessions ≡ min m sessions =
-    fold_lesser (λ k x. sooner (session_deadline x) k) end_of (λ k x q. sooner_as (session_deadline x) k q ∙ ap (λ (d : ℕ). min k d) (sym (end_as x))) m leaf.sessions p
-    ∙ from_never m (map end_of leaf.sessions) p in
-    ap (λ (k : ℕ). fold (λ k c. sooner (copy_deadline part c) k) k leaf.copies) by_session
-    ∙ fold_lesser (λ k c. sooner (copy_deadline part c) k) (due_of (is_main part)) (λ k c q. sooner_as (copy_deadline part c) k q) (min m sessions) leaf.copies (lower m sessions never p)
-    ∙ from_never (min m sessions) (map (due_of (is_main part)) leaf.copies) (lower m sessions never p)
-    ∙ turned m sessions copies
-  where
-    turned : (m s c : ℕ) → min (min m s) c ≡ min m (min c s)
-    turned m s c = omega arith
-
-soonest_of_as : (m : ℕ) (e : Entity) → m ≤ never → soonest_of m e ≡ min m (entity_due e)
-soonest_of_as m e p =
-    let main = leaf_due true e.main in
-    let dead = leaf_due false e.dead in
-    let transfer = leaf_due false e.transfer in
-    ap (λ (k : ℕ). soonest_in Transfer (soonest_in Dead k e.dead) e.transfer) (soonest_in_as Main m e.main p)
-    ∙ ap (λ (k : ℕ). soonest_in Transfer k e.transfer) (soonest_in_as Dead (min m main) e.dead (lower m main never p))
-    ∙ soonest_in_as Transfer (min (min m main) dead) e.transfer (lower (min m main) dead never (lower m main never p))
-    ∙ flat m main dead transfer
-  where
-    flat : (m a b c : ℕ) → min (min (min m a) b) c ≡ min m (min a (min b c))
-    flat m a b c = omega arith
-
-pub least_is : (es : List Entity) → least_due_of es ≡ fold soonest_of never es
-least_is es = sym (fold_lesser soonest_of entity_due soonest_of_as never es (omega arith))
+pub due_at_soonest : (s : Space) → soonest s < never → is_due_in (soonest s) s ≡ true
+due_at_soonest s before = sym (soonest_tells (soonest s) s before) ∙ reached (soonest s) where
+  reached : (m : ℕ) → nat_le m m ≡ true
+  reached m = grind (arith, nat_tests)
 
 -- ---- what isn't due is left alone
 

@@ -21,8 +21,6 @@ pub mod Dues
 pub mod DueEntities
 pub mod Turning
 pub mod Items
-pub mod Later
-pub mod Sooner
 pub mod Told
 pub mod Onward
 pub mod Crossing

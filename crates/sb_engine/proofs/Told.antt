@@ -1,29 +1,25 @@
 -- What the moments that a shelf keeps tell of what is due, and of what a sweep looks for.
 use Rattle.std.proofs.Common.{Bool, List, None, Option, Some, [], ap, arith, cond, false, filter, map, min, refl, sym, true, ℕ, ◌&&◌, ◌+◌, ◌*◌, ◌<◌, ◌∙◌, ◌∷◌, ◌≡◌}
-use Rattle.std.specs.Prelude.{nat_le, nat_lt, not, ◌||◌}
+use Rattle.std.specs.Prelude.{nat_le, not, ◌||◌}
 use Rattle.std.specs.List.{fold, list_any}
 use Rattle.std.proofs.lemmas.Bool.Decides.{nat_tests}
 use Rattle.sb_machine.specs.Delivery.{is_expired}
 use Rattle.sb_machine.specs.Leases.{has_come, has_ended, is_ended_holder, is_over, is_ready}
 use Rattle.sb_machine.specs.Names.{is_main}
 use Rattle.sb_machine.specs.declared.call.Part.{Part}
-use Rattle.sb_machine.specs.declared.call.Part.TheVariants.{Dead, Main, Transfer}
+use Rattle.sb_machine.specs.declared.call.Part.TheVariants.{Main}
 use Rattle.sb_machine.specs.declared.state.Hold.{Hold}
 use Rattle.sb_machine.specs.declared.state.Hold.TheVariants.{Session as UnderSession, Until}
 use Rattle.sb_machine.specs.declared.state.Session.{Session}
 use Rattle.sb_machine.specs.declared.state.Standing.{Standing}
 use Rattle.sb_machine.specs.declared.state.Standing.TheVariants.{Deferred, Held, Ready, Scheduled}
 use Rattle.sb_machine.specs.declared.state.StoredCopy.{StoredCopy}
-use Rattle.sb_copies.specs.Dues.{copy_expiry, due_by, due_of, expiry, hold_deadline, is_due, least_of, moment_of, never, standing_due}
-use Rattle.sb_engine.specs.Deadlines.{copy_deadline, expires_as, has_passed, session_deadline, tells}
+use Rattle.sb_copies.specs.Dues.{copy_expiry, due_by, expiry, hold_deadline, is_due, moment_of, never, standing_due}
+use Rattle.sb_engine.specs.Deadlines.{copy_deadline, has_passed, session_deadline}
 use Rattle.sb_engine.specs.Sweeps.{is_looked_for, is_told}
 use Rattle.sb_engine.specs.declared.time.finding.Search.{Search}
 use Rattle.sb_engine.specs.declared.time.finding.Search.TheVariants.{Come, Ended, Expired}
 use Rattle.sb_engine.proofs.Dues.{any_same, ended_holder, none_of}
-
-both : (a b : Bool) → (a && b) ≡ true → (a ≡ true) × (b ≡ true)
-both true b e = (refl, e)
-both false b e = absurd (let bad : false ≡ true = e in cc)
 
 not_so : (b : Bool) → not b ≡ true → b ≡ false
 not_so true e = absurd (let bad : false ≡ true = e in cc)
@@ -84,14 +80,6 @@ told_found search t sessions e cs told = filter_within (is_looked_for search t s
 
 -- ---- whether one is due
 
-expires_so : (part : Part) (e : Bool) → expires_as part e ≡ true → e ≡ is_main part
-expires_so Main e is = is
-expires_so Dead e is = not_so e is
-expires_so Transfer e is = not_so e is
-
-pub is_lt : (a b : ℕ) → nat_lt a b ≡ true → a < b
-is_lt a b e = grind (arith, nat_tests)
-
 pub passed : (t : ℕ) → t < never → (o : Option ℕ) → nat_le (moment_of o) t ≡ has_passed t o
 passed t p None = grind (arith, nat_tests)
 passed t p (Some d) = grind (arith, nat_tests)
@@ -123,9 +111,3 @@ any_due f q t p same xs =
 
 pub due_as : (part : Part) (e : Bool) (t : ℕ) → e ≡ is_main part → t < never → (c : StoredCopy) → is_due e t c ≡ has_passed t (copy_deadline part c)
 due_as part e t is p c = ap (λ (b : Bool). nat_le (moment_of (standing_due b (copy_expiry c) c.standing)) t) is ∙ passed t p (standing_due (is_main part) (copy_expiry c) c.standing)
-
-pub any_told : (part : Part) (e : Bool) (t : ℕ) (cs : List StoredCopy) → tells part e t ≡ true → nat_le (least_of e cs) t ≡ list_any (λ c. has_passed t (copy_deadline part c)) cs
-any_told part e t cs told =
-    let it = both (expires_as part e) (nat_lt t never) told in
-    let p : t < never = is_lt t never it.1 in
-    any_due (due_of e) (λ c. has_passed t (copy_deadline part c)) t p (due_as part e t (expires_so part e it.0) p) cs

@@ -1,6 +1,6 @@
 -- When each thing of a namespace comes due by itself.
-use Rattle.std.specs.Prelude.{ℕ, ◌&&◌, ◌||◌, not, nat_le, nat_lt, Bool, false, Option, Some, None}
-use Rattle.std.specs.List.{list_any}
+use Rattle.std.specs.Prelude.{ℕ, ◌||◌, min, nat_le, Bool, false, List, map, Option, Some, None}
+use Rattle.std.specs.List.{fold, list_any}
 use Rattle.sb_machine.specs.Names.{is_main}
 use Rattle.sb_machine.specs.declared.call.Part.{Part}
 use Rattle.sb_machine.specs.declared.call.Part.TheVariants.{Main, Dead, Transfer}
@@ -10,7 +10,9 @@ use Rattle.sb_machine.specs.declared.state.Session.{Session}
 use Rattle.sb_machine.specs.declared.state.Space.{Space}
 use Rattle.sb_machine.specs.declared.state.Standing.{Standing}
 use Rattle.sb_machine.specs.declared.state.StoredCopy.{StoredCopy}
+use Rattle.sb_machine.specs.declared.state.Transaction.{Transaction}
 use Rattle.sb_copies.specs.Dues.{standing_due}
+use Rattle.sb_entities.specs.EntityDues.{least_due_of}
 pub use Rattle.sb_copies.specs.Dues.{copy_expiry, expiry, hold_deadline, in_range, never}
 
 -- ---- one thing
@@ -35,16 +37,6 @@ abbrev pub has_passed : ℕ → Option ℕ → Bool
 has_passed t None = false
 has_passed t (Some d) = nat_le d t
 
--- whether messages expire where this is said of them as they do in a part
-abbrev pub expires_as : Part → Bool → Bool
-expires_as Main expires = expires
-expires_as Dead expires = not expires
-expires_as Transfer expires = not expires
-
--- whether the least moment of a part's messages tells if one is due at t
-abbrev pub tells : Part → Bool → ℕ → Bool
-tells part expires t = expires_as part expires && nat_lt t never
-
 -- whether something of one part is due at t
 abbrev pub comes_in : ℕ → Part → Leaf → Bool
 comes_in t part leaf = list_any (λ x. has_passed t (session_deadline x)) leaf.sessions || list_any (λ c. has_passed t (copy_deadline part c)) leaf.copies
@@ -56,3 +48,13 @@ comes_of t e = comes_in t Main e.main || comes_in t Dead e.dead || comes_in t Tr
 -- whether something of the namespace is due at t
 abbrev pub comes : ℕ → Space → Bool
 comes t s = list_any (comes_of t) s.entities || list_any (λ x. nat_le x.deadline t) s.transactions
+
+-- ---- the first to come
+
+-- the least moment at which one of these transactions is dropped
+abbrev pub least_deadline : List Transaction → ℕ
+least_deadline transactions = fold min never (map (λ x. x.deadline) transactions)
+
+-- the least moment at which something of the namespace comes due, `never` where nothing does
+abbrev pub soonest : Space → ℕ
+soonest s = min (least_due_of s.entities) (least_deadline s.transactions)

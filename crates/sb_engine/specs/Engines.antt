@@ -2,7 +2,8 @@
 use Rattle.std.specs.Prelude.{◌≡◌, ◌⊎◌, ◌≤◌, List, ℕ, Bool, true, false, ◌||◌, not, [], length, Option, Some, None, is_some, option_map, Result, Ok, Err}
 use Rattle.std.specs.List.{list_any}
 use Rattle.sb_entities.specs.Places.{place_of}
-use Rattle.sb_entities.specs.Stores.{space_in, IsRoomFor}
+use Rattle.sb_entities.specs.Stocks.{Stock}
+use Rattle.sb_entities.specs.Stores.{space_in, stock_in, IsRoomFor}
 use Rattle.sb_machine.specs.Answers.{answer_of, state_of, is_change, with_kept, kept_as}
 use Rattle.sb_machine.specs.Changes.{after_all, is_numbered}
 use Rattle.sb_machine.specs.Due.{is_none_in}
@@ -23,6 +24,10 @@ use Rattle.sb_engine.specs.declared.summary.Summary.{Summary}
 -- the state that an engine is
 abbrev pub engine_state : Engine → State
 engine_state e = record { now = e.moment; clients = e.clients.clients; space = space_in e.space }
+
+-- the namespace of an engine, with the slots that it promises
+abbrev pub engine_stock : Engine → Stock
+engine_stock e = stock_in e.space
 
 -- ---- plans
 

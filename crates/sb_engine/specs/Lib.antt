@@ -1,8 +1,7 @@
 -- The machine over lists in memory, in the order to read them: Engines, Planned (what an engine is, and what planning comes to); Heads,
--- Readings, Sendings, Commits, Removals, Rules, Quotas (parts of a plan); Deadlines, Soonest, Sweeps (time); the others as they are used.
+-- Readings, Sendings, Commits, Removals, Rules, Quotas (parts of a plan); Deadlines, Sweeps (time); the others as they are used.
 pub mod Plans
 pub mod Deadlines
-pub mod Soonest
 pub mod Drafts
 pub mod Heads
 pub mod Growing

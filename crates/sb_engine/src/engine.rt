@@ -1,5 +1,5 @@
 // A whole namespace in memory.
-ghost use Rattle.std.specs.Prelude.{◌≡◌, ℕ, ◌⊎◌, ◌≤◌, ◌<◌, ◌^◌, [], Some, None, is_some, true, false, Ok, Err, IfOk, IfErr, OnOk};
+ghost use Rattle.std.specs.Prelude.{◌≡◌, ℕ, ◌⊎◌, ◌≤◌, ◌<◌, ◌^◌, [], Some, None, is_some, true, false, Ok, Err, IfOk, IfErr, OnOk, OnErr};
 ghost use Rattle.std.specs.Option.{option_map};
 ghost use Rattle.std.specs.Result.{IsOk};
 ghost use Rattle.sb_entities.specs.Stores.{space_in, IsRoomFor};
@@ -17,15 +17,17 @@ ghost use Rattle.sb_machine.specs.Repeats.{acted};
 ghost use Rattle.sb_machine.specs.declared.reply.Answered.TheVariants.{Kept as Repeated};
 ghost use Rattle.sb_machine.specs.declared.reply.Refusal.TheVariants.{Exhausted, OutOfMemory};
 ghost use Rattle.sb_laws.specs.Sweepable.{IsSweepable};
-ghost use Rattle.sb_engine.specs.Engines.{engine_state, adds_nothing, carried_out, planned_of, summary_of, HasRoom, IsPlanOf, IsSound, PlansAs};
-ghost use Rattle.sb_engine.specs.Plans.{PlansRow};
+ghost use Rattle.sb_engine.specs.Deadlines.{never};
+ghost use Rattle.sb_engine.specs.Engines.{engine_state, engine_stock, adds_nothing, carried_out, planned_of, summary_of, HasRoom, IsPlanOf, IsSound, PlansAs};
 ghost use Rattle.sb_engine.specs.Small.{is_small, takes_no_memory};
 
+use crate::deliver::arrivals::Marks;
 use crate::plan::calls::{Verdict, client_of, judge_number};
 use crate::plan::planning::plan_row;
+use crate::time::due::{is_due, soonest};
 use crate::time::ticks::plan_tick;
-use crate::time::watched::Watched;
 use crate::{Draft, Plan, Summary};
+use sb_entities::SpaceStore;
 use sb_machine::{Act, Answered, By, Call, Changes, Kept, Refusal, Reply};
 use sb_repeats::Clients;
 use std::alloc::{AllocError, Global};
@@ -36,27 +38,9 @@ pub struct Engine {
     alloc: Global,
     moment: u64,
     clients: Clients,
-    space: Watched,
-}
-
-// What an act would do here, with all its tests.
-fn plan_in(alloc: Global, space: &Watched, moment: u64, call: &Call) -> Result<Draft, Refusal>
-    requires { moment ≤ max_moment }
-    ensures row { PlansRow result (row_of (space_in space.now) moment call.now.by call.now.act) }
-    ensures free { bad_field (is_via_in (space_in space.now) call.now.act) call.now.act call.now.by ≡ None → is_small call.now.act ≡ true → IfErr result (λ r. row_of (space_in space.now) moment call.now.by call.now.act ≡ refuses r) }
-    ensures numbers { IfOk result (λ d. is_numbered moment d.changes (space_in space.now) ≡ true) }
-{
-    plan_row(alloc, space.as_store(), moment, &call.by, &call.act)
-}
-
-// What happens here as time comes up to a moment.
-fn tick_in(alloc: Global, space: &Watched, moment: u64) -> Result<Changes, Refusal>
-    requires { IsSweepable (space_in space.now) }
-    ensures changes { IfOk result (λ cs. cs ≡ due.tick_changes moment (space_in space.now)) }
-    ensures numbered { IfOk result (λ cs. is_numbered moment cs (space_in space.now) ≡ true) }
-    ensures err { IfErr result (λ r. (r ≡ OutOfMemory) ⊎ ((r ≡ Exhausted) × (is_numbered moment (due.tick_changes moment (space_in space.now)) (space_in space.now) ≡ false))) }
-{
-    plan_tick(alloc, space.as_store(), moment)
+    space: SpaceStore,
+    // Of the parts for which something came.
+    entered: Marks,
 }
 
 // What is kept of an accepted call.
@@ -118,7 +102,8 @@ impl Engine {
             alloc,
             moment: 0,
             clients: Clients::new(alloc),
-            space: Watched::new(alloc, salt),
+            space: SpaceStore::new(alloc, salt),
+            entered: Marks::new(),
         }
     }
 
@@ -138,7 +123,7 @@ impl Engine {
         ensures free { option_map (λ b. b.now) by.entry ≡ None → bad_field (is_via_in (engine_state self.now).space call.now.act) call.now.act call.now.by ≡ None → is_small call.now.act ≡ true → IfErr result (λ r. row_of (engine_state self.now).space moment call.now.by call.now.act ≡ refuses r) }
         ensures sound { IfOk result (λ p. IsSound (engine_state self.now) moment p) }
     {
-        let draft = plan_in(self.alloc, &self.space, moment, call)?;
+        let draft = plan_row(self.alloc, &self.space, moment, &call.by, &call.act)?;
         match plan_draft(by, &call.act, draft) {
             Ok(plan) => Ok(plan),
             Err(_) => Err(Refusal::OutOfMemory),
@@ -189,17 +174,21 @@ impl Engine {
 
     // ---- time
 
-    /// Whether something is due at a moment, in ms since 1970. Before a moment that is kept, before
-    /// which nothing comes due, this looks at nothing, from then on at each copy.
+    /// Whether something is due at a moment, in ms since 1970. This looks at each open transaction,
+    /// at no entity; at the last moment that there is at each copy.
     pub fn is_due(&self, moment: u64) -> bool
         ensures { result ≡ due.is_due moment (engine_state self.now).space }
     {
-        self.space.is_due(moment)
+        is_due(&self.space, moment)
     }
 
-    /// A moment, in ms since 1970, before which nothing comes due by itself; `u64::MAX` where nothing does.
-    pub fn soonest(&self) -> u64 {
-        self.space.soonest()
+    /// The first moment at which something is due, in ms since 1970; `u64::MAX` where nothing ever is.
+    /// This looks at each open transaction, at no entity.
+    pub fn soonest(&self) -> u64
+        ensures before { (m : ℕ) → m < result → due.is_due m (engine_state self.now).space ≡ false }
+        ensures reached { result < never → due.is_due result (engine_state self.now).space ≡ true }
+    {
+        soonest(&self.space)
     }
 
     /// What happens as time comes up to a moment, in ms since 1970; nobody waits for its answer.
@@ -209,18 +198,19 @@ impl Engine {
         ensures ok { IfOk result (λ p. (carried_out moment p (engine_state self.now) ≡ advanced (engine_state self.now) moment) × (is_spent (engine_state self.now) moment ≡ false) × IsSound (engine_state self.now) moment p) }
         ensures err { IfErr result (λ r. (r ≡ OutOfMemory) ⊎ ((r ≡ Exhausted) × (is_spent (engine_state self.now) moment ≡ true))) }
     {
-        let changes = tick_in(self.alloc, &self.space, moment)?;
+        let changes = plan_tick(self.alloc, &self.space, moment)?;
         Ok(Plan::new(changes, Answered::New(Reply::Done), None))
     }
 
     // ---- carrying out
 
-    /// Takes all memory that a plan needs; where it is wanting, the namespace stays. A plan whose
-    /// changes add nothing, and that isn't kept, needs none.
+    /// Takes all memory that a plan needs; where it is wanting, the namespace stays, with exactly as
+    /// many slots as before. A plan whose changes add nothing, and that isn't kept, needs none.
     pub fn reserve(&mut self, plan: &Plan) -> Result<(), AllocError>
         ensures state { engine_state self.new ≡ engine_state self.old }
         ensures room { OnOk result ((moment : ℕ) → IsSound (engine_state self.old) moment plan.now → HasRoom self.new moment plan.now) }
         ensures free { is_some plan.now.kept ≡ false → adds_nothing plan.now.changes ≡ true → IsOk result }
+        ensures kept { OnErr result (engine_stock self.new ≡ engine_stock self.old) }
     {
         if plan.is_kept() {
             self.clients.reserve(1)?;
@@ -228,14 +218,14 @@ impl Engine {
         self.space.reserve(plan.changes())
     }
 
-    /// Carries a plan out at a moment, in ms since 1970; it takes no memory. Where the moment that is
-    /// kept for `is_due` has come, this looks at each open transaction.
+    /// Carries a plan out at a moment, in ms since 1970; it takes no memory.
     pub fn commit(&mut self, moment: u64, plan: Plan) -> Answered
         requires room { HasRoom self.old moment plan }
         ensures state { engine_state self.new ≡ carried_out moment plan (engine_state self.old) }
         ensures answered { result ≡ plan.answered }
     {
         let (changes, answered, kept) = plan.into_parts();
+        self.entered.note(&self.space, &changes);
         carry_changes(&mut self.space, moment, changes);
         keep(&mut self.clients, kept);
         self.moment = moment;
@@ -247,7 +237,7 @@ impl Engine {
     pub fn take_entered(&mut self) -> u64
         ensures same { self.new ≡ self.old }
     {
-        self.space.take_entered()
+        self.entered.take()
     }
 
     // ---- numbers
@@ -259,17 +249,17 @@ impl Engine {
         ensures { result ≡ summary_of (engine_state self.now) 0 }
     {
         Summary {
-            copies: self.space.as_store().live(),
-            entities: self.space.as_store().entities().len() as u64,
+            copies: self.space.live(),
+            entities: self.space.entities().len() as u64,
             events: 0,
-            made: self.space.as_store().made(),
+            made: self.space.made(),
             now: self.moment,
         }
     }
 }
 
 // Changes are carried out where there are any.
-fn carry_changes(space: &mut Watched, moment: u64, changes: Changes)
+fn carry_changes(space: &mut SpaceStore, moment: u64, changes: Changes)
     requires room { IsRoomFor changes space.old }
     requires numbered { is_none_in changes ≡ false → is_numbered moment changes (space_in space.old) ≡ true }
     ensures { space_in space.new ≡ after_all moment changes (space_in space.old) }

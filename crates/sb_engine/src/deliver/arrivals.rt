@@ -2,6 +2,8 @@
 // when to look again.
 use sb_entities::SpaceStore;
 use sb_machine::{Change, Changes, LeafChange, LeafKey, Part, Path};
+use std::marker::Model;
+use std::mem;
 
 // The first value and the factor of the hash FNV-1a of 64 bits.
 const FIRST: u64 = 0xcbf2_9ce4_8422_2325;
@@ -10,6 +12,42 @@ const FACTOR: u64 = 0x0000_0100_0000_01b3;
 
 // The last bytes reach the upper bits of the hash by this factor, an odd one near 2^64 / 1.618.
 const MIXES: u64 = 0x9e37_79b9_7f4a_7c15;
+
+/// The marks of parts that are noted. Clauses see nothing of them.
+#[derive(Drop)]
+pub(crate) struct Marks {
+    bits: u64,
+}
+
+impl Model for Marks {
+    ghost use Rattle.std.specs.Prelude.{⊤};
+
+    ghost Value = { ⊤ };
+
+    ghost view = { λ _. tt };
+}
+
+impl Marks {
+    pub(crate) fn new() -> Marks {
+        Marks { bits: 0 }
+    }
+
+    /// Notes those of the parts in which these changes bring something to receive, or make a session
+    /// free.
+    pub(crate) fn note(&mut self, space: &SpaceStore, changes: &Changes) {
+        for place in 0..changes.len() {
+            let Some(change) = changes.get(place) else {
+                return;
+            };
+            self.bits |= marks_by(space, change);
+        }
+    }
+
+    /// Those that were noted since they were taken last.
+    pub(crate) fn take(&mut self) -> u64 {
+        mem::replace(&mut self.bits, 0)
+    }
+}
 
 /// The mark of a part of an entity: three of 64 bits, some of which may be one, by a hash of its path. Of
 /// some 10,000 others one has no bit besides.
@@ -39,18 +77,6 @@ fn number_of(part: Part) -> u8 {
 
 fn bit_of(number: u64) -> u64 {
     1 << (number % 64)
-}
-
-/// The marks of the parts in which these changes bring something to receive, or make a session free.
-pub(crate) fn marks_of(space: &SpaceStore, changes: &Changes) -> u64 {
-    let mut marks = 0;
-    for place in 0..changes.len() {
-        let Some(change) = changes.get(place) else {
-            return marks;
-        };
-        marks |= marks_by(space, change);
-    }
-    marks
 }
 
 fn hashed(hash: u64, bytes: &[u8]) -> u64 {

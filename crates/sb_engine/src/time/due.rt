@@ -1,4 +1,4 @@
-// Whether something is due.
+// Whether something is due, and when the next thing is.
 ghost use Rattle.std.specs.Prelude.{◌≡◌, nat_le};
 ghost use Rattle.std.specs.List.{list_any};
 ghost use Rattle.sb_machine.specs.Due as machine;
@@ -6,7 +6,7 @@ ghost use Rattle.sb_entities.specs.Stores.{leaf_in, entity_in, entities_in, spac
 ghost use Rattle.sb_txn.specs.Txns.{transactions_of};
 ghost use Rattle.sb_engine.specs.Deadlines as spec;
 
-use crate::time::deadlines::{copy_deadline, expires_as, has_passed, session_deadline};
+use crate::time::deadlines::{copy_deadline, has_passed, session_deadline};
 use sb_copies::Shelf;
 use sb_entities::{EntityStore, PartStore, SpaceStore};
 use sb_machine::{Part, Session, StoredCopy};
@@ -42,26 +42,10 @@ pub fn any_session(sessions: &[Session], moment: u64) -> bool
         .any(|x| has_passed(session_deadline(x), moment))
 }
 
-// Whether the least moment of a part's copies tells if one is due.
-fn tells(part: Part, copies: &Shelf, moment: u64) -> bool
-    ensures { result ≡ spec.tells part copies.now.expires moment }
-{
-    expires_as(part, copies.expires()) && moment < u64::MAX
-}
-
-fn any_in(part: Part, copies: &Shelf, moment: u64) -> bool
-    ensures { result ≡ list_any (λ c. spec.has_passed moment (spec.copy_deadline part c)) copies.now.copies }
-{
-    if tells(part, copies, moment) {
-        return copies.least_due() <= moment;
-    }
-    any_copy(part, copies, moment)
-}
-
 fn comes_in(part: Part, store: &PartStore, moment: u64) -> bool
     ensures { result ≡ spec.comes_in moment part (leaf_in store.now) }
 {
-    any_session(store.sessions().as_slice(), moment) || any_in(part, store.copies(), moment)
+    any_session(store.sessions().as_slice(), moment) || any_copy(part, store.copies(), moment)
 }
 
 fn comes_of(entity: &EntityStore, moment: u64) -> bool
@@ -94,26 +78,40 @@ fn any_transaction(rows: &[OpenTransaction], moment: u64) -> bool
     false
 }
 
-// At the last moment the least one doesn't tell whether something comes due then or nothing ever does.
-fn entity_comes(space: &SpaceStore, moment: u64) -> bool
-    ensures { result ≡ list_any (spec.comes_of moment) (space_in space.now).entities }
-{
-    if moment < u64::MAX {
-        return space.least_due() <= moment;
-    }
-    any_entity(space.entities(), moment)
-}
-
+// Looks at each copy, session and transaction.
 fn comes(space: &SpaceStore, moment: u64) -> bool
     ensures { result ≡ spec.comes moment (space_in space.now) }
 {
-    entity_comes(space, moment) || any_transaction(space.txns().as_slice(), moment)
+    any_entity(space.entities(), moment) || any_transaction(space.txns().as_slice(), moment)
 }
 
-/// Whether something is due at `moment`, in ms since 1970: this looks at each open transaction, and
-/// at the last moment at each copy.
+fn least_deadline(rows: &[OpenTransaction]) -> u64
+    ensures { result ≡ spec.least_deadline (transactions_of rows.now) }
+{
+    let mut least = u64::MAX;
+    for row in rows {
+        least = least.min(row.deadline());
+    }
+    least
+}
+
+/// The first moment at which something is due, in ms since 1970; `u64::MAX` where nothing ever is.
+/// This looks at each open transaction, at no entity.
+pub fn soonest(space: &SpaceStore) -> u64
+    ensures { result ≡ spec.soonest (space_in space.now) }
+{
+    space
+        .least_due()
+        .min(least_deadline(space.txns().as_slice()))
+}
+
+/// Whether something is due at `moment`, in ms since 1970. At the last moment that there is the
+/// soonest one doesn't tell: it is the same where nothing ever is due.
 pub fn is_due(space: &SpaceStore, moment: u64) -> bool
     ensures { result ≡ machine.is_due moment (space_in space.now) }
 {
+    if moment < u64::MAX {
+        return soonest(space) <= moment;
+    }
     comes(space, moment)
 }
