@@ -1,0 +1,9 @@
+pub mod Items
+pub mod Lists
+pub mod ExactCopies
+pub mod ExactSessions
+pub mod ExactEntities
+pub mod ExactTransactions
+pub mod ExactReplies
+pub mod Gathered
+pub mod Spelling

@@ -1,0 +1,21 @@
+//! A whole state of the namespace as bytes: one spelling a state, read back exactly.
+//!
+//! The bytes are the base of a journal's file, behind which its records stand. They say all that a
+//! state holds but for the namespace's salt, which the file's head has. The crate stands on
+//! `sb_machine`, whose states these are, and on `sb_codec`, whose forms of messages, acts and
+//! descriptions stand here too. Its one contract: [`one_base`] says that a state that has a spelling
+//! (`specs/Base`) has one of its own, which begins no other, and that bytes are read as a state
+//! exactly where they spell it.
+//!
+//! ```text
+//! one_base(); // state_of salt (base_of s) is s again
+//! ```
+#![tactic(auto)]
+
+mod laws;
+mod parts;
+mod worked;
+
+pub use laws::one_base;
+pub use parts::{EntityHead, Parts, PlacedLeaf, PlacedSession};
+pub use worked::worked_bases;
