@@ -16,7 +16,7 @@ use Rattle.sb_codec.specs.Readers.{◌>>=◌}
 use Rattle.sb_codec.proofs.Exact.{bind_some, some_is, chosen}
 use Rattle.sb_snapshot.specs.Base.{head_of, placed_leaf, leaves_in, placed_sessions, sessions_in, parts_of, lies_in, front_of, behind, is_part, has_parts, entity_with, entities_with, state_with, gathered}
 use Rattle.sb_snapshot.specs.Entities.{head, is_next_head}
-use Rattle.sb_snapshot.specs.Sessions.{is_same_key}
+use Rattle.sb_snapshot.specs.Sessions.{in_part, is_same_key}
 use Rattle.sb_snapshot.specs.declared.parts.EntityHead.{EntityHead}
 use Rattle.sb_snapshot.specs.declared.parts.Parts.{Parts}
 use Rattle.sb_snapshot.specs.declared.parts.PlacedLeaf.{PlacedLeaf}
@@ -38,9 +38,6 @@ part_same Transfer Transfer e = refl
 abbrev key_from : ℕ → Part → LeafKey
 key_from n p = record { entity = n; part = p }
 
-abbrev session_at : LeafKey → Session → PlacedSession
-session_at key s = record { key = key; session = s }
-
 key_same : (a b : LeafKey) → is_same_key a b ≡ true → a ≡ b
 key_same a b e =
     let tests = and_parts (eqb (part_code a.part) (part_code b.part)) (eqb a.entity b.entity) e in
@@ -48,7 +45,7 @@ key_same a b e =
     let kinds : a.part ≡ b.part = part_same a.part b.part (eqb-true (part_code a.part) (part_code b.part) tests.0) in
     ap (λ (n : ℕ). key_from n a.part) numbers ∙ ap (λ (p : Part). key_from b.entity p) kinds
 
-key_self : (a : LeafKey) → is_same_key a a ≡ true
+pub key_self : (a : LeafKey) → is_same_key a a ≡ true
 key_self a = and_from (eqb (part_code a.part) (part_code a.part)) (eqb a.entity a.entity) (eq-eqb _ _ refl) (eq-eqb _ _ refl)
 
 -- ---- the front of a list
@@ -65,7 +62,7 @@ front_no {X} p x xs e =
 
 -- sessions with the key of a part
 abbrev tagged : LeafKey → List Session → List PlacedSession
-tagged key ss = map (session_at key) ss
+tagged key ss = map (in_part key) ss
 
 abbrev untagged : List PlacedSession → List Session
 untagged xs = map (λ x. x.session) xs
@@ -80,7 +77,7 @@ retagged key k (x ∷ xs) same = by_test (lies_in key x) refl (retagged key k xs
   by_test true e others =
       let f = front_yes (lies_in key) x xs e in
       let own : x.key ≡ k = key_same x.key key e ∙ same in
-      let first : session_at k x.session ≡ x = sym (ap (λ (v : LeafKey). session_at v x.session) own) in
+      let first : in_part k x.session ≡ x = sym (ap (λ (v : LeafKey). in_part v x.session) own) in
       rw (f.0, f.1) (ap (λ (v : PlacedSession). v ∷ (tagged k (untagged (front_of key xs)) ++ behind key xs)) first ∙ ap (λ (v : List PlacedSession). x ∷ v) others)
   by_test false e others =
       let f = front_no (lies_in key) x xs e in
@@ -164,7 +161,7 @@ in_front : (key : LeafKey) (ss : List Session) (rest : List PlacedSession) → I
 in_front key [] [] none = (refl, refl)
 in_front key [] (x ∷ rest) none = let f = front_no (lies_in key) x rest none.0 in (ap untagged f.0, f.1)
 in_front key (s ∷ ss) rest none =
-    let f = front_yes (lies_in key) (session_at key s) (tagged key ss ++ rest) (key_self key) in
+    let f = front_yes (lies_in key) (in_part key s) (tagged key ss ++ rest) (key_self key) in
     let others = in_front key ss rest none in
     (ap untagged f.0 ∙ ap (λ (v : List Session). s ∷ v) others.0, f.1 ∙ others.1)
 

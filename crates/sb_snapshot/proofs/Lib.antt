@@ -7,3 +7,6 @@ pub mod ExactTransactions
 pub mod ExactReplies
 pub mod Gathered
 pub mod Spelling
+pub mod Ordered
+pub mod AskedMessages
+pub mod Asked

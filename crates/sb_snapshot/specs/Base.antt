@@ -14,7 +14,7 @@ use Rattle.sb_codec.specs.Readers.{◌>>=◌}
 use Rattle.sb_snapshot.specs.Entities.{head, is_next_head}
 use Rattle.sb_snapshot.specs.Lists.{listed64, narrowed}
 use Rattle.sb_snapshot.specs.Replies.{kept, is_next_kept}
-use Rattle.sb_snapshot.specs.Sessions.{is_same_key, leaf, session, is_next_session}
+use Rattle.sb_snapshot.specs.Sessions.{in_part, is_same_key, leaf, session, is_next_session}
 use Rattle.sb_snapshot.specs.Transactions.{transaction, is_next_transaction}
 use Rattle.sb_snapshot.specs.declared.parts.EntityHead.{EntityHead}
 use Rattle.sb_snapshot.specs.declared.parts.Parts.{Parts}
@@ -37,7 +37,7 @@ leaves_in e = placed_leaf e Main ∷ placed_leaf e Dead ∷ placed_leaf e Transf
 
 -- the sessions of a part, each with the part's key
 abbrev pub placed_sessions : Entity → Part → List PlacedSession
-placed_sessions e part = map (λ x. record { key = key_of part e; session = x }) (leaf_of part e).sessions
+placed_sessions e part = map (in_part (key_of part e)) (leaf_of part e).sessions
 
 -- the sessions of an entity, part by part
 abbrev pub sessions_in : Entity → List PlacedSession

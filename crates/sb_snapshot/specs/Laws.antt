@@ -1,8 +1,10 @@
 -- Laws of the base, over all states and bytes.
 use Rattle.std.specs.Prelude.{◌≡◌, ◌<◌, ℕ, List, [], ◌++◌, Some}
+use Rattle.sb_machine.specs.Consistent.{IsConsistent}
 use Rattle.sb_machine.specs.Each.{Each}
 use Rattle.sb_machine.specs.declared.state.State.{State}
 use Rattle.sb_snapshot.specs.Base.{base_of, HasSpelling, IsSpellable, state_of}
+use Rattle.sb_snapshot.specs.Bounded.{IsBounded}
 
 -- numbers that one byte holds
 abbrev pub AreBytes : List ℕ → Type 0
@@ -27,3 +29,7 @@ BeginsNone = (a b : State) (x : List ℕ) → HasSpelling a → HasSpelling b �
 -- what has a spelling may be written
 abbrev pub IsWrittenAgain : Type 0
 IsWrittenAgain = (s : State) → HasSpelling s → IsSpellable s
+
+-- a consistent state may be written, where its ids and what is remembered for clients are within their limits
+abbrev pub ConsistentIsWritten : Type 0
+ConsistentIsWritten = (s : State) → IsConsistent s → IsBounded s → IsSpellable s

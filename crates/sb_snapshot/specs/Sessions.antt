@@ -3,6 +3,7 @@ use Rattle.std.specs.Prelude.{Bool, true, nat_lt, ◌==◌, ◌&&◌, ◌||◌, 
 use Rattle.sb_machine.specs.Names.{is_before}
 use Rattle.sb_machine.specs.declared.change.LeafKey.{LeafKey}
 use Rattle.sb_machine.specs.declared.state.Holder.{Holder}
+use Rattle.sb_machine.specs.declared.state.Session.{Session}
 use Rattle.sb_codec.specs.Forms.{Form, number64, blob, text, ◌then◌, shaped, optional}
 use Rattle.sb_codec.specs.Pieces.{part_code, part}
 use Rattle.sb_snapshot.specs.Copies.{copy, is_next_copy}
@@ -33,6 +34,10 @@ leaf = shaped (λ x. record { key = x.0; last = x.1.0; copies = x.1.1 }) (λ l. 
 -- the number of the lock that holds a session, and the moment up to which it lives
 unfoldable pub holder : Form Holder
 holder = shaped (λ x. record { lock = x.0; until = x.1 }) (λ h. (h.lock, h.until)) (number64 then number64)
+
+-- a session that lies in this part
+abbrev pub in_part : LeafKey → Session → PlacedSession
+in_part key x = record { key = key; session = x }
 
 -- a session: where it lies, its id, the bytes that it remembers, and who holds it
 unfoldable pub session : Form PlacedSession

@@ -1,5 +1,5 @@
 // Laws of the base: a function without effect whose contract is the statements of specs/Laws.
-ghost use Rattle.sb_snapshot.specs.Laws.{ReadsBack, IsReadAsSpelled, IsSpelledOnce, BeginsNone, IsWrittenAgain};
+ghost use Rattle.sb_snapshot.specs.Laws.{ReadsBack, IsReadAsSpelled, IsSpelledOnce, BeginsNone, IsWrittenAgain, ConsistentIsWritten};
 
 /// Each state that has a base has one of its own, which begins no other and is read back; and
 /// bytes are read only as the state whose base they are.
@@ -9,4 +9,10 @@ pub fn one_base()
     ensures once { IsSpelledOnce }
     ensures apart { BeginsNone }
     ensures again { IsWrittenAgain }
+{}
+
+/// A consistent state may be written, where its ids and what is remembered for clients are within
+/// their limits.
+pub fn consistent_is_written()
+    ensures { ConsistentIsWritten }
 {}

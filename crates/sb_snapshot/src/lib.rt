@@ -16,6 +16,6 @@ mod laws;
 mod parts;
 mod worked;
 
-pub use laws::one_base;
+pub use laws::{consistent_is_written, one_base};
 pub use parts::{EntityHead, Parts, PlacedLeaf, PlacedSession};
 pub use worked::worked_bases;
