@@ -35,11 +35,11 @@ where_uncreated : (bytes : List ℕ) (b : Bool) → (if b then sound_or_damaged 
 where_uncreated bytes true e = absurd (sound_is_created bytes (head_fault bytes) e)
 where_uncreated bytes false e = (refl, where_free (nat_le (length bytes) 43) e)
 
-uncreated_isnt : (bytes : List ℕ) → framing bytes ≡ Uncreated → is_created bytes ≡ false
+pub uncreated_isnt : (bytes : List ℕ) → framing bytes ≡ Uncreated → is_created bytes ≡ false
 unfolding framing
 uncreated_isnt bytes e = (where_uncreated bytes (is_created bytes) e).0
 
-uncreated_short : (bytes : List ℕ) → framing bytes ≡ Uncreated → length bytes ≤ 43
+pub uncreated_short : (bytes : List ℕ) → framing bytes ≡ Uncreated → length bytes ≤ 43
 unfolding framing
 uncreated_short bytes e = let short = (where_uncreated bytes (is_created bytes) e).1 in grind (arith, nat_tests)
 

@@ -8,6 +8,8 @@ use Rattle.std.proofs.lemmas.Bool.Decides.{nat_tests}
 use Rattle.std.proofs.lemmas.Slice.Eq.{bytes_eq-Decides}
 use Rattle.sb_journal.specs.Text.{File, magic, head, records, file_text, AreBytes, max_count}
 use Rattle.sb_journal.specs.Framing.{Framing, Whole, Damaged, Uncreated, Occupied, free_or_occupied, first_failing, is_created, number_at, is_count, base_length, base_in, behind_base, head_fault, read, payloads_in, file_with, whole_or_damaged, sound_or_damaged, framing}
+use Rattle.sb_journal.specs.Choosing.{headed, headed_by, headless}
+use Rattle.sb_journal.specs.declared.choosing.Headed.TheVariants.{Generation}
 use Rattle.sb_journal.specs.Text.{IsWithin, Spelled, Spells}
 use Rattle.sb_journal.specs.Opened.{IsHead, HasBase}
 use Rattle.sb_journal.specs.Pieces.{BeginsWith}
@@ -109,40 +111,41 @@ from_bytes_small bytes place are =
 abbrev pub file_of : Head → List ℕ → List (List ℕ) → File
 file_of h base ps = record { salt = h.salt; generation = h.generation; first = h.first; base = base; payloads = ps }
 
-front_number : (place : ℕ) (part tail : List ℕ) → place + 8 ≤ length part → number_at place (part ++ tail) ≡ number_at place part
+pub front_number : (place : ℕ) (part tail : List ℕ) → place + 8 ≤ length part → number_at place (part ++ tail) ≡ number_at place part
 front_number place part tail long =
     ap (λ (l : List ℕ). from_be_bytes w64 (take 8 l)) (drop-append-le place part tail (omega (arith, long)))
     ∙ ap (from_be_bytes w64) (take-append-le 8 (drop place part) tail (omega (arith, long, length-drop place part)))
 
--- what a part that begins the bytes says of their head
-module _ (part bytes : List ℕ) (starts : BeginsWith part bytes) where
-  front_created : 43 ≤ length part → is_created (part ++ starts.tail) ≡ is_created part
-  front_created long =
-      let gate = get_or_append_left part starts.tail 0 0 (omega (arith, long)) in
-      let all = length-append part starts.tail in
+-- what a part of so many bytes says of the head of all that it begins
+module _ (part tail : List ℕ) (long : 43 ≤ length part) where
+  pub front_created : is_created (part ++ tail) ≡ is_created part
+  front_created =
+      let gate = get_or_append_left part tail 0 0 (omega (arith, long)) in
+      let all = length-append part tail in
       grind (arith, nat_tests, gate, all, long)
 
-  front_fault : 43 ≤ length part → head_fault (part ++ starts.tail) ≡ head_fault part
+  pub front_fault : head_fault (part ++ tail) ≡ head_fault part
   unfolding head_fault
-  front_fault long =
-      let tail = starts.tail in
+  front_fault =
       let words : take 8 (drop 1 (part ++ tail)) ≡ take 8 (drop 1 part) = ap (take 8) (drop-append-le 1 part tail (omega (arith, long))) ∙ take-append-le 8 (drop 1 part) tail (omega (arith, long, length-drop 1 part)) in
       let version : slice_index (part ++ tail) 9 ≡ slice_index part 9 = get_or_append_left part tail 0 9 (omega (arith, long)) in
       let generation = front_number 18 part tail (omega (arith, long)) in
       let first = front_number 26 part tail (omega (arith, long)) in
       cc
 
+-- what a part that begins the bytes says of their head
+module _ (part bytes : List ℕ) (starts : BeginsWith part bytes) where
   no_tail : starts.tail ≡ [] → bytes ≡ part
   no_tail none = starts.is ∙ ap (λ (l : List ℕ). part ++ l) none ∙ append-nil part
 
   pub created_by : (b : Bool) → is_created part ≡ b → is_created bytes ≡ b
   created_by b is = elim starts.enough [
-    | inl long ↦ ap is_created starts.is ∙ front_created (omega (arith, long)) ∙ is
+    | inl long ↦ ap is_created starts.is ∙ front_created part starts.tail (omega (arith, long)) ∙ is
     | inr none ↦ ap is_created (no_tail none) ∙ is
   ]
 
   pub fault_by : (o : Option ℕ) → is_created part ≡ true → head_fault part ≡ o → head_fault bytes ≡ o
-  fault_by o created is = ap head_fault starts.is ∙ front_fault (created_is part created).0 ∙ is
+  fault_by o created is = ap head_fault starts.is ∙ front_fault part starts.tail (created_is part created).0 ∙ is
 
   pub head_by : (h : Head) → IsHead h part → IsHead h bytes
   head_by h is = record {
@@ -286,3 +289,16 @@ test_short bytes short = grind (arith, nat_tests)
 
 pub test_closed : (bytes : List ℕ) → slice_index bytes 0 ≢ 1 → is_created bytes ≡ false
 test_closed bytes shut = grind (arith, nat_tests)
+
+-- where a whole file is read, its generation is what the head says
+pub headed_whole : (bytes : List ℕ) (f : File) → framing bytes ≡ Whole f → headed bytes ≡ Generation f.generation
+unfolding framing headed
+headed_whole bytes f e =
+    let a = where_created bytes (is_created bytes) (sound_or_damaged bytes (head_fault bytes)) f e in
+    let b = where_sound bytes (head_fault bytes) f a.1 in
+    let c = where_whole bytes (payloads_in bytes) f b.1 in
+    ap (λ (t : Bool). if t then headed_by bytes (head_fault bytes) else headless bytes) a.0 ∙ ap (headed_by bytes) b.0 ∙ ap (λ (g : File). Generation g.generation) (sym c.2)
+
+pub headed_none : (bytes : List ℕ) → is_created bytes ≡ false → headed bytes ≡ headless bytes
+unfolding headed
+headed_none bytes isnt = ap (λ (t : Bool). if t then headed_by bytes (head_fault bytes) else headless bytes) isnt

@@ -1,8 +1,9 @@
 -- When a disk has a whole file on it, and what a crash may leave while a record is added, a file is made, or an opening goes on.
-use Rattle.std.specs.Prelude.{◌≡◌, ◌⊎◌, ◌+◌, ◌≤◌, ℕ, List, [], ◌∷◌, ◌++◌, length, drop, max, slice_index, false}
-use Rattle.sb_outside.specs.Held.{Held, at_rest, is_written}
+use Rattle.std.specs.Prelude.{◌≡◌, ◌⊎◌, ◌+◌, ◌≤◌, ℕ, List, [], ◌∷◌, ◌++◌, length, drop, max, slice_index, true, false}
+use Rattle.sb_outside.specs.Held.{Held, IsImage, at_rest, is_written}
 use Rattle.sb_journal.specs.Text.{File, framed, records, file_text, new_bytes, with_payloads, IsWithin}
 use Rattle.sb_journal.specs.Framing.{Framing, Uncreated, Occupied, Whole, Damaged, framing, is_created}
+use Rattle.sb_journal.specs.Choosing.{is_unshut}
 
 -- The file and its closed end gate are on the disk, all of it safe. Behind the gate may stand what is left of a torn
 -- record.
@@ -81,6 +82,15 @@ MayLeave salt seen Uncreated bytes = (framing bytes ≡ Uncreated) ⊎ (bytes �
 MayLeave salt seen Occupied bytes = bytes ≡ seen
 MayLeave salt seen (Whole file) bytes = (bytes ≡ seen) ⊎ IsTornEnd file seen bytes
 MayLeave salt seen (Damaged place) bytes = bytes ≡ seen
+
+-- While what stands beside the file that counts is shut, its first byte alone may be another.
+abbrev pub MayShut : (was bytes : List ℕ) → Type 0
+MayShut was bytes = (bytes ≡ was) ⊎ ((is_unshut was ≡ true) × (gate : ℕ) × (bytes ≡ gate ∷ drop 1 was))
+
+-- a crash now leaves no file that counts here, and nothing that an opening shuts
+pub record IsAside (held : Held) : Type 0 where
+  pub shut : (image : List ℕ) → IsImage held image → is_unshut image ≡ false
+  pub seen : is_unshut held.seen ≡ false
 
 -- ---- of the bytes of both disks: disk b doesn't count yet
 

@@ -1,5 +1,6 @@
 -- The journal, in the order to read it: Text (the bytes of a file), Framing (what bytes stand for), Judges, Opened, Unopened, Journals (what
 -- contracts see); Disks, Pieces, Moments, Crashes (what a crash may leave, and when); Laws.
+pub mod Choosing
 pub mod Crashes
 pub mod Disks
 pub mod Framing

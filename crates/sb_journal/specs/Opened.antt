@@ -3,6 +3,8 @@ use Rattle.std.specs.Prelude.{◌≡◌, ◌⊎◌, ◌≤◌, ◌<◌, ◌+◌,
 use Rattle.sb_outside.specs.Held.{Held, at_rest}
 use Rattle.sb_journal.specs.declared.found.Side.{Side}
 use Rattle.sb_journal.specs.declared.found.Side.TheVariants.{A}
+use Rattle.sb_journal.specs.declared.choosing.Choice.TheVariants.{Counts}
+use Rattle.sb_journal.specs.declared.choosing.Picked.{Picked}
 use Rattle.sb_journal.specs.declared.found.Found.{Found}
 use Rattle.sb_journal.specs.declared.reading.Head.{Head}
 use Rattle.sb_journal.specs.declared.reading.HeadFault.{HeadFault}
@@ -18,6 +20,7 @@ use Rattle.sb_journal.specs.declared.reading.Reading.TheVariants.{NoFile, OtherF
 use Rattle.sb_journal.specs.Judges.{IsRefused, IsFileRefused, IsVerdict}
 use Rattle.sb_journal.specs.Text.{File, new_file, file_text, first_gate, gate_after, records, with_payloads, IsWithin, Spelled, Spells, HasText}
 use Rattle.sb_journal.specs.Framing.{Framing, Uncreated, Occupied, Whole, Damaged, framing, is_created, new_length, head_fault, number_at, base_length}
+use Rattle.sb_journal.specs.Choosing.{sided, chosen, is_unshut}
 
 -- what an opening finds
 pub data Opened : Type 0 where
@@ -72,6 +75,11 @@ pub record IsJudged {J : Type 0} (G : Ghosts J) (honest : Type 0) (found : Opene
 -- refuses the base, which is there, or the payload behind the gate there.
 abbrev pub IsDamagedFor : {J : Type 0} (G : Ghosts J) → Opened → Side → ℕ → Type 0
 IsDamagedFor G found side place = (found ≡ Damage side place) ⊎ ((file : File) × (found ≡ Stands side file) × IsFileRefused G place file)
+
+-- The file of this side counts, and whether what stands on the other disk isn't shut.
+pub record IsPicked (p : Picked) (a b : List ℕ) : Type 0 where
+  pub counts : chosen a b ≡ Counts p.side
+  pub unshut : p.unshut ≡ is_unshut (sided p.side b a)
 
 -- whether this place has a closed gate
 abbrev pub is_shut : ℕ → List ℕ → Bool

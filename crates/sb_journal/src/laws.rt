@@ -1,5 +1,5 @@
 // What holds of the file format itself. Each law is the contract of a function that does nothing.
-ghost use Rattle.sb_journal.specs.Laws.{ReadsBack, ReadsBackCut, SpellsOnly, NewFileBytes, NewIsFound, OtherIsRefused, TornIsFound, TornIsKept};
+ghost use Rattle.sb_journal.specs.Laws.{ChoiceIsWorked, FrontsChoose, LaterIsChosen, OneIsChosen, SameIsHurt, ReadsBack, ReadsBackCut, SpellsOnly, NewFileBytes, NewIsFound, OtherIsRefused, TornIsFound, TornIsKept};
 
 /// A whole file is read back as itself, whatever stands behind its closed end gate, and also where
 /// the end gate is missing behind a record.
@@ -30,4 +30,14 @@ pub fn keeps_what_may_be_a_file()
 pub fn recovers_from_torn_appends()
     ensures found { TornIsFound }
     ensures kept { TornIsKept }
+{}
+
+/// Of the files on two disks the one of greater generation is chosen, by the begin of each disk alone: nothing opens
+/// so yet.
+pub fn chooses_the_later_file()
+    ensures later { LaterIsChosen }
+    ensures same { SameIsHurt }
+    ensures one { OneIsChosen }
+    ensures fronts { FrontsChoose }
+    ensures worked { ChoiceIsWorked }
 {}

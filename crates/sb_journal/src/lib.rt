@@ -22,7 +22,9 @@
 #![tactic(auto)]
 
 mod append;
+mod aside;
 mod base;
+mod choosing;
 mod collecting;
 mod creating;
 mod found;

@@ -3,7 +3,7 @@ ghost use Rattle.std.specs.Prelude.{◌≡◌, ◌≢◌, ◌≤◌, ◌<◌, �
 ghost use Rattle.sb_outside.specs.Causes.{HasCause, RoseByOne};
 
 use crate::append::FRAME_BYTES;
-use crate::reading::MAX_PAYLOAD;
+use crate::reading::{MAX_PAYLOAD, NEW_FILE_BYTES};
 use sb_outside::{Disk, DiskFault};
 use std::alloc::Global;
 
@@ -12,6 +12,10 @@ const LONGEST_RECORD: usize = MAX_PAYLOAD + FRAME_BYTES;
 
 // A piece has at most so many bytes; of no more than half of them the next one is read again.
 const PIECE_BYTES: usize = 2 * LONGEST_RECORD;
+
+// The bytes of a new file and one more: by so many it is seen which file counts, and whether more stands there than a
+// new one has.
+const FRONT_BYTES: usize = NEW_FILE_BYTES + 1;
 
 // Why the bytes of a disk weren't read.
 #[derive(Clone, Copy)]
@@ -113,6 +117,28 @@ impl Piece {
     {
         &self.bytes[place - self.from..]
     }
+}
+
+// What stands at the begin of a disk: as much as tells which file counts.
+pub(crate) fn front_of<D: Disk>(alloc: Global, disk: &mut D) -> Result<Vec<u8>, BytesFault>
+    ensures honesty { D.honest disk.new ≡ D.honest disk.old }
+    ensures front { IsTrue (D.honest disk.old) → IfOk result (λ v. v.items ≡ take 44 (D.held disk.old).seen) }
+    ensures same { IsTrue (D.honest disk.old) → (D.held disk.new ≡ D.held disk.old) × (D.past disk.new ≡ D.past disk.old) }
+    ensures later { D.count disk.old ≤ D.count disk.new }
+    ensures passed { OnOk result (D.count disk.new ≡ D.count disk.old) }
+    ensures cause { IfErr result (λ e. e ≡ BytesFault.Disk → RoseByOne (D.count disk.old) (D.count disk.new)) }
+    ensures memory { IfErr result (λ e. e ≢ BytesFault.Disk → D.count disk.new ≡ D.count disk.old) }
+{
+    let Ok(length) = disk.length() else {
+        return Err(BytesFault::Disk);
+    };
+    let Ok(mut bytes) = vec![in alloc; 0; (length as usize).min(FRONT_BYTES)] else {
+        return Err(BytesFault::Memory);
+    };
+    let Ok(()) = fill(disk, 0, &mut bytes) else {
+        return Err(BytesFault::Disk);
+    };
+    Ok(bytes)
 }
 
 // Reads behind the first `at` bytes of what stands from `from` on: one byte at least where there

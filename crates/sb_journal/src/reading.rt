@@ -20,7 +20,7 @@ use std::alloc::{AllocError, Global};
 pub(crate) const HEAD_BYTES: usize = 42;
 
 // The bytes of a new file: its gate, its head, and a closed gate.
-const NEW_FILE_BYTES: usize = HEAD_BYTES + 1;
+pub(crate) const NEW_FILE_BYTES: usize = HEAD_BYTES + 1;
 
 // A payload has at most so many bytes.
 pub(crate) const MAX_PAYLOAD: usize = 1_048_576;
@@ -32,7 +32,7 @@ const MAGIC: [u8; 8] = *b"SBNSJRNL";
 
 pub(crate) const VERSION: u8 = 1;
 
-fn number_at(bytes: &[u8], place: usize) -> u64
+pub(crate) fn number_at(bytes: &[u8], place: usize) -> u64
     requires { place + 8 ≤ length bytes.now }
     ensures { result ≡ from_be_bytes w64 (take 8 (drop place bytes.now)) }
 {
@@ -71,7 +71,7 @@ fn is_counted(number: u64) -> bool
 
 // The place of the first damage before the base.
 #[tactic(auto, unfolding(crate::specs::Framing::head_fault))]
-fn damage_of_head(bytes: &[u8]) -> Option<u64>
+pub(crate) fn damage_of_head(bytes: &[u8]) -> Option<u64>
     requires { 43 ≤ length bytes.now }
     ensures place { result ≡ head_fault bytes.now }
     ensures first { IfNone result (from_be_bytes w64 (take 8 (drop 26 bytes.now)) ≤ 2 ^ 62) }
