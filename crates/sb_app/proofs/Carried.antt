@@ -66,7 +66,7 @@ nothing_done salt was = record {
   unread = refl;
   unsaid = refl;
   untouched = λ honest same. (record { seen = refl; moments = inl (refl, refl) }, record { seen = refl; moments = inl (refl, refl) });
-  kept = λ honest ours. inl (refl, refl);
+  kept = λ honest. (λ ours. inl (refl, refl), inl (refl, refl));
 }
 
 unread_by : (salt : ℕ) (was : Outside) (end : RunEnd) → 7 ≡ status_of_end end → IsUnopened salt was was end

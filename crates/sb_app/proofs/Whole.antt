@@ -11,10 +11,11 @@ use Rattle.sb_machine.specs.declared.state.State.{State}
 use Rattle.sb_laws.proofs.Orders.{answers_legally, consistent_is_orderly}
 use Rattle.sb_laws.proofs.Outcomes.{answers_no_fault}
 use Rattle.sb_node.specs.declared.node.Node.{Node}
-use Rattle.sb_journal.specs.Disks.{Disks, AreHonest}
+use Rattle.sb_journal.proofs.Holding.{aside_kept}
+use Rattle.sb_journal.specs.Disks.{Disks, disks_of, AreHonest, KeepsOn, KeepsOne}
 use Rattle.sb_node.specs.Recovery.{Recovers, recovers, recovered_on}
 use Rattle.sb_node.proofs.Keeping.{kept_recovers as last_recovers}
-use Rattle.sb_node.specs.Nodes.{node_state, node_journal, node_last, node_disks, IsKept, IsDurable}
+use Rattle.sb_node.specs.Nodes.{node_aside, node_disk_a, node_disk_b, node_state, node_journal, node_last, node_disks, IsKept, IsDurable}
 use Rattle.sb_app.specs.Outside.{Outside}
 use Rattle.sb_node.proofs.Crashes.{found_leads, kept_leads}
 use Rattle.sb_app.specs.declared.script_line.ScriptLine.{ScriptLine}
@@ -109,3 +110,10 @@ whole_run clock days Safe salt was now ready start state refused status opening 
       says = is ∙ ap status_by run.says;
       moments = moments_of Safe salt start (script_lines run.input) was.disks ready now.disks opening run.moments;
     }
+
+-- the disk that doesn't count, from the opening on until the disks come back
+pub closed_aside : {D : Type 0} {B : Disk D} (first last : Node D B) (a b : D) (salt : ℕ) (was : Disks) → node_aside last ≡ node_aside first → a ≡ node_disk_a last → b ≡ node_disk_b last → KeepsOn salt (node_aside first).side was (node_disks first) → KeepsOne salt was (disks_of B a b)
+closed_aside {D} {B} first last a b salt was same is_a is_b kept =
+    let there : disks_of B a b ≡ node_disks last = λ i. disks_of B (is_a i) (is_b i) in
+    let side = (node_aside first).side in
+    (side, subst (λ (d : Disks). KeepsOn salt side was d) (sym there) (aside_kept (node_journal first) (node_journal last) salt was same kept))

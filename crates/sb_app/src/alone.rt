@@ -2,8 +2,8 @@
 ghost use Rattle.std.specs.Prelude.{◌≡◌, ◌≢◌, ◌⊎◌, ℕ, Bool, None, Some, Option, Err, IfErr};
 ghost use Rattle.sb_outside.specs.Causes.{RoseByOne};
 ghost use Rattle.sb_machine.specs.Consistent.{IsConsistent};
-ghost use Rattle.sb_journal.specs.Disks.{HaveFailed, AreQuiet, SameHonesty};
-ghost use Rattle.sb_node.specs.Nodes.{node_state, node_stopped, node_disk_b, node_disks, IsKept};
+ghost use Rattle.sb_journal.specs.Disks.{disks_of, AreHonest, KeepsOne, HaveFailed, AreQuiet, SameHonesty};
+ghost use Rattle.sb_node.specs.Nodes.{node_state, node_stopped, node_aside, node_disks, IsKept};
 ghost use Rattle.sb_words.specs.declared.command.WordsFault.TheVariants.{BadWords};
 ghost use Rattle.sb_app.specs.Outside.{outside_of};
 ghost use Rattle.sb_app.specs.Nodes.{outside_with};
@@ -48,10 +48,10 @@ pub fn carry_out<D: Disk, C: Clock, S: Source, K: Sink, N: Link>(
 ) -> (u8, D, D)
     ensures done { (task : Option Task) (days : ℕ) → IsNamed task days named → IsCall (C.reads clock.now) days task salt (outside_of D.Disk S.Source K.Sink disk_a disk_b input.old output.old) (outside_of D.Disk S.Source K.Sink result.1 result.2 input.new output.new) (exchanges_of key.now N.Link link.old) (exchanges_of key.now N.Link link.new) result.0 }
     ensures usage { result.0 ≡ 2 → named ≡ Err BadWords }
-    ensures usage_alone { result.0 ≡ 2 → (result.1 ≡ disk_a) × (input.new ≡ input.old) }
+    ensures usage_alone { result.0 ≡ 2 → (result.1 ≡ disk_a) × (result.2 ≡ disk_b) × (input.new ≡ input.old) }
     ensures unread { IfErr named (λ _. input.new ≡ input.old) }
-    ensures client_alone { (task : Option Task) (days : ℕ) → IsNamed task days named → task ≡ Some Client → result.1 ≡ disk_a }
-    ensures disk_b { result.2 ≡ disk_b }
+    ensures client_alone { (task : Option Task) (days : ℕ) → IsNamed task days named → task ≡ Some Client → (result.1 ≡ disk_a) × (result.2 ≡ disk_b) }
+    ensures aside { AreHonest (disks_of D.Disk disk_a disk_b) → KeepsOne salt (disks_of D.Disk disk_a disk_b) (disks_of D.Disk result.1 result.2) }
     ensures link { (task : Option Task) (days : ℕ) → IsNamed task days named → task ≢ Some Client → link.new ≡ link.old }
 {
     let Named { task, max_jump } = match named {
@@ -88,7 +88,7 @@ fn run_over<D: Disk, C: Clock, S: Source, K: Sink>(
     output: &mut K,
 ) -> (u8, D, D)
     ensures done { IsCarriedOut (C.reads clock.now) max_jump (Some Run) salt (outside_of D.Disk S.Source K.Sink disk_a disk_b input.old output.old) (outside_of D.Disk S.Source K.Sink result.1 result.2 input.new output.new) result.0 }
-    ensures disk_b { result.2 ≡ disk_b }
+    ensures aside { AreHonest (disks_of D.Disk disk_a disk_b) → KeepsOne salt (disks_of D.Disk disk_a disk_b) (disks_of D.Disk result.1 result.2) }
 {
     let mut node = match open_node(alloc, disk_a, disk_b, salt, output) {
         Ok(node) => node,
@@ -111,7 +111,7 @@ fn check_over<D: Disk, C: Clock, S: Source, K: Sink>(
     output: &mut K,
 ) -> (u8, D, D)
     ensures done { IsCarriedOut (C.reads clock.now) max_jump (Some Check) salt (outside_of D.Disk S.Source K.Sink disk_a disk_b input.now output.old) (outside_of D.Disk S.Source K.Sink result.1 result.2 input.now output.new) result.0 }
-    ensures disk_b { result.2 ≡ disk_b }
+    ensures aside { AreHonest (disks_of D.Disk disk_a disk_b) → KeepsOne salt (disks_of D.Disk disk_a disk_b) (disks_of D.Disk result.1 result.2) }
 {
     let node = match open_node(alloc, disk_a, disk_b, salt, output) {
         Ok(node) => node,
@@ -145,7 +145,7 @@ fn run_status<D: Disk, C: Clock, S: Source, K: Sink>(
     ensures disk_quiet { result ≢ 5 → AreQuiet (node_disks node.old) (node_disks node.new) }
     ensures known { IsRunStatus result }
     ensures honesty { SameHonesty (node_disks node.old) (node_disks node.new) }
-    ensures disk_b { node_disk_b node.new ≡ node_disk_b node.old }
+    ensures aside { node_aside node.new ≡ node_aside node.old }
 {
     match run_script(alloc, node, clock, max_jump, input, output) {
         Ok(false) => 0,

@@ -5,7 +5,7 @@ ghost use Rattle.sb_machine.specs.Consistent.{IsConsistent};
 ghost use Rattle.sb_machine.specs.Ordered.{IsActInOrder};
 ghost use Rattle.sb_lines.specs.Replies.{answer_line};
 ghost use Rattle.sb_journal.specs.Disks.{HaveFailed, AreQuiet, SameHonesty};
-ghost use Rattle.sb_node.specs.Nodes.{node_state, node_stopped, node_disk_b, node_disks, IsKept, IsOneOf, StayOneOf};
+ghost use Rattle.sb_node.specs.Nodes.{node_state, node_stopped, node_aside, node_disks, IsKept, IsOneOf, StayOneOf};
 ghost use Rattle.sb_app.specs.Outside.{output_of};
 ghost use Rattle.sb_app.specs.Lines.{IsLineInOrder};
 ghost use Rattle.sb_app.specs.Runs.{kind_of, states_of, IsAnswered};
@@ -90,7 +90,7 @@ fn dispatch_call<D: Disk, K: Sink>(
     ensures disk_fault { result ≡ Err DiskFault → HaveFailed (node_disks node.old) (node_disks node.new) }
     ensures disk_quiet { IfErr result (λ e. e ≢ DiskFault → AreQuiet (node_disks node.old) (node_disks node.new)) }
     ensures honesty { SameHonesty (node_disks node.old) (node_disks node.new) }
-    ensures disk_b { node_disk_b node.new ≡ node_disk_b node.old }
+    ensures aside { node_aside node.new ≡ node_aside node.old }
 {
     let answer = node.step(asked.reading, &asked.call);
     match kind_of_answer(&answer) {
@@ -138,7 +138,7 @@ pub fn dispatch_line<D: Disk, K: Sink>(
     ensures disk_fault { result ≡ Err DiskFault → HaveFailed (node_disks node.old) (node_disks node.new) }
     ensures disk_quiet { IfErr result (λ e. e ≢ DiskFault → AreQuiet (node_disks node.old) (node_disks node.new)) }
     ensures honesty { SameHonesty (node_disks node.old) (node_disks node.new) }
-    ensures disk_b { node_disk_b node.new ≡ node_disk_b node.old }
+    ensures aside { node_aside node.new ≡ node_aside node.old }
 {
     match line {
         ScriptLine::Blank => Ok(false),

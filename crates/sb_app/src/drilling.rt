@@ -1,13 +1,13 @@
 // A drill: calls that a seed draws on the namespace of two disks, and the counts of what came of them.
 ghost use Rattle.std.specs.Prelude.{◌≡◌, ◌<◌, ◌+◌, ◌-◌, ◌^◌, ◌++◌, ℕ, List, [], None, Some, Err, IfOk, IfErr, IfSome, string_bytes};
-ghost use Rattle.sb_journal.specs.Disks.{OneFault};
+ghost use Rattle.sb_journal.specs.Disks.{disks_of, AreHonest, KeepsOne, OneFault};
 ghost use Rattle.sb_machine.specs.Answers.{moment_of};
 ghost use Rattle.sb_machine.specs.Consistent.{IsConsistent};
 ghost use Rattle.sb_machine.specs.Ordered.{IsActInOrder};
 ghost use Rattle.sb_machine.specs.declared.history.Entry.{Entry};
 ghost use Rattle.sb_machine.specs.declared.reply.Refusal.TheVariants.{DiskFault, Stopped};
 ghost use Rattle.sb_machine.specs.declared.state.State.{State};
-ghost use Rattle.sb_node.specs.Nodes.{node_disk_b, node_disks, node_log, node_state, node_stopped, node_ticked};
+ghost use Rattle.sb_node.specs.Nodes.{node_aside, node_disks, node_log, node_state, node_stopped, node_ticked};
 ghost use Rattle.sb_node.specs.Serving.{opened_disks, StandsFor};
 ghost use Rattle.sb_node.specs.Steps.{entries_with, IsStep};
 ghost use Rattle.sb_app.specs.Checks.{IsLineTold};
@@ -68,7 +68,7 @@ pub fn drill_over<D: Disk, C: Clock, S: Source, K: Sink>(
     output: &mut K,
 ) -> (u8, D, D)
     ensures done { IsCarriedOut (C.reads clock.now) max_jump (Some (Drill count seed)) salt (outside_of D.Disk S.Source K.Sink disk_a disk_b input.now output.old) (outside_of D.Disk S.Source K.Sink result.1 result.2 input.now output.new) result.0 }
-    ensures disk_b { result.2 ≡ disk_b }
+    ensures aside { AreHonest (disks_of D.Disk disk_a disk_b) → KeepsOne salt (disks_of D.Disk disk_a disk_b) (disks_of D.Disk result.1 result.2) }
 {
     let mut node = match open_node(alloc, disk_a, disk_b, salt, output) {
         Ok(node) => node,
@@ -92,7 +92,7 @@ fn drill_status<D: Disk, K: Sink>(
     requires consistent { IsConsistent (node_state node.old) }
     ensures done { IsDrillOver count seed (node_state node.old) (output_of K.Sink output.old) (output_of K.Sink output.new) node.new result }
     ensures origin { opened_disks node.new ≡ opened_disks node.old }
-    ensures disk_b { node_disk_b node.new ≡ node_disk_b node.old }
+    ensures aside { node_aside node.new ≡ node_aside node.old }
 {
     match make_calls(alloc, node, seed, calls_for(count)) {
         Ok(so_far) => {
@@ -117,7 +117,7 @@ fn make_calls<D: Disk>(
     ensures ok { IfOk result (DrillsSoFar seed (node_state node.old) calls node.new) }
     ensures err { IfErr result (λ e. (n : ℕ) × (n < calls) × DrillIsCut seed (node_state node.old) n node.new e) }
     ensures origin { opened_disks node.new ≡ opened_disks node.old }
-    ensures disk_b { node_disk_b node.new ≡ node_disk_b node.old }
+    ensures aside { node_aside node.new ≡ node_aside node.old }
 {
     let mut so_far = Drilled {
         memory: Memory::nothing(),
@@ -145,7 +145,7 @@ fn make_call<D: Disk>(
     ensures ok { (start : State) → DrillsSoFar seed start n node.old so_far → IfOk result (DrillsSoFar seed start (n + 1) node.new) }
     ensures err { (start : State) → DrillsSoFar seed start n node.old so_far → IfErr result (DrillIsCut seed start n node.new) }
     ensures origin { opened_disks node.new ≡ opened_disks node.old }
-    ensures disk_b { node_disk_b node.new ≡ node_disk_b node.old }
+    ensures aside { node_aside node.new ≡ node_aside node.old }
 {
     let Ok(asked) = call_at(alloc, seed, n, so_far.memory) else {
         return Err(RunEnd::OutOfMemory);
@@ -178,7 +178,7 @@ fn answer_to<D: Disk>(node: &mut Node<D>, asked: &TimedCall) -> Answer
     ensures disk_fault { result ≡ Err DiskFault → (n : ℕ) × (node_stopped node.new ≡ Some n) × OneFault (node_disks node.old) (node_disks node.new) n }
     ensures stopped { (n : ℕ) → result ≡ Err (Stopped n) → node_stopped node.old ≡ Some n }
     ensures origin { opened_disks node.new ≡ opened_disks node.old }
-    ensures disk_b { node_disk_b node.new ≡ node_disk_b node.old }
+    ensures aside { node_aside node.new ≡ node_aside node.old }
 {
     node.step(asked.reading, &asked.call)
 }

@@ -23,7 +23,6 @@ pub fn look_over<D: Disk, S: Source, K: Sink>(
 ) -> (u8, D, D)
     ensures done { IsLooked salt (outside_of D.Disk S.Source K.Sink disk_a disk_b input.now output.old) (outside_of D.Disk S.Source K.Sink result.1 result.2 input.now output.new) result.0 }
     ensures usage { result.0 ≢ 2 }
-    ensures disk_b { result.2 ≡ disk_b }
 {
     let mut disk_a = disk_a;
     let mut disk_b = disk_b;

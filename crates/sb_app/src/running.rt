@@ -3,7 +3,7 @@ ghost use Rattle.std.specs.Prelude.{◌≡◌, ◌≢◌, ◌||◌, None, Err, I
 ghost use Rattle.sb_outside.specs.Causes.{RoseByOne};
 ghost use Rattle.sb_machine.specs.Consistent.{IsConsistent};
 ghost use Rattle.sb_journal.specs.Disks.{HaveFailed, AreQuiet, SameHonesty};
-ghost use Rattle.sb_node.specs.Nodes.{node_state, node_stopped, node_disk_b, node_disks, IsKept};
+ghost use Rattle.sb_node.specs.Nodes.{node_state, node_stopped, node_aside, node_disks, IsKept};
 ghost use Rattle.sb_app.specs.Nodes.{outside_with};
 ghost use Rattle.sb_app.specs.Runs.{IsScriptRun};
 ghost use Rattle.sb_app.specs.Endings.{IsCutRun};
@@ -48,7 +48,7 @@ pub fn run_script<D: Disk, C: Clock, S: Source, K: Sink>(
     ensures disk_fault { IfErr result (λ e. e ≡ DiskFault → HaveFailed (node_disks node.old) (node_disks node.new)) }
     ensures disk_quiet { IfErr result (λ e. e ≢ DiskFault → AreQuiet (node_disks node.old) (node_disks node.new)) }
     ensures honesty { SameHonesty (node_disks node.old) (node_disks node.new) }
-    ensures disk_b { node_disk_b node.new ≡ node_disk_b node.old }
+    ensures aside { node_aside node.new ≡ node_aside node.old }
 {
     let Ok(mut reader) = Reader::new(alloc) else {
         return Err(RunEnd::OutOfMemory);

@@ -202,13 +202,16 @@ fn try_failing(
     Ok(())
 }
 
-// A look asks the disk for its length and reads it, and no more: it doesn't even sync.
+// A look asks the disk for its length and its first bytes, then for its length and all of them, and no
+// more: it doesn't even sync.
 #[test]
 fn a_look_reads_alone(rt: HostRuntime) -> Result<(), Fail> {
     let alloc = rt.alloc();
     try_failing(alloc, &[0], &[], 5)?;
     try_failing(alloc, &[1], &[], 5)?;
-    try_failing(alloc, &[2], &[], 0)?;
+    try_failing(alloc, &[2], &[], 5)?;
+    try_failing(alloc, &[3], &[], 5)?;
+    try_failing(alloc, &[4], &[], 0)?;
     try_failing(alloc, &[], &[0], 4)?;
     Ok(())
 }

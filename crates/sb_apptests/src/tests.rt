@@ -241,7 +241,7 @@ fn left_by_failing<T: Threads + Wait + Sync>(
     status: u8,
 ) -> Result<Vec<u8>, Fail> {
     let mut rows = rows_of(rt, &[row])?;
-    if call < 3 {
+    if call < 5 {
         rows.told.clear();
     }
     let case = Case {
@@ -274,7 +274,7 @@ fn try_call<T: Threads + Wait + Sync>(
     Ok(())
 }
 
-// Each call of the disk fails in turn, over a journal that has an event: opening reads in three calls
+// Each call of the disk fails in turn, over a journal that has an event: opening reads in five calls
 // and an append makes four. What was there is there for the next run, with what was synced with its
 // gate, and no more.
 #[test]
@@ -283,11 +283,13 @@ fn each_disk_call_fails(rt: HostRuntime) -> Result<(), Fail> {
         (0, SEND, 5, SEND),
         (1, SEND, 5, SEND),
         (2, SEND, 5, SEND),
-        (3, SEND_FAILS, 5, SEND),
-        (4, SEND_FAILS, 5, SEND),
+        (3, SEND, 5, SEND),
+        (4, SEND, 5, SEND),
         (5, SEND_FAILS, 5, SEND),
-        (6, SEND_FAILS, 5, SEND_AGAIN),
-        (7, SEND, 0, SEND_AGAIN),
+        (6, SEND_FAILS, 5, SEND),
+        (7, SEND_FAILS, 5, SEND),
+        (8, SEND_FAILS, 5, SEND_AGAIN),
+        (9, SEND, 0, SEND_AGAIN),
     ];
     for row in &rows {
         try_call(&rt, &rt, *row)?;
@@ -382,23 +384,23 @@ fn try_stops<T: Threads + Wait + Sync>(
     Ok(())
 }
 
-// The device calls of the append of one event come behind the three of the opening: a write behind
+// The device calls of the append of one event come behind the five of the opening: a write behind
 // the gate, a sync, the gate's write, a sync. Where one fails the machine stops, and what was written
 // since the last sync holds the fill: also what the failed call was to write.
 #[test]
 fn an_append_stops(rt: HostRuntime) -> Result<(), Fail> {
     let stops = [
         // Within the first call, and after it.
-        before(3, 0xff),
-        before(3, 0x01),
-        before(4, 0xff),
-        before(4, 0x01),
-        // After the second, with nothing of the third; within the third, and after it.
-        before(5, 0x00),
         before(5, 0xff),
-        after(Some(5), 0x01),
+        before(5, 0x01),
         before(6, 0xff),
-        after(Some(6), 0x01),
+        before(6, 0x01),
+        // After the second, with nothing of the third; within the third, and after it.
+        before(7, 0x00),
+        before(7, 0xff),
+        after(Some(7), 0x01),
+        before(8, 0xff),
+        after(Some(8), 0x01),
         // After the fourth.
         after(None, 0xff),
         after(None, 0x01),

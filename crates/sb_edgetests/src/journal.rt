@@ -304,9 +304,9 @@ fn closes_a_torn_end(rt: HostRuntime) -> Result<(), Fail> {
     Ok(())
 }
 
-// An empty disk's calls: sync, length; sync, read, write 00, sync, cut, write all behind it, sync,
+// An empty disk's calls: sync, length, length; sync, read, write 00, sync, cut, write all behind it, sync,
 // write 01, sync; and four for a record. How many bytes it has where one of them failed.
-const LENGTHS: [usize; 15] = [0, 0, 0, 0, 0, 1, 1, 1, 43, 43, 43, 43, 59, 59, 59];
+const LENGTHS: [usize; 16] = [0, 0, 0, 0, 0, 0, 1, 1, 1, 43, 43, 43, 43, 59, 59, 59];
 
 // How many bytes the disk of a journal has whose first append fails.
 fn length_after_append(rt: &impl Abort, journal: Journal<MemDisk>) -> usize
@@ -322,18 +322,18 @@ fn length_after_append(rt: &impl Abort, journal: Journal<MemDisk>) -> usize
 }
 
 // How many bytes the disk has whose call of this number failed, in the opening if it is one of the
-// first eleven, else in the first append.
+// first twelve, else in the first append.
 fn length_after(rt: &impl Abort, alloc: Global, call: u64) -> Result<usize, Fail> {
     let (a, b) = with_empty(alloc, failing_disk(alloc, call)?)?;
     match Journal::open(alloc, a, b, SALT) {
         Ok((journal, found)) => {
             drop(found);
-            assert!(rt; call >= 11);
+            assert!(rt; call >= 12);
             Ok(length_after_append(rt, journal))
         }
         Err(fault) => {
             let (why, length, faults) = told_of(fault);
-            assert!(rt; call < 11);
+            assert!(rt; call < 12);
             assert!(rt; why == OpenWhy::DiskFault);
             assert_eq!(rt; faults, 1);
             Ok(length)
@@ -409,12 +409,12 @@ fn count_in_image(alloc: Global, disk: MemDisk, fill: u8) -> Result<usize, Fail>
 
 // None of three records is found, or all where the crash left their gate open.
 fn found_of_three(call: u64, fill: u8) -> usize {
-    if call >= 13 && fill == 1 { 3 } else { 0 }
+    if call >= 14 && fill == 1 { 3 } else { 0 }
 }
 
 #[test]
 fn a_group_stops(rt: HostRuntime) -> Result<(), Fail> {
-    for call in 11..15_u64 {
+    for call in 12..16_u64 {
         for fill in [0xff, 1_u8] {
             let a = stopped_group(&rt, rt.alloc(), call)?;
             let count = count_in_image(rt.alloc(), a, fill)?;

@@ -1,6 +1,6 @@
 -- Which of two disks' files counts, by what is seen of them.
 use Rattle.std.proofs.Common.{◌≡◌, ◌⊎◌, inl, inr, ℕ, ◌<◌, ◌≤◌, List, ◌++◌, length, take, drop, true, false, refl, sym, ◌∙◌, ap, subst, arith, length-append, length-take, take-append-drop}
-use Rattle.std.specs.Prelude.{Bool, if◌then◌else◌, nat_le, nat_lt, slice_index, ◌||◌, ◌==◌, Option, Some, None, Result, Ok, Err, IfOk}
+use Rattle.std.specs.Prelude.{Bool, if◌then◌else◌, nat_le, nat_lt, slice_index, ◌||◌, ◌==◌, Option, Some, None, Result, Ok, Err, IfOk, IfErr}
 use Rattle.std.proofs.lemmas.Bool.{cases_lt}
 use Rattle.std.proofs.lemmas.Bool.Decides.{nat_tests}
 use Rattle.std.proofs.lemmas.List.{take_all, get_or_append_left}
@@ -10,6 +10,7 @@ use Rattle.sb_journal.specs.declared.choosing.Choice.{Choice}
 use Rattle.sb_journal.specs.declared.choosing.Choice.TheVariants.{Counts, Hurt}
 use Rattle.sb_journal.specs.declared.choosing.Picked.{Picked}
 use Rattle.sb_journal.specs.declared.found.OpenWhy.{OpenWhy}
+use Rattle.sb_journal.specs.declared.found.OpenWhy.TheVariants.{Damaged}
 use Rattle.sb_journal.specs.declared.found.Side.{Side}
 use Rattle.sb_journal.specs.declared.found.Side.TheVariants.{A, B}
 use Rattle.sb_journal.specs.Framing.{Uncreated, framing, is_created, head_fault, number_at}
@@ -161,3 +162,10 @@ module _ (r : Result Picked OpenWhy) (front_a front_b a b : List ℕ) (is_a : fr
       ∙ ap (λ (x : List ℕ). chosen x (take 44 b)) (sym is_a)
       ∙ ap (λ (y : List ℕ). chosen front_a y) (sym is_b)
       ∙ is
+
+  pub damaged_front : IfErr r (λ e. (side : Side) (place : ℕ) → e ≡ Damaged side place → chosen front_a front_b ≡ Hurt side place) → IfErr r (λ e. (side : Side) (place : ℕ) → e ≡ Damaged side place → chosen a b ≡ Hurt side place)
+  damaged_front is = of_result r is
+    where
+      of_result : (r : Result Picked OpenWhy) → IfErr r (λ e. (side : Side) (place : ℕ) → e ≡ Damaged side place → chosen front_a front_b ≡ Hurt side place) → IfErr r (λ e. (side : Side) (place : ℕ) → e ≡ Damaged side place → chosen a b ≡ Hurt side place)
+      of_result (Ok p) is = tt
+      of_result (Err e) is = λ side place same. chosen_front (Hurt side place) (is side place same)

@@ -1,6 +1,6 @@
 -- An opening: what was read, and what a crash leaves while it is finished.
 use Rattle.std.proofs.Common.{◌≡◌, ◌⊎◌, inl, inr, ℕ, ◌+◌, ◌<◌, ◌≤◌, ◌^◌, List, [], ◌∷◌, ◌++◌, length, true, false, refl, sym, ◌∙◌, ap, subst, arith, length-append}
-use Rattle.std.specs.Prelude.{slice_index, nat_le, Bool, if◌then◌else◌, Option, Some, None, Result, Ok, Err}
+use Rattle.std.specs.Prelude.{nat_le, Bool, if◌then◌else◌, Option, Some, None, Result, Ok, Err}
 use Rattle.std.proofs.lemmas.Bool.Decides.{nat_tests}
 use Rattle.sb_outside.specs.Held.{Held, IsImage, Moves, at_rest}
 use Rattle.sb_journal.specs.Text.{File, new_file, new_bytes, file_text, IsWithin, Spells}
@@ -8,7 +8,6 @@ use Rattle.sb_journal.specs.Framing.{Framing, Uncreated, Occupied, free_or_occup
 use Rattle.sb_journal.specs.Crashes.{Rests, IsOldNoneOrNew, IsTornEnd, MayLeave}
 use Rattle.sb_journal.specs.Moments.{EachMoment, FromSync, IsUnwritten}
 use Rattle.sb_journal.specs.Opened.{Stands, opened_alone, stand_file, is_shut, IsStand, IsWholeStand, IsRead}
-use Rattle.sb_journal.specs.declared.found.Side.{Side}
 use Rattle.sb_journal.specs.declared.found.Side.TheVariants.{A}
 use Rattle.sb_journal.specs.declared.judge.Judge.{Ghosts}
 use Rattle.sb_journal.specs.declared.reading.Ending.{Ending}
@@ -158,33 +157,6 @@ module _ (salt : ℕ) (seen : List ℕ) where
       by_place (inr (inl isnt)) = inl (is_free image isnt.none (omega (arith, isnt.short, uncreated_short seen none, length-append (file_text (new_file salt 1 1 [])) (0 ∷ []), length-new salt)))
       by_place (inr (inr new)) = inr new
 
-pub opening_stays : (salt : ℕ) (p0 p1 : List Held) (h0 h1 : Held) → IsUnwritten p0 h0 p1 h1 → FromSync p0 h0 p1 h1 (MayLeave salt h0.seen (framing h0.seen))
-opening_stays salt p0 p1 h0 h1 unwritten = by_moments unwritten.moments
-  where
-    by_moments : FromSync p0 h0 p1 h1 (λ image. image ≡ h0.seen) → FromSync p0 h0 p1 h1 (MayLeave salt h0.seen (framing h0.seen))
-    by_moments (inl same) = inl same
-    by_moments (inr run) = inr (weaker_moments (p0 ++ h0 ∷ []) p1 h1 _ _ (kept_leaves salt h0.seen) run)
-
--- what was read is made ready
-pub opening_finishes : (salt salt_1 : ℕ) (p0 p1 p2 : List Held) (h0 h1 h2 : Held) → salt_1 ≡ salt → Moves p0 h0 p1 h1 (at_rest h0.seen) → EachMoment p1 p2 h2 (MayLeave salt_1 h1.seen (framing h1.seen)) → FromSync p0 h0 p2 h2 (MayLeave salt h0.seen (framing h0.seen))
-opening_finishes salt salt_1 p0 p1 p2 h0 h1 h2 same synced run =
-    let seen : h1.seen ≡ h0.seen = ap (λ m. m.seen) synced.now_is in
-    let here = subst (λ (n : ℕ). EachMoment p1 p2 h2 (MayLeave n h1.seen (framing h1.seen))) same run in
-    let there = subst (λ (s : List ℕ). EachMoment p1 p2 h2 (MayLeave salt s (framing s))) seen here in
-    inr (subst (λ p. EachMoment p p2 h2 (MayLeave salt h0.seen (framing h0.seen))) synced.past_is there)
-
-pub ours_there : (p0 p1 : List Held) (h0 h1 : Held) → Moves p0 h0 p1 h1 (at_rest h0.seen) → (framing h0.seen ≡ Uncreated → 43 ≤ length h0.seen → slice_index h0.seen 0 ≤ 1) → framing h1.seen ≡ Uncreated → 43 ≤ length h1.seen → slice_index h1.seen 0 ≤ 1
-ours_there p0 p1 h0 h1 synced ours =
-    let seen : h1.seen ≡ h0.seen = ap (λ m. m.seen) synced.now_is in
-    subst (λ (s : List ℕ). framing s ≡ Uncreated → 43 ≤ length s → slice_index s 0 ≤ 1) (sym seen) ours
-
-pub stands_there : (salt salt_1 : ℕ) (p0 p1 : List Held) (h0 h1 : Held) (side : Side) (file : File) → salt_1 ≡ salt → Moves p0 h0 p1 h1 (at_rest h0.seen) → side ≡ A → opened_alone salt (framing h0.seen) ≡ Stands side file → opened_alone salt_1 (framing h1.seen) ≡ Stands A file
-stands_there salt salt_1 p0 p1 h0 h1 side file same synced on_a stands =
-    ap (λ (n : ℕ). opened_alone n (framing h1.seen)) same
-    ∙ ap (λ (s : List ℕ). opened_alone salt (framing s)) (ap (λ m. m.seen) synced.now_is)
-    ∙ stands
-    ∙ ap (λ x. Stands x file) on_a
-
 -- by closing its end gate
 pub closes : (salt : ℕ) (p0 p1 : List Held) (h0 h1 : Held) (f : File) → framing h0.seen ≡ Whole f → EachMoment p0 p1 h1 (λ image. (image ≡ h0.seen) ⊎ IsTornEnd f h0.seen image) → EachMoment p0 p1 h1 (MayLeave salt h0.seen (framing h0.seen))
 closes salt p0 p1 h0 h1 f whole run = weaker_moments p0 p1 h1 _ _ (end_leaves salt h0.seen f whole) run
@@ -218,14 +190,21 @@ room_there h end next file rests =
     let least : h.least ≡ length (file_text file ++ 0 ∷ rests.tail) = ap (λ m. m.least) rests.held_is in
     omega (arith, least, rests.end_is, length-append (file_text file) (0 ∷ rests.tail))
 
--- what a crash left while a first file was made is opened as a new one
-pub new_found : (salt : ℕ) (a x : List ℕ) → salt < 2 ^ 64 → framing a ≡ Uncreated → MayLeave salt a (framing a) x → opened_alone salt (framing x) ≡ Stands A (new_file salt 1 1 [])
-new_found salt a x fits none left =
+-- what a crash left while a first file was made
+pub new_reads : (salt : ℕ) (a x : List ℕ) → salt < 2 ^ 64 → framing a ≡ Uncreated → MayLeave salt a (framing a) x → (framing x ≡ Uncreated) ⊎ (framing x ≡ Whole (new_file salt 1 1 []))
+new_reads salt a x fits none left =
     let P : Framing → Type 0 = λ r. MayLeave salt a r x in
     by_place (subst P none left)
   where
-    by_place : (framing x ≡ Uncreated) ⊎ (x ≡ new_bytes salt 1 1 []) → opened_alone salt (framing x) ≡ Stands A (new_file salt 1 1 [])
-    by_place (inl still) = ap (opened_alone salt) still
+    by_place : (framing x ≡ Uncreated) ⊎ (x ≡ new_bytes salt 1 1 []) → (framing x ≡ Uncreated) ⊎ (framing x ≡ Whole (new_file salt 1 1 []))
+    by_place (inl still) = inl still
     by_place (inr new) =
         let rests = new_rests (at_rest (file_text (new_file salt 1 1 []) ++ 0 ∷ [])) salt 1 1 [] fits (omega arith) (omega arith) (omega arith) (omega arith) (omega arith) refl in
-        ap (λ (l : List ℕ). opened_alone salt (framing l)) new ∙ ap (opened_alone salt) (reads_closed (new_file salt 1 1 []) 0 [] rests.within (omega arith))
+        inr (ap framing new ∙ reads_closed (new_file salt 1 1 []) 0 [] rests.within (omega arith))
+
+-- it is opened as a new one
+pub new_found : (salt : ℕ) (a x : List ℕ) → salt < 2 ^ 64 → framing a ≡ Uncreated → MayLeave salt a (framing a) x → opened_alone salt (framing x) ≡ Stands A (new_file salt 1 1 [])
+new_found salt a x fits none left = elim (new_reads salt a x fits none left) [
+  | inl still ↦ ap (opened_alone salt) still
+  | inr new ↦ ap (opened_alone salt) new
+]

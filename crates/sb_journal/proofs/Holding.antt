@@ -4,21 +4,28 @@ use Rattle.std.specs.Prelude.{IsTrue, Bool, false, if◌then◌else◌, ◌==◌
 use Rattle.std.proofs.lemmas.List.{append-nil}
 use Rattle.std.proofs.lemmas.Bool.Decides.{nat_tests}
 use Rattle.sb_outside.specs.Causes.{RoseByOne}
-use Rattle.sb_outside.specs.Held.{Held, IsImage}
+use Rattle.sb_outside.specs.Held.{Held}
 use Rattle.sb_outside.specs.declared.disk.Disk.{Ghosts}
+use Rattle.sb_journal.specs.declared.found.Side.{Side}
+use Rattle.sb_journal.specs.declared.found.Side.TheVariants.{A, B as Other}
 use Rattle.sb_journal.specs.declared.journal.Journal.{Journal}
 use Rattle.sb_journal.specs.Text.{File, framed, framed_all, records, file_text, with_payload, with_payloads, IsWithin, max_payload}
+use Rattle.sb_journal.specs.Choosing.{turned, chosen}
 use Rattle.sb_journal.specs.Opened.{FindsFile}
-use Rattle.sb_journal.specs.Crashes.{Rests, IsShutPair, IsTornPair}
-use Rattle.sb_journal.specs.Disks.{Disks, OneDisk, EachPair, StaysBehind, AreQuiet, OneFault}
-use Rattle.sb_journal.specs.Journals.{journal_disks, HoldsFile, HoldsStaged}
-use Rattle.sb_journal.specs.Moments.{EachMoment}
+use Rattle.sb_journal.specs.Crashes.{Rests, Stages, IsAside, IsSameFrom, IsShutFile, IsShutPair, IsTornPair, LeavesOf}
+use Rattle.sb_journal.specs.Moments.{FromSync}
+use Rattle.sb_journal.specs.Disks.{Disks, OneDisk, on_side, EachImage, EachPair, KeepsOn, StaysBehind, AreQuiet, OneFault}
+use Rattle.sb_journal.specs.Journals.{Aside, journal_aside, journal_disks, HoldsFile, HoldsStaged}
 use Rattle.sb_journal.proofs.Behind.{free_image}
 use Rattle.sb_journal.proofs.Frames.{framed_all-first, framed_all-push}
 use Rattle.sb_journal.proofs.Heads.{file_text-push, file_text-group, with_none, with_both, IsWithin-push}
-use Rattle.sb_journal.proofs.Moments.{runs_on, weaker_moments}
-use Rattle.sb_journal.proofs.Pairs.{started_pair, weaker_pair, finds_whole, stages_found, stages_leave_found}
-use Rattle.sb_journal.proofs.Staging.{shut_of, shut_read, stages_keep, free_there, rests_stage}
+use Rattle.sb_journal.proofs.Moments.{started}
+use Rattle.sb_journal.proofs.Pairs.{both, weaker_pair, finds_here, reads_here, each_here, shut_pair, behind_pair, honest_sides, honest_both, aside_there, turned_twice}
+use Rattle.sb_journal.proofs.Staging.{shut_of, shut_read, stages_keep, stages_leave, stages_read, free_there, rests_stage}
+
+-- each two images of both disks stand for the file
+pub stages_found : {D : Type 0} (B : Ghosts D) (side : Side) (c o : D) (f : File) (end next : ℕ) (w : List ℕ) → Stages (B.held c) end next f w → IsAside (B.held o) → EachImage (both B side c o) (FindsFile f)
+stages_found B side c o f end next w stages aside = each_here B side c o (FindsFile f) (λ x y on_x on_y. finds_here f side x y (stages_leave (B.held c) end next f w stages x on_x) (aside.shut y on_y))
 
 -- the place behind all that is staged
 pub place_staged : (f : File) (ps : List (List ℕ)) (end next m : ℕ) (w kept : List ℕ) → end ≡ length (file_text f) → next ≡ f.first + length f.payloads → length w ≡ m → framed_all next ps ≡ w ++ kept
@@ -48,19 +55,31 @@ module _ {D : Type 0} {B : Ghosts D} (j : Journal D B) (file : File) (staged : L
   -- ---- where the disks aren't touched
 
   pub shut_now : EachPair (journal_disks j) (journal_disks j) (IsShutPair file)
-  shut_now = started_pair (journal_disks j) (IsShutPair file) (λ x y on_x on_y. shut_of file (B.held j.disk_a) x (stages_keep (B.held j.disk_a) j.end j.next file holds.written holds.stages) on_x)
+  shut_now = shut_pair B j.side j.current j.current j.other file holds.aside.shut
+      (started (B.past j.current) (B.held j.current) (IsShutFile file) (λ x on_x. shut_of file (B.held j.current) x (stages_keep (B.held j.current) j.end j.next file holds.written holds.stages) on_x))
 
-  pub behind_now : (place : ℕ) → length (file_text (with_payloads file staged)) + 1 ≤ place → EachPair (journal_disks j) (journal_disks j) (StaysBehind place (journal_disks j))
-  behind_now place high =
-      started_pair (journal_disks j) (StaysBehind place (journal_disks j))
-      (λ x y on_x on_y. free_image place (B.held j.disk_a).seen (B.held j.disk_a) x (free_there (B.held j.disk_a) j.end j.next j.written place file holds.written holds.stages holds.long (omega (arith, high, staged_place))) on_x)
+  pub behind_now : (place : ℕ) → length (file_text (with_payloads file staged)) + 1 ≤ place → EachPair (journal_disks j) (journal_disks j) (StaysBehind j.side place (journal_disks j))
+  behind_now place high = behind_pair B j.side j.current j.current j.other place
+      (started (B.past j.current) (B.held j.current) (IsSameFrom place (B.held j.current).seen)
+      (λ x on_x. free_image place (B.held j.current).seen (B.held j.current) x (free_there (B.held j.current) j.end j.next j.written place file holds.written holds.stages holds.long (omega (arith, high, staged_place))) on_x))
+
+  pub staged_honest : IsTrue (B.honest j.current) × IsTrue (B.honest j.other)
+  staged_honest = honest_sides B j.side j.current j.other holds.honest
 
   -- the file is found in each
   pub shut_finds : (was later : Disks) → EachPair was later (IsShutPair file) → EachPair was later (FindsFile file)
-  shut_finds was later run = weaker_pair was later (IsShutPair file) (FindsFile file) (λ x y shut. finds_whole file x y (shut_read file x (B.held j.disk_a) j.end j.next holds.written holds.stages shut)) run
+  shut_finds was later run = weaker_pair was later (IsShutPair file) (FindsFile file) found run
+    where
+      found : (x y : List ℕ) → IsShutPair file x y → FindsFile file x y
+      found x y (inl on_a) = finds_here file A x y (shut_read file x (B.held j.current) j.end j.next holds.written holds.stages on_a.0) on_a.1
+      found x y (inr on_b) = finds_here file Other y x (shut_read file y (B.held j.current) j.end j.next holds.written holds.stages on_b.0) on_b.1
 
   pub shut_torn : (payloads : List (List ℕ)) (was later : Disks) → IsWithin (with_payloads file payloads) → EachPair was later (IsShutPair file) → EachPair was later (IsTornPair file payloads)
-  shut_torn payloads was later within run = weaker_pair was later (IsShutPair file) (IsTornPair file payloads) (λ x y shut. record { within = holds.stages.within; within_after = within; stands = inl shut }) run
+  shut_torn payloads was later within run = weaker_pair was later (IsShutPair file) (IsTornPair file payloads) torn run
+    where
+      torn : (x y : List ℕ) → IsShutPair file x y → IsTornPair file payloads x y
+      torn x y (inl on_a) = inl (record { within = holds.stages.within; within_after = within; stands = inl on_a.0 }, on_a.1)
+      torn x y (inr on_b) = inr (record { within = holds.stages.within; within_after = within; stands = inl on_b.0 }, on_b.1)
 
 -- ---- one record more
 
@@ -86,20 +105,25 @@ pub more_within : (f : File) (ps : List (List ℕ)) (p : List ℕ) (next count :
 more_within f ps p next count within short next_is long few =
     subst IsWithin (with_both f ps (p ∷ [])) (IsWithin-push (with_payloads f ps) p within short (omega (arith, few, next_is, long, length-append f.payloads ps)))
 
--- ---- one call behind another, where the second disk stood still
+-- ---- one call behind another
 
-pub still_pairs : (was mid later : Disks) (P : List ℕ → List ℕ → Type 0) → mid.b ≡ was.b → later.b ≡ mid.b → EachPair was mid P → EachPair mid later P → EachPair was later P
-still_pairs was mid later P still stays first second =
-    runs_on was.a.past mid.a.past later.a.past mid.a.held later.a.held (λ x. EachMoment was.b.past later.b.past later.b.held (λ y. P x y))
-    (weaker_moments was.a.past mid.a.past mid.a.held _ _ (λ x run. subst (λ (d : OneDisk). EachMoment was.b.past d.past d.held (λ y. P x y)) (sym stays) run) first)
-    (weaker_moments mid.a.past later.a.past later.a.held _ _ (λ x run. subst (λ (d : OneDisk). EachMoment d.past later.b.past later.b.held (λ y. P x y)) still run) second)
+pub side_same : {D : Type 0} {B : Ghosts D} (j k : Journal D B) → journal_aside k ≡ journal_aside j → k.side ≡ j.side
+side_same j k same = sym (turned_twice k.side) ∙ ap (λ (a : Aside). turned a.side) same ∙ turned_twice j.side
 
--- what stands behind a place stays so through both
-pub still_behind : (was mid later : Disks) (place : ℕ) → mid.b ≡ was.b → later.b ≡ mid.b → IsImage mid.a.held mid.a.held.seen → IsImage mid.b.held mid.b.held.seen
-    → EachPair was mid (StaysBehind place was) → EachPair mid later (StaysBehind place mid) → EachPair was later (StaysBehind place was)
-still_behind was mid later place still stays read_a read_b first second =
-    still_pairs was mid later (StaysBehind place was) still stays first
-    (weaker_pair mid later (StaysBehind place mid) (StaysBehind place was) (λ x y same. same ∙ (first.present mid.a.held.seen read_a).present mid.b.held.seen read_b) second)
+-- the disk that doesn't count stood still
+pub aside_still : {D : Type 0} {B : Ghosts D} (j k : Journal D B) (side : Side) → side ≡ j.side → journal_aside k ≡ journal_aside j → on_side (turned side) (journal_disks k) ≡ on_side (turned side) (journal_disks j)
+aside_still {D} {B} j k side is same = subst (λ (s : Side). on_side (turned s) (journal_disks k) ≡ on_side (turned s) (journal_disks j)) (sym is) (
+    ap (λ (s : Side). on_side (turned s) (journal_disks k)) (sym (side_same j k same))
+    ∙ aside_there B k.side k.current k.other
+    ∙ ap (λ (a : Aside). a.disk) same
+    ∙ sym (aside_there B j.side j.current j.other))
+
+-- so it keeps what was said of it
+pub aside_kept : {D : Type 0} {B : Ghosts D} (j k : Journal D B) (salt : ℕ) (was : Disks) → journal_aside k ≡ journal_aside j → KeepsOn salt (journal_aside j).side was (journal_disks j) → KeepsOn salt (journal_aside j).side was (journal_disks k)
+aside_kept j k salt was same kept =
+    let side = (journal_aside j).side in
+    let held = on_side side was in
+    subst (λ (d : OneDisk). FromSync held.past held.held d.past d.held (LeavesOf salt (chosen was.a.held.seen was.b.held.seen) side held.held.seen)) (sym (aside_still j k j.side refl same)) kept
 
 pub text_grows : (f : File) (ps : List (List ℕ)) (p : List ℕ) (n : ℕ) → n ≡ length (file_text (with_payloads f (ps ++ p ∷ []))) + 1 → length (file_text (with_payloads f ps)) + 1 ≤ n
 text_grows f ps p n is =
@@ -131,12 +155,12 @@ pub none_staged : {D : Type 0} {B : Ghosts D} (j : Journal D B) (file : File) (s
 none_staged j file [] holds none = subst (λ (f : File). HoldsFile j f) (sym (with_none file)) holds
 none_staged j file (p ∷ ps) holds none = absurd (omega (arith, holds.count, none))
 
-pub sealed : {D : Type 0} {B : Ghosts D} (j : Journal D B) (file : File) → IsTrue (B.honest j.disk_a) → IsTrue (B.honest j.disk_b) → j.failed ≡ false → Rests (B.held j.disk_a) j.end j.next file
+pub sealed : {D : Type 0} {B : Ghosts D} (j : Journal D B) (file : File) → IsTrue (B.honest j.current) → IsTrue (B.honest j.other) → j.failed ≡ false → Rests (B.held j.current) j.end j.next file → IsAside (B.held j.other)
     → j.written ≡ 0 → j.count ≡ 0 → j.buffer.items ≡ [] → HoldsFile j file
-sealed {D} {B} j file honest_a honest_b running rests written count kept =
-    let stages = rests_stage (B.held j.disk_a) j.end j.next file rests in
+sealed {D} {B} j file on_current on_other running rests aside written count kept =
+    let stages = rests_stage (B.held j.current) j.end j.next file rests in
     record {
-      honest = (honest_a, honest_b);
+      honest = honest_both B j.side j.current j.other on_current on_other;
       running = running;
       written = [];
       stages = stages;
@@ -144,8 +168,9 @@ sealed {D} {B} j file honest_a honest_b running rests written count kept =
       bytes = sym kept;
       count = sym count;
       within = subst IsWithin (sym (with_none file)) rests.within;
-      reads = stages_found (B.held j.disk_a) j.end j.next file [] (B.held j.disk_b).seen stages;
-      leaves = λ x y on_x on_y. stages_leave_found (B.held j.disk_a) j.end j.next file [] x y stages on_x;
+      aside = aside;
+      reads = reads_here B j.side j.current j.other file (stages_read (B.held j.current) j.end j.next file [] stages) aside.seen;
+      leaves = stages_found B j.side j.current j.other file j.end j.next [] stages aside;
     }
 
 pub rests_as : (h : Held) (end next m n : ℕ) (f : File) → end ≡ m → next ≡ n → Rests h end next f → Rests h m n f

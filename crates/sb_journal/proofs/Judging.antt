@@ -1,19 +1,16 @@
 -- A base and payloads judged one after another, as they are read.
-use Rattle.std.proofs.Common.{◌≡◌, inl, inr, ℕ, ◌+◌, ◌≤◌, ◌<◌, ◌^◌, List, [], ◌∷◌, ◌++◌, length, drop, Option, Some, None, Result, Ok, Err, Bool, true, false, refl, sym, ◌∙◌, ap, subst, arith, append_assoc, length-append}
-use Rattle.std.specs.Prelude.{IfOk}
+use Rattle.std.proofs.Common.{◌≡◌, inl, inr, ℕ, ◌+◌, ◌≤◌, ◌<◌, ◌^◌, List, [], ◌∷◌, ◌++◌, length, drop, Option, Some, None, Bool, true, false, refl, sym, ◌∙◌, ap, subst, arith, append_assoc, length-append}
 use Rattle.std.proofs.lemmas.List.{append-nil}
 use Rattle.sb_journal.specs.declared.judge.Judge.{Ghosts}
 use Rattle.sb_journal.specs.declared.judge.Judged.{Judged}
 use Rattle.sb_journal.specs.declared.base.Based.{Based}
-use Rattle.sb_journal.specs.declared.found.OpenWhy.{OpenWhy}
-use Rattle.sb_journal.specs.declared.found.Side.TheVariants.{A}
-use Rattle.sb_journal.specs.declared.opening.Looked.{Looked}
+use Rattle.sb_journal.specs.declared.found.Side.{Side}
 use Rattle.sb_journal.specs.declared.reading.Records.{Records}
 use Rattle.sb_journal.specs.declared.reading.Stand.{Stand}
 use Rattle.sb_journal.specs.Text.{max_payload, new_file, new_bytes, records, framed, first_gate, gate_after, AreShort, Ends, IsWithin}
 use Rattle.sb_journal.specs.Framing.{Uncreated, framing}
 use Rattle.sb_journal.specs.Judges.{IsGiven, IsRefused, IsVerdict}
-use Rattle.sb_journal.specs.Opened.{Opened, Stands, opened_alone, stand_file, judged_of, IsStand, IsWholeStand, IsJudged, HasBase, IsBased, AreRecords, HasRefused}
+use Rattle.sb_journal.specs.Opened.{Opened, Stands, opened_alone, placed, stand_file, judged_of, IsStand, IsWholeStand, IsJudged, HasBase, IsBased, AreRecords, HasRefused}
 use Rattle.sb_outside.specs.Held.{at_rest}
 use Rattle.sb_journal.proofs.Frames.{length-records_from, AreShort-push}
 use Rattle.sb_journal.proofs.Heads.{gate_after_file, new_rests}
@@ -153,22 +150,22 @@ module _ {J : Type 0} (G : Ghosts J) where
   stand_gates : (s : Stand J) (base : List ℕ) (payloads : List (List ℕ)) → IsStand G s base payloads → gate_after (first_gate (stand_file s base payloads)) payloads ≤ 2 ^ 62
   stand_gates s base payloads stand = omega (arith, gate_after_file (stand_file s base payloads), stand.end_is, stand.end_fits)
 
-  pub judged_new : (honest : Type 0) (bytes : List ℕ) (salt : ℕ) (s : Stand J) → salt < 2 ^ 64 → (honest → framing bytes ≡ Uncreated) → stand_file s [] [] ≡ new_file salt 1 1 [] → IsStand G s [] [] → IsJudged G honest (opened_alone salt (framing bytes)) (judged_of s)
-  judged_new honest bytes salt s fits none file stand = record {
+  pub judged_new : (honest : Type 0) (bytes : List ℕ) (salt : ℕ) (side : Side) (s : Stand J) → salt < 2 ^ 64 → (honest → framing bytes ≡ Uncreated) → stand_file s [] [] ≡ new_file salt 1 1 [] → IsStand G s [] [] → IsJudged G honest (placed side (opened_alone salt (framing bytes))) (judged_of side s)
+  judged_new honest bytes salt side s fits none file stand = record {
     base = [];
     payloads = [];
-    stands = λ h. ap (opened_alone salt) (none h) ∙ ap (Stands A) (sym file);
+    stands = λ h. ap (λ r. placed side (opened_alone salt r)) (none h) ∙ ap (Stands side) (sym file);
     within = λ h. subst IsWithin (sym file) (new_rests (at_rest (new_bytes salt 1 1 [])) salt 1 1 [] fits (omega arith) (omega arith) (omega arith) (omega arith) (omega arith) refl).within;
     taken = stand.taken;
     next_is = stand.next_is;
     gates = stand_gates s [] [] stand;
   }
 
-  pub judged_stand : (honest : Type 0) (bytes : List ℕ) (salt : ℕ) (s : Stand J) (base : List ℕ) (payloads : List (List ℕ)) → IsStand G s base payloads → (honest → IsWholeStand s base payloads bytes) → IsJudged G honest (opened_alone salt (framing bytes)) (judged_of s)
-  judged_stand honest bytes salt s base payloads stand whole = record {
+  pub judged_stand : (honest : Type 0) (bytes : List ℕ) (salt : ℕ) (side : Side) (s : Stand J) (base : List ℕ) (payloads : List (List ℕ)) → IsStand G s base payloads → (honest → IsWholeStand s base payloads bytes) → IsJudged G honest (placed side (opened_alone salt (framing bytes))) (judged_of side s)
+  judged_stand honest bytes salt side s base payloads stand whole = record {
     base = base;
     payloads = payloads;
-    stands = λ h. ap (opened_alone salt) (whole h).whole;
+    stands = λ h. ap (λ r. placed side (opened_alone salt r)) (whole h).whole;
     within = λ h. (whole h).spells.within;
     taken = stand.taken;
     next_is = stand.next_is;
@@ -186,7 +183,3 @@ module _ {J : Type 0} (G : Ghosts J) where
     next_is = is.next_is;
     gates = is.gates;
   }
-
-  pub looked_when : (was now : Type 0) (found still : Opened) (r : Result (Looked J) OpenWhy) → (was → now) → (was → found ≡ still) → IfOk r (λ l. IsJudged G now still l.judged) → IfOk r (λ l. IsJudged G was found l.judged)
-  looked_when was now found still (Ok l) honest same is = judged_when was now found still l.judged honest same is
-  looked_when was now found still (Err e) honest same is = tt

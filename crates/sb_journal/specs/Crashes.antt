@@ -1,9 +1,13 @@
 -- When a disk has a whole file on it, and what a crash may leave while a record is added, a file is made, or an opening goes on.
 use Rattle.std.specs.Prelude.{◌≡◌, ◌⊎◌, ◌+◌, ◌≤◌, ℕ, List, [], ◌∷◌, ◌++◌, length, drop, max, slice_index, true, false}
 use Rattle.sb_outside.specs.Held.{Held, IsImage, at_rest, is_written}
+use Rattle.sb_journal.specs.declared.choosing.Choice.{Choice}
+use Rattle.sb_journal.specs.declared.choosing.Choice.TheVariants.{Counts, Hurt}
+use Rattle.sb_journal.specs.declared.found.Side.{Side}
+use Rattle.sb_journal.specs.declared.found.Side.TheVariants.{A, B}
 use Rattle.sb_journal.specs.Text.{File, framed, records, file_text, new_bytes, with_payloads, IsWithin}
 use Rattle.sb_journal.specs.Framing.{Framing, Uncreated, Occupied, Whole, Damaged, framing, is_created}
-use Rattle.sb_journal.specs.Choosing.{is_unshut}
+use Rattle.sb_journal.specs.Choosing.{chosen, is_unshut}
 
 -- The file and its closed end gate are on the disk, all of it safe. Behind the gate may stand what is left of a torn
 -- record.
@@ -92,16 +96,24 @@ pub record IsAside (held : Held) : Type 0 where
   pub shut : (image : List ℕ) → IsImage held image → is_unshut image ≡ false
   pub seen : is_unshut held.seen ≡ false
 
--- ---- of the bytes of both disks: disk b doesn't count yet
+-- ---- of the bytes of both disks
 
--- the file stands whole, behind a closed gate
+-- the file stands whole, behind a closed gate, and nothing counts beside it
 abbrev pub IsShutPair : File → (a b : List ℕ) → Type 0
-IsShutPair file a b = IsShutFile file a
+IsShutPair file a b = (IsShutFile file a × (is_unshut b ≡ false)) ⊎ (IsShutFile file b × (is_unshut a ≡ false))
 
 -- what a crash may leave of the file while records are added
 abbrev pub IsTornPair : File → List (List ℕ) → (a b : List ℕ) → Type 0
-IsTornPair file payloads a b = IsTornGroup file payloads a
+IsTornPair file payloads a b = (IsTornGroup file payloads a × (is_unshut b ≡ false)) ⊎ (IsTornGroup file payloads b × (is_unshut a ≡ false))
+
+-- What a crash during an opening may leave of the bytes that it found on the disk of this side.
+abbrev pub LeavesOf : ℕ → Choice → Side → (was bytes : List ℕ) → Type 0
+LeavesOf salt (Counts A) A was bytes = MayLeave salt was (framing was) bytes
+LeavesOf salt (Counts A) B was bytes = MayShut was bytes
+LeavesOf salt (Counts B) A was bytes = MayShut was bytes
+LeavesOf salt (Counts B) B was bytes = MayLeave salt was (framing was) bytes
+LeavesOf salt (Hurt side place) at was bytes = bytes ≡ was
 
 -- the bytes that an opening found on the two disks, and what a crash during it may leave there
 abbrev pub LeavesFound : ℕ → (a b x y : List ℕ) → Type 0
-LeavesFound salt a b x y = MayLeave salt a (framing a) x
+LeavesFound salt a b x y = LeavesOf salt (chosen a b) A a x × LeavesOf salt (chosen a b) B b y

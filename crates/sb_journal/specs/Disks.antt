@@ -5,10 +5,12 @@ use Rattle.sb_outside.specs.Held.{Held, IsImage, Moves, at_rest}
 use Rattle.sb_outside.specs.declared.disk.Disk.{Ghosts}
 use Rattle.sb_journal.specs.declared.found.Side.{Side}
 use Rattle.sb_journal.specs.declared.found.Side.TheVariants.{A, B}
+use Rattle.sb_journal.specs.declared.choosing.Choice.TheVariants.{Counts}
 use Rattle.sb_journal.specs.Framing.{Uncreated, framing, new_length}
+use Rattle.sb_journal.specs.Choosing.{chosen, sided}
 use Rattle.sb_journal.specs.Moments.{EachMoment, FromSync, IsUnwritten}
 use Rattle.sb_journal.specs.Opened.{Opened, opened}
-use Rattle.sb_journal.specs.Crashes.{IsSameFrom, LeavesFound}
+use Rattle.sb_journal.specs.Crashes.{IsSameFrom, LeavesOf}
 
 -- what a disk tells: whether what is said of its content holds, what it holds, what it held at each moment before, and how many of
 -- its calls have failed
@@ -55,15 +57,34 @@ EachImage disks P = (x y : List ℕ) → IsImage disks.a.held x → IsImage disk
 abbrev pub EachPair : (was later : Disks) → (List ℕ → List ℕ → Type 0) → Type 0
 EachPair was later P = EachMoment was.a.past later.a.past later.a.held (λ x. EachMoment was.b.past later.b.past later.b.held (λ y. P x y))
 
--- What stands on a disk where no file was made is shorter than a new file, or begins with 00 or 01: it can't be somebody else's. Disk b
--- isn't taken over yet.
+-- What stands on disk a where a new file is made is shorter than one, or begins with 00 or 01: it can't be somebody else's.
 abbrev pub AreOurs : Disks → Type 0
-AreOurs disks = framing disks.a.held.seen ≡ Uncreated → new_length ≤ length disks.a.held.seen → slice_index disks.a.held.seen 0 ≤ 1
+AreOurs disks = chosen disks.a.held.seen disks.b.held.seen ≡ Counts A → framing disks.a.held.seen ≡ Uncreated → new_length ≤ length disks.a.held.seen → slice_index disks.a.held.seen 0 ≤ 1
 
--- From its first sync on, what counts leaves what a crash during an opening that found these may leave: what was found, up to its end
--- gate; where there was no file, none or a new one. Of somebody else's file nothing is said, nor of disk b, which doesn't count yet.
+-- From its first sync on, the disk of this side leaves what a crash during an opening that found these may leave there.
+abbrev pub KeepsOn : ℕ → Side → (was later : Disks) → Type 0
+KeepsOn salt side was later =
+    FromSync (on_side side was).past (on_side side was).held (on_side side later).past (on_side side later).held
+    (LeavesOf salt (chosen was.a.held.seen was.b.held.seen) side (on_side side was).held.seen)
+
+-- One of them does.
+abbrev pub KeepsOne : ℕ → (was later : Disks) → Type 0
+KeepsOne salt was later = (side : Side) × KeepsOn salt side was later
+
+-- From its first sync on, each disk leaves what a crash during an opening that found these may leave there: what counts, up to its end
+-- gate, or, where there was no file, none or a new one; beside it all but the first byte. Where a new file is made over somebody else's
+-- nothing is said of that.
 abbrev pub KeepFound : ℕ → (was later : Disks) → Type 0
-KeepFound salt was later = AreOurs was → FromSync was.a.past was.a.held later.a.past later.a.held (λ x. LeavesFound salt was.a.held.seen was.b.held.seen x was.b.held.seen)
+KeepFound salt was later = (AreOurs was → KeepsOn salt A was later) × KeepsOn salt B was later
+
+-- From this moment on, the disk of this side leaves what a crash during an opening that found these may leave there.
+abbrev pub FinishesOn : ℕ → Side → (was later : Disks) → Type 0
+FinishesOn salt side was later =
+    EachMoment (on_side side was).past (on_side side later).past (on_side side later).held (LeavesOf salt (chosen was.a.held.seen was.b.held.seen) side (on_side side was).held.seen)
+
+-- So does each, but for a new file that is made over somebody else's.
+abbrev pub Finishes : ℕ → (was later : Disks) → Type 0
+Finishes salt was later = (AreOurs was → FinishesOn salt A was later) × FinishesOn salt B was later
 
 -- nothing was written: the same is read, and from the first sync on a crash leaves just that
 abbrev pub AreUnwritten : (was later : Disks) → Type 0
@@ -77,17 +98,17 @@ IsStill was later = (later.held ≡ was.held) × (later.past ≡ was.past)
 abbrev pub AreStill : (was later : Disks) → Type 0
 AreStill was later = IsStill was.a later.a × IsStill was.b later.b
 
--- what counts was made safe, and nothing else was done; disk b doesn't count yet
+-- both were made safe, and nothing else was done
 abbrev pub AreSynced : (was later : Disks) → Type 0
-AreSynced was later = Moves was.a.past was.a.held later.a.past later.a.held (at_rest was.a.held.seen)
+AreSynced was later = Moves was.a.past was.a.held later.a.past later.a.held (at_rest was.a.held.seen) × Moves was.b.past was.b.held later.b.past later.b.held (at_rest was.b.held.seen)
 
 -- the disk of this side is as it was read, all of it safe
 abbrev pub IsAtRest : Side → (was later : Disks) → Type 0
 IsAtRest side was later = (on_side side later).held ≡ at_rest (on_side side was).held.seen
 
--- from this place of the file on, the bytes are those that were read before; disk b has no file yet
-abbrev pub StaysBehind : ℕ → Disks → (x y : List ℕ) → Type 0
-StaysBehind place was x y = IsSameFrom place was.a.held.seen x
+-- from this place of the file of this side on, the bytes are those that were read before
+abbrev pub StaysBehind : Side → ℕ → Disks → (x y : List ℕ) → Type 0
+StaysBehind side place was x y = IsSameFrom place (on_side side was).held.seen (sided side x y)
 
 -- ---- counts of faults, and honesty
 

@@ -1,10 +1,8 @@
 -- Reading and writing files belong together, and what a whole file's bytes are.
-use Rattle.std.specs.Prelude.{◌≡◌, ◌≢◌, ◌≤◌, ◌<◌, ◌^◌, ℕ, List, [], ◌∷◌, ◌++◌, length, take, drop, slice_index, false}
+use Rattle.std.specs.Prelude.{◌≡◌, ◌≢◌, ◌≤◌, ◌<◌, ◌^◌, ℕ, List, [], ◌∷◌, ◌++◌, length, false}
 use Rattle.sb_journal.specs.Text.{File, new_file, new_bytes, file_text, IsWithin, AreBytes, Spells}
 use Rattle.sb_journal.specs.Framing.{Uncreated, Whole, framing, is_created, new_length}
-use Rattle.sb_journal.specs.Choosing.{sided, chosen}
-use Rattle.sb_journal.specs.declared.choosing.Choice.TheVariants.{Counts, Hurt}
-use Rattle.sb_journal.specs.declared.found.Side.{Side}
+use Rattle.sb_journal.specs.Choosing.{is_unshut}
 use Rattle.sb_journal.specs.Opened.{Stands, Damage, opened, FindsNoneOrAll}
 use Rattle.sb_journal.specs.declared.found.Side.TheVariants.{A, B}
 use Rattle.sb_journal.specs.Crashes.{IsTornPair, LeavesFound}
@@ -39,40 +37,19 @@ TornIsFound = (file : File) (payloads : List (List ℕ)) (a b : List ℕ) → Is
 abbrev pub TornIsKept : Type 0
 TornIsKept = (salt : ℕ) (file : File) (payloads : List (List ℕ)) (a b x y : List ℕ) → IsTornPair file payloads a b → LeavesFound salt a b x y → IsTornPair file payloads x y
 
--- what is longer than a new file and doesn't begin as one is never taken for no file
+-- Where no file counts, what is longer than a new file is never taken for none: that of disk a is told, or else that of disk b.
 abbrev pub OtherIsRefused : Type 0
-OtherIsRefused = (salt : ℕ) (a b : List ℕ) → new_length < length a → slice_index a 0 ≢ 1 → opened a b salt ≡ Damage A 0
+OtherIsRefused = (salt : ℕ) (a b : List ℕ) → is_created a ≡ false → is_created b ≡ false
+    → (new_length < length a → opened a b salt ≡ Damage A 0) × (length a ≤ new_length → new_length < length b → opened a b salt ≡ Damage B 0)
 
 -- what a crash left while a first file was made is opened as a new one
 abbrev pub NewIsFound : Type 0
-NewIsFound = (salt : ℕ) (a b x y : List ℕ) → salt < 2 ^ 64 → framing a ≡ Uncreated → LeavesFound salt a b x y → opened x y salt ≡ Stands A (new_file salt 1 1 [])
+NewIsFound = (salt : ℕ) (a b x y : List ℕ) → salt < 2 ^ 64 → framing a ≡ Uncreated → framing b ≡ Uncreated → is_unshut b ≡ false → LeavesFound salt a b x y → opened x y salt ≡ Stands A (new_file salt 1 1 [])
 
--- Of two files the one of greater generation is chosen, whichever disk it stands on; two of one generation are damage of disk b, at the
--- generation's place.
-abbrev pub LaterIsChosen : Type 0
-LaterIsChosen = (f g : File) (x y : List ℕ) → framing x ≡ Whole f → framing y ≡ Whole g → f.generation < g.generation → (chosen x y ≡ Counts B) × (chosen y x ≡ Counts A)
+-- Of two created files the one of greater generation is read, whichever disk it stands on.
+abbrev pub GreaterIsFound : Type 0
+GreaterIsFound = (salt : ℕ) (f g : File) (x y : List ℕ) → framing x ≡ Whole f → framing y ≡ Whole g → f.generation < g.generation → (opened x y salt ≡ Stands B g) × (opened y x salt ≡ Stands A g)
 
-abbrev pub SameIsHurt : Type 0
-SameIsHurt = (f g : File) (x y : List ℕ) → framing x ≡ Whole f → framing y ≡ Whole g → f.generation ≡ g.generation → chosen x y ≡ Hurt B 18
-
--- a file beside which none counts is chosen, on either disk
-abbrev pub OneIsChosen : Type 0
-OneIsChosen = (side : Side) (f : File) (x y : List ℕ) → framing x ≡ Whole f → is_created y ≡ false → chosen (sided side x y) (sided side y x) ≡ Counts side
-
--- The first 44 bytes of both disks say which is.
-abbrev pub FrontsChoose : Type 0
-FrontsChoose = (a b : List ℕ) → chosen (take 44 a) (take 44 b) ≡ chosen a b
-
--- by the heads of new files, one without a base, of another version, and of bytes that may be another file
-abbrev pub ChoiceIsWorked : Type 0
-ChoiceIsWorked =
-    (chosen [] [] ≡ Counts A)
-    × (chosen [] (new_bytes 5 1 1 []) ≡ Counts B)
-    × (chosen (new_bytes 5 1 1 []) [] ≡ Counts A)
-    × (chosen (new_bytes 5 1 1 []) (new_bytes 5 2 7 (1 ∷ 2 ∷ [])) ≡ Counts B)
-    × (chosen (new_bytes 5 3 9 []) (new_bytes 5 2 7 (1 ∷ 2 ∷ [])) ≡ Counts A)
-    × (chosen (new_bytes 5 2 7 []) (new_bytes 6 2 1 []) ≡ Hurt B 18)
-    × (chosen (new_bytes 5 1 1 []) (take 9 (new_bytes 5 1 1 []) ++ 2 ∷ drop 10 (new_bytes 5 1 1 [])) ≡ Hurt B 9)
-    × (chosen [] (0x58 ∷ new_bytes 5 1 1 []) ≡ Hurt B 0)
-    × (chosen (new_bytes 5 1 1 []) (0x58 ∷ new_bytes 5 1 1 []) ≡ Counts A)
-    × (chosen (0x58 ∷ new_bytes 5 1 1 []) (0x58 ∷ new_bytes 5 1 1 []) ≡ Hurt A 0)
+-- Two of one generation are damage of disk b, at the generation's place.
+abbrev pub SameIsDamage : Type 0
+SameIsDamage = (salt : ℕ) (f g : File) (x y : List ℕ) → framing x ≡ Whole f → framing y ≡ Whole g → f.generation ≡ g.generation → opened x y salt ≡ Damage B 18

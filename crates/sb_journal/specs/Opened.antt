@@ -3,7 +3,8 @@ use Rattle.std.specs.Prelude.{◌≡◌, ◌⊎◌, ◌≤◌, ◌<◌, ◌+◌,
 use Rattle.sb_outside.specs.Held.{Held, at_rest}
 use Rattle.sb_journal.specs.declared.found.Side.{Side}
 use Rattle.sb_journal.specs.declared.found.Side.TheVariants.{A}
-use Rattle.sb_journal.specs.declared.choosing.Choice.TheVariants.{Counts}
+use Rattle.sb_journal.specs.declared.choosing.Choice.{Choice}
+use Rattle.sb_journal.specs.declared.choosing.Choice.TheVariants.{Counts, Hurt}
 use Rattle.sb_journal.specs.declared.choosing.Picked.{Picked}
 use Rattle.sb_journal.specs.declared.found.Found.{Found}
 use Rattle.sb_journal.specs.declared.reading.Head.{Head}
@@ -29,16 +30,26 @@ pub data Opened : Type 0 where
   -- this disk's file can't be read, from this place on
   Damage : Side → ℕ → Opened
 
--- What the file on disk a says. Where none was made, a new one counts; but no file is made over what may be one.
+-- What the file on a disk says, where it is disk a. Where none was made, a new one counts; but no file is made over what may be one.
 abbrev pub opened_alone : ℕ → Framing → Opened
 opened_alone salt Uncreated = Stands A (new_file salt 1 1 [])
 opened_alone salt Occupied = Damage A 0
 opened_alone salt (Whole file) = Stands A file
 opened_alone salt (Damaged place) = Damage A place
 
--- Disk b doesn't count yet. The salt is that of a new file.
+-- the same, where it is the disk of this side
+abbrev pub placed : Side → Opened → Opened
+placed side (Stands s file) = Stands side file
+placed side (Damage s place) = Damage side place
+
+-- what they stand for, once it is chosen whose file counts
+abbrev pub opened_by : ℕ → (a b : List ℕ) → Choice → Opened
+opened_by salt a b (Counts side) = placed side (opened_alone salt (framing (sided side a b)))
+opened_by salt a b (Hurt side place) = Damage side place
+
+-- What the bytes of two disks stand for. The salt is that of a new file.
 abbrev pub opened : List ℕ → List ℕ → ℕ → Opened
-opened a b salt = opened_alone salt (framing a)
+opened a b salt = opened_by salt a b (chosen a b)
 
 -- an opening finds this file, on whichever disk and with whatever salt it is called
 abbrev pub FindsFile : File → (a b : List ℕ) → Type 0
@@ -89,9 +100,9 @@ is_shut place bytes = nat_lt place (length bytes) && (slice_index bytes place ==
 abbrev pub stand_file : {J : Type 0} → Stand J → List ℕ → List (List ℕ) → File
 stand_file s base payloads = record { salt = s.salt; generation = s.generation; first = s.first; base = base; payloads = payloads }
 
--- the same file as one that was judged
-abbrev pub judged_of : {J : Type 0} → Stand J → Judged J
-judged_of s = record { disk = A; generation = s.generation; salt = s.salt; first = s.first; next = s.next; judge = s.judge }
+-- the same file as one that was judged, on the disk of this side
+abbrev pub judged_of : {J : Type 0} → Side → Stand J → Judged J
+judged_of side s = record { disk = side; generation = s.generation; salt = s.salt; first = s.first; next = s.next; judge = s.judge }
 
 -- The judge has taken this base and these payloads; where the end gate of their file is, and which number comes next.
 pub record IsStand {J : Type 0} (G : Ghosts J) (s : Stand J) (base : List ℕ) (payloads : List (List ℕ)) : Type 0 where

@@ -1,5 +1,5 @@
 // What holds of the file format itself. Each law is the contract of a function that does nothing.
-ghost use Rattle.sb_journal.specs.Laws.{ChoiceIsWorked, FrontsChoose, LaterIsChosen, OneIsChosen, SameIsHurt, ReadsBack, ReadsBackCut, SpellsOnly, NewFileBytes, NewIsFound, OtherIsRefused, TornIsFound, TornIsKept};
+ghost use Rattle.sb_journal.specs.Laws.{ReadsBack, ReadsBackCut, SpellsOnly, NewFileBytes, NewIsFound, OtherIsRefused, GreaterIsFound, SameIsDamage, TornIsFound, TornIsKept};
 
 /// A whole file is read back as itself, whatever stands behind its closed end gate, and also where
 /// the end gate is missing behind a record.
@@ -18,7 +18,7 @@ pub fn new_file_bytes()
     ensures { NewFileBytes }
 {}
 
-/// No file is made over what may be one: bytes of which no file was made are damage at 0 where they
+/// No file is made over what may be one, nor beside it: where no file was made, bytes are damage at 0 that
 /// are more than a new file has. What a crash leaves while a first file is made never is.
 pub fn keeps_what_may_be_a_file()
     ensures refused { OtherIsRefused }
@@ -32,12 +32,9 @@ pub fn recovers_from_torn_appends()
     ensures kept { TornIsKept }
 {}
 
-/// Of the files on two disks the one of greater generation is chosen, by the begin of each disk alone: nothing opens
-/// so yet.
-pub fn chooses_the_later_file()
-    ensures later { LaterIsChosen }
-    ensures same { SameIsHurt }
-    ensures one { OneIsChosen }
-    ensures fronts { FrontsChoose }
-    ensures worked { ChoiceIsWorked }
+/// Of two files the one of greater generation is read, whichever disk it stands on; two of one
+/// generation are damage.
+pub fn reads_the_later_file()
+    ensures greater { GreaterIsFound }
+    ensures same { SameIsDamage }
 {}

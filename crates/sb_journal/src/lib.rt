@@ -33,6 +33,7 @@ mod judge;
 pub mod laws;
 mod looking;
 mod opening;
+mod picking;
 mod piece;
 mod reading;
 mod unopened;

@@ -2,10 +2,11 @@
 use Rattle.std.proofs.Common.{◌≡◌, ◌≢◌, inl, inr, ℕ, List, [], ◌∷◌, ◌++◌, Bool, true, false, true≢false, Option, Some, None, Result, Ok, Err, refl, sym, ap, ◌∙◌, subst}
 use Rattle.std.specs.Bool.{MatchBool}
 use Rattle.std.specs.Prelude.{if◌then◌else◌, IfErr}
-use Rattle.sb_journal.specs.Disks.{Disks}
+use Rattle.sb_journal.specs.declared.found.Side.{Side}
+use Rattle.sb_journal.specs.Disks.{Disks, on_side}
 use Rattle.sb_journal.specs.Journals.{journal_disks}
 use Rattle.sb_journal.specs.declared.journal.Journal.{Journal}
-use Rattle.sb_journal.proofs.Pairs.{weaker_pair}
+use Rattle.sb_journal.proofs.Pairs.{still_pairs, weaker_pair}
 use Rattle.sb_machine.specs.Answers.{moment_of, state_of}
 use Rattle.sb_machine.specs.Due.{is_due}
 use Rattle.sb_machine.specs.Events.{after_event, event_at, is_disk_fault, undecided}
@@ -22,7 +23,7 @@ use Rattle.sb_outside.specs.declared.disk.Disk.{Ghosts}
 use Rattle.sb_node.specs.Nodes.{HoldsState, LeadsToOneOf, StayOneOf}
 use Rattle.sb_node.specs.Serving.{states_at, FollowEntries}
 use Rattle.sb_node.specs.Steps.{entries_with, log_of, time_to, IsTicked, IsTickFault}
-use Rattle.sb_node.proofs.Crashes.{pairs_on, step_moments, untouched_moments}
+use Rattle.sb_node.proofs.Crashes.{step_moments, untouched_moments}
 use Rattle.sb_node.proofs.Stepping.{time_is}
 use Rattle.sb_node.proofs.Undecided.{call_leads, tick_leads}
 
@@ -120,9 +121,9 @@ behind : (tick : Option ℕ) (t : ℕ) (s0 s1 : State) → IsTicked tick t s0 s1
 behind None t s0 s1 went = sym went.1
 behind (Some m) t s0 s1 went = ap (advanced s0) went.0 ∙ sym went.3
 
-with_tick : (was mid later : Disks) (tick : Option ℕ) (t : ℕ) (s0 s1 next : State) → IsTicked tick t s0 s1 → mid.b ≡ was.b → later.b ≡ mid.b → StayOneOf was mid (s0 ∷ time_to t s0 ∷ []) → StayOneOf mid later (s1 ∷ next ∷ []) → StayOneOf was later (before_tick tick s0 ++ s1 ∷ next ∷ [])
-with_tick was mid later None t s0 s1 next went still stays first second =
-    pairs_on was mid later (LeadsToOneOf (s1 ∷ next ∷ [])) still stays
+with_tick : (side : Side) (was mid later : Disks) (tick : Option ℕ) (t : ℕ) (s0 s1 next : State) → IsTicked tick t s0 s1 → on_side side mid ≡ on_side side was → on_side side later ≡ on_side side mid → StayOneOf was mid (s0 ∷ time_to t s0 ∷ []) → StayOneOf mid later (s1 ∷ next ∷ []) → StayOneOf was later (before_tick tick s0 ++ s1 ∷ next ∷ [])
+with_tick side was mid later None t s0 s1 next went still stays first second =
+    still_pairs side was mid later (LeadsToOneOf (s1 ∷ next ∷ [])) still stays
     (weaker_pair was mid (LeadsToOneOf (s1 ∷ s1 ∷ [])) (LeadsToOneOf (s1 ∷ next ∷ [])) one
     (subst (λ (s : State). StayOneOf was mid (s1 ∷ s ∷ [])) (sym (time_is None t s0 s1 went)) (subst (λ (s : State). StayOneOf was mid (s ∷ time_to t s0 ∷ [])) (sym went.1) first)))
     second
@@ -131,18 +132,18 @@ with_tick was mid later None t s0 s1 next went still stays first second =
     one a b (inl is) = inl is
     one a b (inr (inl is)) = inl is
     one a b (inr (inr none)) = absurd none
-with_tick was mid later (Some m) t s0 s1 next went still stays first second =
-    step_moments was mid later s0 s1 next still stays (subst (λ (s : State). StayOneOf was mid (s0 ∷ s ∷ [])) (sym (time_is (Some m) t s0 s1 went)) first) second
+with_tick side was mid later (Some m) t s0 s1 next went still stays first second =
+    step_moments side was mid later s0 s1 next still stays (subst (λ (s : State). StayOneOf was mid (s0 ∷ s ∷ [])) (sym (time_is (Some m) t s0 s1 went)) first) second
 
-pub call_follows : {D : Type 0} {B : Ghosts D} (old mid new : Journal D B) (last t seat reading : ℕ) (call : Call) (s0 s1 : State) (stopped : Option ℕ) (tick tick_after : Option ℕ) (answer : Result Answered Refusal) → tick_after ≡ tick → IsTicked tick t s0 s1
-    → t ≡ moment_of s1 reading → is_due t s1.space ≡ false → (journal_disks mid).b ≡ (journal_disks old).b → (journal_disks new).b ≡ (journal_disks mid).b → IfErr answer (λ e. e ≢ DiskFault → new ≡ mid) → HoldsState mid last s1
+pub call_follows : {D : Type 0} {B : Ghosts D} (side : Side) (old mid new : Journal D B) (last t seat reading : ℕ) (call : Call) (s0 s1 : State) (stopped : Option ℕ) (tick tick_after : Option ℕ) (answer : Result Answered Refusal) → tick_after ≡ tick → IsTicked tick t s0 s1
+    → t ≡ moment_of s1 reading → is_due t s1.space ≡ false → on_side side (journal_disks mid) ≡ on_side side (journal_disks old) → on_side side (journal_disks new) ≡ on_side side (journal_disks mid) → IfErr answer (λ e. e ≢ DiskFault → new ≡ mid) → HoldsState mid last s1
     → StayOneOf (journal_disks old) (journal_disks mid) (s0 ∷ time_to t s0 ∷ []) → StayOneOf (journal_disks mid) (journal_disks new) (s1 ∷ state_of s1 t call ∷ [])
     → FollowEntries [] (log_of s0 stopped) (entries_with tick_after seat reading call answer) (journal_disks old) (journal_disks new)
-call_follows {D} {B} old mid new last t seat reading call s0 s1 stopped tick tick_after answer same went at calm still stays left kept first second =
+call_follows {D} {B} side old mid new last t seat reading call s0 s1 stopped tick tick_after answer same went at calm still stays left kept first second =
     subst (λ (o : Option ℕ). FollowEntries [] (log_of s0 stopped) (entries_with o seat reading call answer) (journal_disks old) (journal_disks new)) (sym same)
     (one_step tick s0 stopped seat reading call answer (journal_disks old) (journal_disks new)
     (subst (λ (s : State). StayOneOf (journal_disks old) (journal_disks new) (before_tick tick s0 ++ states_at s reading call answer)) (sym (behind tick t s0 s1 went))
-    (with_tick (journal_disks old) (journal_disks mid) (journal_disks new) tick t s0 s1 _ went still stays first
+    (with_tick side (journal_disks old) (journal_disks mid) (journal_disks new) tick t s0 s1 _ went still stays first
     (call_states (journal_disks mid) (journal_disks new) t reading call s1 answer at calm alone second))))
   where
     alone : is_fault answer ≡ true → is_disk_fault answer ≡ false → StayOneOf (journal_disks mid) (journal_disks new) (s1 ∷ s1 ∷ [])

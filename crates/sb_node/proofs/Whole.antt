@@ -4,7 +4,8 @@ use Rattle.std.specs.Prelude.{if◌then◌else◌, IfErr}
 use Rattle.sb_outside.specs.Causes.{RoseByOne}
 use Rattle.sb_outside.specs.declared.disk.Disk.{Ghosts}
 use Rattle.sb_journal.specs.declared.journal.Journal.{Journal}
-use Rattle.sb_journal.specs.Disks.{Disks, AreQuiet, OneFault, NoneFell, SameHonesty}
+use Rattle.sb_journal.specs.declared.found.Side.{Side}
+use Rattle.sb_journal.specs.Disks.{Disks, on_side, AreQuiet, OneFault, NoneFell, SameHonesty}
 use Rattle.sb_journal.specs.Journals.{journal_disks}
 use Rattle.sb_laws.proofs.StaysWhole.{stays_consistent, ticks_consistent}
 use Rattle.sb_machine.specs.Accounts.{changing}
@@ -82,10 +83,10 @@ called_is tick t call s0 s1 went calm = by_calm ∙ ap (called_at t call) (time_
     by_calm : state_of s1 t call ≡ called_at t call s1
     by_calm = ap (λ (b : Bool). if b then s1 else state_of s1 t call) (sym calm)
 
-pub whole_moments : (was mid later : Disks) (tick : Option ℕ) (t : ℕ) (call : Call) (s0 s1 : State) → IsTicked tick t s0 s1 → is_due t s1.space ≡ false → mid.b ≡ was.b → later.b ≡ mid.b
+pub whole_moments : (side : Side) (was mid later : Disks) (tick : Option ℕ) (t : ℕ) (call : Call) (s0 s1 : State) → IsTicked tick t s0 s1 → is_due t s1.space ≡ false → on_side side mid ≡ on_side side was → on_side side later ≡ on_side side mid
     → StayOneOf was mid (s0 ∷ time_to t s0 ∷ []) → StayOneOf mid later (s1 ∷ state_of s1 t call ∷ []) → StayOneOf was later (s0 ∷ time_to t s0 ∷ called_at t call (time_to t s0) ∷ [])
-whole_moments was mid later tick t call s0 s1 went calm still stays first second =
-    step_moments was mid later s0 (time_to t s0) (called_at t call (time_to t s0)) still stays first
+whole_moments side was mid later tick t call s0 s1 went calm still stays first second =
+    step_moments side was mid later s0 (time_to t s0) (called_at t call (time_to t s0)) still stays first
     (subst (λ (s : State). StayOneOf mid later (s ∷ called_at t call (time_to t s0) ∷ [])) (time_is tick t s0 s1 went)
     (subst (λ (s : State). StayOneOf mid later (s1 ∷ s ∷ [])) (called_is tick t call s0 s1 went calm) second))
 

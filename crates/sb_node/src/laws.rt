@@ -1,7 +1,7 @@
 // Laws: each a function without effect whose contract is true of the definitions.
 ghost use Rattle.std.specs.Prelude.{◌≡◌, [], codes, length, take, Some, None, Ok, Err};
 ghost use Rattle.sb_desk.specs.Spared.{Spares};
-ghost use Rattle.sb_journal.specs.declared.found.Side.TheVariants.{A};
+ghost use Rattle.sb_journal.specs.declared.found.Side.TheVariants.{A, B};
 ghost use Rattle.sb_machine.specs.Namespace.{empty_state};
 ghost use Rattle.sb_machine.specs.Worked.{empty};
 ghost use Rattle.sb_machine.specs.declared.call.How.TheVariants.{Abandon, Complete};
@@ -46,6 +46,17 @@ pub fn worked_journal()
     ensures gate_open { recovered (with_byte 86 1) [] 0 ≡ damaged A 86 }
     // Time goes on only where something is due.
     ensures idle { recovered ticked_file [] 0 ≡ damaged A 86 }
+{}
+
+/// The same journal on one of two disks or on both, worked through with the definitions alone: of two the
+/// one of greater generation counts, and nothing but the head is read of the other.
+pub fn worked_pair()
+    ensures greater { (recovered (with_byte 42 0) (with_byte 25 2) 0 ≡ recovers with_queue 1) × (recovered (with_byte 25 2) (with_byte 42 0) 0 ≡ recovers with_queue 1) }
+    ensures beside { (recovered [] worked_file 0 ≡ recovers with_queue 1) × (recovered (with_byte 0 0x58) worked_file 0 ≡ recovers with_queue 1) × (recovered worked_file (with_byte 0 0x58) 0 ≡ recovers with_queue 1) }
+    ensures same { recovered worked_file worked_file 0 ≡ damaged B 18 }
+    ensures heads { (recovered worked_file (with_byte 8 0) 0 ≡ damaged B 1) × (recovered (with_byte 9 2) (with_byte 8 0) 0 ≡ damaged A 9) × (recovered [] (with_byte 33 0) 0 ≡ damaged B 26) }
+    ensures first_byte { (recovered [] (with_byte 0 0x58) 5 ≡ damaged B 0) × (recovered (with_byte 0 0) (with_byte 0 0) 5 ≡ damaged A 0) }
+    ensures records { (recovered (with_byte 44 0x11) (with_byte 25 2) 0 ≡ recovers with_queue 1) × (recovered [] (with_byte 44 0x11) 0 ≡ damaged B 42) }
 {}
 
 /// A history whose last call settles a message under a lock, worked through with the definitions alone:

@@ -30,7 +30,6 @@ pub fn look<D: Disk>(
     ensures memory { IfErr result (λ e. e ≢ OpenWhy.DiskFault → AreQuiet (disks_of D.Disk disk_a.old disk_b.old) (disks_of D.Disk disk_a.new disk_b.new)) }
     ensures later { NoneFell (disks_of D.Disk disk_a.old disk_b.old) (disks_of D.Disk disk_a.new disk_b.new) }
     ensures honesty { SameHonesty (disks_of D.Disk disk_a.old disk_b.old) (disks_of D.Disk disk_a.new disk_b.new) }
-    ensures disk_b { disk_b.new ≡ disk_b.old }
 {
     let judged = match look_by(alloc, disk_a, disk_b, salt) {
         Ok(judged) => judged,

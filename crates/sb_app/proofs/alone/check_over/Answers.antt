@@ -1,4 +1,4 @@
-use Rattle.std.proofs.Common.{Some, sym, subst}
+use Rattle.std.proofs.Common.{refl, Some, sym, subst}
 use Rattle.sb_journal.specs.Disks.{disks_of}
 use Rattle.sb_engine.specs.Engines.{summary_of}
 use Rattle.sb_node.specs.Nodes.{node_state, node_disk_a, node_disks, node_last, IsKept}
@@ -6,8 +6,9 @@ use Rattle.sb_app.specs.Checks.{check_line, IsLineTold}
 use Rattle.sb_app.specs.Outside.{output_of, outside_of}
 use Rattle.sb_app.specs.Tops.{IsCarriedOut}
 use Rattle.sb_app.specs.declared.task.Task.TheVariants.{Check}
-use Rattle.sb_app.proofs.Whole.{kept_numbers}
+use Rattle.sb_app.proofs.Whole.{closed_aside, kept_numbers}
 use Rattle.sb_app.proofs.Carried.{not_opened, check_over}
+use Rattle.sb_journal.specs.declared.found.Side.TheVariants.{B}
 use Rattle.sb_app.proofs.alone.check_over.Goals as goal
 
 pub returns-in-Err-clause-done : goal.returns-in-Err-clause-done
@@ -27,3 +28,10 @@ returns-clause-done g c =
     let over = check_over (g.C.Clock.reads c.args.clock.now) c.args.max_jump (IsKept node) c.args.salt (node_last node) was (node_disks node) (output_of g.K.Sink output) (node_state node) status c.in-Ok.ensures.opened (kept_numbers node c.args.salt) told in
     subst (λ a. IsCarriedOut (g.C.Clock.reads c.args.clock.now) c.args.max_jump (Some Check) c.args.salt was (outside_of g.D.Disk g.S.Source g.K.Sink a c.close-disk_a.result.1 c.args.input.now output) status) (sym c.close-disk_a.ensures.disk_a)
     (subst (λ b. IsCarriedOut (g.C.Clock.reads c.args.clock.now) c.args.max_jump (Some Check) c.args.salt was (outside_of g.D.Disk g.S.Source g.K.Sink (node_disk_a node) b c.args.input.now output) status) (sym c.close-disk_a.ensures.disk_b) over)
+
+pub returns-in-Err-clause-aside : goal.returns-in-Err-clause-aside
+returns-in-Err-clause-aside g c honest = let fails = c.in-Err.ensures.failed in (B, (fails.1.keeps honest).1)
+
+pub returns-clause-aside : goal.returns-clause-aside
+returns-clause-aside g c honest =
+    closed_aside c.in-Ok.node c.in-Ok.node c.close-disk_a.result.0 c.close-disk_a.result.1 c.args.salt (disks_of g.D.Disk c.args.disk_a c.args.disk_b) refl c.close-disk_a.ensures.disk_a c.close-disk_a.ensures.disk_b (c.in-Ok.ensures.aside honest)

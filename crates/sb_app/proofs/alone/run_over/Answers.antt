@@ -5,8 +5,9 @@ use Rattle.sb_app.specs.Outside.{output_of, outside_of}
 use Rattle.sb_app.specs.Nodes.{outside_with}
 use Rattle.sb_app.specs.Tops.{IsCarriedOut}
 use Rattle.sb_app.specs.declared.task.Task.TheVariants.{Run}
-use Rattle.sb_app.proofs.Whole.{kept_recovers, kept_durable}
+use Rattle.sb_app.proofs.Whole.{closed_aside, kept_recovers, kept_durable}
 use Rattle.sb_app.proofs.Carried.{not_opened, IsEnded, run_over}
+use Rattle.sb_journal.specs.declared.found.Side.TheVariants.{B}
 use Rattle.sb_app.proofs.alone.run_over.Goals as goal
 
 pub returns-in-Err-clause-done : goal.returns-in-Err-clause-done
@@ -45,3 +46,10 @@ returns-clause-done g c =
     let over = run_over (g.C.Clock.reads c.args.clock.now) c.args.max_jump (IsKept first) c.args.salt was now (node_disks first) (node_state first) (node_state last) status c.in-Ok.ensures.opened from_here in
     subst (λ a. IsCarriedOut (g.C.Clock.reads c.args.clock.now) c.args.max_jump (Some Run) c.args.salt was (outside_of g.D.Disk g.S.Source g.K.Sink a c.close-disk_a.result.1 input output) status) (sym c.close-disk_a.ensures.disk_a)
     (subst (λ b. IsCarriedOut (g.C.Clock.reads c.args.clock.now) c.args.max_jump (Some Run) c.args.salt was (outside_of g.D.Disk g.S.Source g.K.Sink (node_disk_a last) b input output) status) (sym c.close-disk_a.ensures.disk_b) over)
+
+pub returns-in-Err-clause-aside : goal.returns-in-Err-clause-aside
+returns-in-Err-clause-aside g c honest = let fails = c.in-Err.ensures.failed in (B, (fails.1.keeps honest).1)
+
+pub returns-clause-aside : goal.returns-clause-aside
+returns-clause-aside g c honest =
+    closed_aside c.in-Ok.node c.run_status-status.new.node c.close-disk_a.result.0 c.close-disk_a.result.1 c.args.salt (disks_of g.D.Disk c.args.disk_a c.args.disk_b) c.run_status-status.ensures.aside c.close-disk_a.ensures.disk_a c.close-disk_a.ensures.disk_b (c.in-Ok.ensures.aside honest)

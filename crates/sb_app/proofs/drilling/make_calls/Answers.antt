@@ -9,7 +9,7 @@ loop-n-init g c = record {
   drills = drills_nothing c.args.seed c.args.node.now (record { memory = c.nothing.result; accepted = 0; refused = 0 }) c.requires.stands c.requires.running c.requires.consistent c.nothing.ensures refl refl;
   within = omega arith;
   origin = refl;
-  disk_b = refl;
+  aside = refl;
 }
 
 pub loop-n-preserved : goal.loop-n-preserved
@@ -17,7 +17,7 @@ loop-n-preserved g c = record {
   drills = c.in-Ok.ensures.ok (node_state c.args.node.now) c.loop-n.invariant.drills;
   within = omega (arith, c.loop-n-test.true);
   origin = c.make_call.ensures.origin ∙ c.loop-n.invariant.origin;
-  disk_b = c.make_call.ensures.disk_b ∙ c.loop-n.invariant.disk_b;
+  aside = c.make_call.ensures.aside ∙ c.loop-n.invariant.aside;
 }
 
 pub returns-in-Err-clause-err : goal.returns-in-Err-clause-err

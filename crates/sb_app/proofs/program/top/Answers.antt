@@ -1,11 +1,11 @@
-use Rattle.std.proofs.Common.{◌∙◌, List, ℕ, map, refl, subst}
+use Rattle.std.proofs.Common.{◌∙◌, List, Some, ℕ, map, refl, subst, sym}
 use Rattle.sb_words.specs.Words.{connections_in, max_jump_in}
 use Rattle.sb_server.specs.Serves.{Working}
 use Rattle.sb_server.specs.Works.{ServesBy}
 use Rattle.sb_app.specs.Calls.{task_in}
 use Rattle.sb_app.specs.Outside.{input_of, outside_of}
 use Rattle.sb_app.specs.Servings.{IsServeCall, limits_in}
-use Rattle.sb_app.proofs.Calls.{client_task, days_in, limits_are, most_in, other_task, unnamed}
+use Rattle.sb_app.proofs.Calls.{client_task, days_in, limits_are, most_in, named, other_task, unnamed}
 use Rattle.sb_app.proofs.Servings.{no_two_serve, unread_serve}
 use Rattle.sb_app.proofs.program.top.Goals as goal
 
@@ -22,7 +22,8 @@ returns-in-Err-clause-link g c other =
 pub returns-in-Err-clause-client_alone : goal.returns-in-Err-clause-client_alone
 returns-in-Err-clause-client_alone g c is =
     let words : List (List ℕ) = map (λ w. w.now) c.args.words.now in
-    rw (c.carry_out-status.ensures.client_alone (task_in words) (max_jump_in words) (unnamed words (max_jump_in words) c.in-Err.fault c.in-Err.ensures.bad) (client_task words is), c.carry_out-status.ensures.disk_b) refl
+    let same = c.carry_out-status.ensures.client_alone (task_in words) (max_jump_in words) (unnamed words (max_jump_in words) c.in-Err.fault c.in-Err.ensures.bad) (client_task words is) in
+    rw (same.0, same.1) refl
 
 pub returns-in-Err-clause-input : goal.returns-in-Err-clause-input
 returns-in-Err-clause-input g c serves = c.carry_out-status.ensures.unread
@@ -44,3 +45,9 @@ returns-in_default-clause-usage g c two = absurd (no_two_serve _ (c.serve_over-s
 
 pub returns-in_default-clause-usage_alone : goal.returns-in_default-clause-usage_alone
 returns-in_default-clause-usage_alone g c two = absurd (no_two_serve _ (c.serve_over-status.ensures (input_of g.S.Source c.args.input.now)).known two)
+
+pub returns-clause-link : goal.returns-clause-link
+returns-clause-link g c other =
+    let words : List (List ℕ) = map (λ w. w.now) c.args.words.now in
+    let is = named words c.in-Ok.form (Some c.in-Some.task) c.in-Ok.ensures.ok (sym c.in-Some.is ∙ c.task_of.ensures) in
+    c.carry_out-status-2.ensures.link (Some c.in-Some.task) c.in-Ok.form.max_jump (refl, refl) (λ client. other_task words other (is ∙ client))

@@ -66,7 +66,7 @@ lines-preserved g c =
       write_same = c.in_ok-was_refused.ensures.passed.1 ∙ c.lines.invariant.write_same;
       disk_same = quiet_on (node_disks c.args.node.now) (node_disks c.lines.node) (node_disks c.dispatch_line.new.node) c.lines.invariant.disk_same c.in_ok-was_refused.ensures.passed.0;
       honesty = honest_on (node_disks c.args.node.now) (node_disks c.lines.node) (node_disks c.dispatch_line.new.node) c.lines.invariant.honesty c.in_ok-was_refused.ensures.honesty;
-      disk_b = c.in_ok-was_refused.ensures.disk_b ∙ c.lines.invariant.disk_b;
+      aside = c.in_ok-was_refused.ensures.aside ∙ c.lines.invariant.aside;
     }
 
 pub returns-in_default-clause-cut : goal.returns-in_default-clause-cut
@@ -140,7 +140,7 @@ lines-init g c =
       write_same = refl;
       disk_same = (refl, refl);
       honesty = (refl, refl);
-      disk_b = refl;
+      aside = refl;
     }
 
 pub returns-then-is_done-clause-passed : goal.returns-then-is_done-clause-passed

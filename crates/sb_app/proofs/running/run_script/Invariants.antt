@@ -1,7 +1,7 @@
 use Rattle.std.proofs.Common.{◌≡◌, ◌<◌, None}
 use Rattle.sb_machine.specs.Consistent.{IsConsistent}
 use Rattle.sb_journal.specs.Disks.{AreQuiet, SameHonesty}
-use Rattle.sb_node.specs.Nodes.{node_state, node_stopped, node_disk_b, node_disks, IsKept}
+use Rattle.sb_node.specs.Nodes.{node_state, node_stopped, node_aside, node_disks, IsKept}
 use Rattle.sb_input.specs.Limits.{max_input}
 use Rattle.sb_app.specs.Jumps.{AllWithin}
 use Rattle.sb_app.specs.Lines.{script_lines}
@@ -23,7 +23,7 @@ invariant-lines g l = record {
   write_same : g.K.Sink.count l.output ≡ g.K.Sink.count l.fn.output;
   disk_same : AreQuiet (node_disks l.fn.node) (node_disks l.node);
   honesty : SameHonesty (node_disks l.fn.node) (node_disks l.node);
-  disk_b : node_disk_b l.node ≡ node_disk_b l.fn.node;
+  aside : node_aside l.node ≡ node_aside l.fn.node;
 }
 
 abbrev pub decreases-lines : goal.decreases-lines

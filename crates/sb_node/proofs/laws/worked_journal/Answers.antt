@@ -1,4 +1,5 @@
 use Rattle.std.proofs.Common.{refl}
+use Rattle.sb_journal.specs.Choosing.{headed}
 use Rattle.sb_journal.specs.Framing.{framing, head_fault, is_record, payloads_in}
 use Rattle.std.specs.Str.{is_utf8, chars}
 use Rattle.sb_codec.specs.Acts.{any_act}
@@ -12,77 +13,77 @@ pub returns-clause-length : goal.returns-clause-length
 returns-clause-length c = refl
 
 pub returns-clause-whole : goal.returns-clause-whole
-unfolding framing head_fault is_record payloads_in read_event event a_call any_act description chosen_at coded_at number_at sized_at optional_at is_utf8 chars lib.Utf8.encode
+unfolding framing headed head_fault is_record payloads_in read_event event a_call any_act description chosen_at coded_at number_at sized_at optional_at is_utf8 chars lib.Utf8.encode
 returns-clause-whole c = refl
 
 pub returns-clause-no_end_gate : goal.returns-clause-no_end_gate
-unfolding framing head_fault is_record payloads_in read_event event a_call any_act description chosen_at coded_at number_at sized_at optional_at is_utf8 chars lib.Utf8.encode
+unfolding framing headed head_fault is_record payloads_in read_event event a_call any_act description chosen_at coded_at number_at sized_at optional_at is_utf8 chars lib.Utf8.encode
 returns-clause-no_end_gate c = refl
 
 pub returns-clause-gate_closed : goal.returns-clause-gate_closed
-unfolding framing head_fault is_record payloads_in
+unfolding framing headed head_fault is_record payloads_in
 returns-clause-gate_closed c = refl
 
 pub returns-clause-no_journal : goal.returns-clause-no_journal
-unfolding framing head_fault is_record payloads_in
+unfolding framing headed head_fault is_record payloads_in
 returns-clause-no_journal c = (refl, refl)
 
 pub returns-clause-first_byte : goal.returns-clause-first_byte
-unfolding framing head_fault is_record payloads_in
+unfolding framing headed head_fault is_record payloads_in
 returns-clause-first_byte c = (refl, refl, refl)
 
 pub returns-clause-magic : goal.returns-clause-magic
-unfolding framing head_fault is_record payloads_in
+unfolding framing headed head_fault is_record payloads_in
 returns-clause-magic c = refl
 
 pub returns-clause-version : goal.returns-clause-version
-unfolding framing head_fault is_record payloads_in
+unfolding framing headed head_fault is_record payloads_in
 returns-clause-version c = refl
 
 pub returns-clause-generation : goal.returns-clause-generation
-unfolding framing head_fault is_record payloads_in
+unfolding framing headed head_fault is_record payloads_in
 returns-clause-generation c = (refl, refl)
 
 pub returns-clause-first : goal.returns-clause-first
-unfolding framing head_fault is_record payloads_in
+unfolding framing headed head_fault is_record payloads_in
 returns-clause-first c = (refl, refl)
 
 pub returns-clause-base : goal.returns-clause-base
-unfolding framing head_fault is_record payloads_in
+unfolding framing headed head_fault is_record payloads_in
 returns-clause-base c = refl
 
 pub returns-clause-base_cut : goal.returns-clause-base_cut
-unfolding framing head_fault is_record payloads_in
+unfolding framing headed head_fault is_record payloads_in
 returns-clause-base_cut c = refl
 
 pub returns-clause-cut : goal.returns-clause-cut
-unfolding framing head_fault is_record payloads_in
+unfolding framing headed head_fault is_record payloads_in
 returns-clause-cut c = (refl, refl)
 
 pub returns-clause-too_long : goal.returns-clause-too_long
-unfolding framing head_fault is_record payloads_in
+unfolding framing headed head_fault is_record payloads_in
 returns-clause-too_long c = refl
 
 pub returns-clause-number : goal.returns-clause-number
-unfolding framing head_fault is_record payloads_in
+unfolding framing headed head_fault is_record payloads_in
 returns-clause-number c = refl
 
 pub returns-clause-no_event : goal.returns-clause-no_event
-unfolding framing head_fault is_record payloads_in read_event event a_call any_act description chosen_at coded_at number_at sized_at optional_at is_utf8 chars lib.Utf8.encode
+unfolding framing headed head_fault is_record payloads_in read_event event a_call any_act description chosen_at coded_at number_at sized_at optional_at is_utf8 chars lib.Utf8.encode
 returns-clause-no_event c = refl
 
 pub returns-clause-refused : goal.returns-clause-refused
-unfolding framing head_fault is_record payloads_in read_event event a_call any_act description chosen_at coded_at number_at sized_at optional_at is_utf8 chars lib.Utf8.encode
+unfolding framing headed head_fault is_record payloads_in read_event event a_call any_act description chosen_at coded_at number_at sized_at optional_at is_utf8 chars lib.Utf8.encode
 returns-clause-refused c = refl
 
 pub returns-clause-late : goal.returns-clause-late
-unfolding framing head_fault is_record payloads_in read_event event a_call any_act description chosen_at coded_at number_at sized_at optional_at is_utf8 chars lib.Utf8.encode
+unfolding framing headed head_fault is_record payloads_in read_event event a_call any_act description chosen_at coded_at number_at sized_at optional_at is_utf8 chars lib.Utf8.encode
 returns-clause-late c = refl
 
 pub returns-clause-gate_open : goal.returns-clause-gate_open
-unfolding framing head_fault is_record payloads_in read_event event a_call any_act description chosen_at coded_at number_at sized_at optional_at is_utf8 chars lib.Utf8.encode
+unfolding framing headed head_fault is_record payloads_in read_event event a_call any_act description chosen_at coded_at number_at sized_at optional_at is_utf8 chars lib.Utf8.encode
 returns-clause-gate_open c = refl
 
 pub returns-clause-idle : goal.returns-clause-idle
-unfolding framing head_fault is_record payloads_in read_event event a_call any_act description chosen_at coded_at number_at sized_at optional_at is_utf8 chars lib.Utf8.encode
+unfolding framing headed head_fault is_record payloads_in read_event event a_call any_act description chosen_at coded_at number_at sized_at optional_at is_utf8 chars lib.Utf8.encode
 returns-clause-idle c = refl

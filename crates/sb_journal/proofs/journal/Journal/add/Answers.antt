@@ -35,6 +35,7 @@ returns-clause-ok g c file staged holds =
       bytes = more_bytes staged j.next j.count p there.written j.buffer.items c.open_gate.new.buffer.items c.frame_behind.new.buffer.items there.count there.bytes c.open_gate.ensures.items c.frame_behind.ensures.items;
       count = let was = there.count in omega (arith, was, length-append staged (p ∷ []));
       within = more_within file staged p j.next j.count there.within c.requires.short there.stages.next_is there.count few;
+      aside = there.aside;
       reads = there.reads;
       leaves = there.leaves;
     }

@@ -1,7 +1,9 @@
+use Rattle.std.proofs.Common.{◌∙◌, sym, ap}
+use Rattle.sb_journal.specs.declared.choosing.Choice.TheVariants.{Counts}
 use Rattle.sb_journal.specs.Disks.{disks_of}
 use Rattle.sb_journal.specs.Journals.{journal_disks, fault_disks}
 use Rattle.sb_journal.specs.Unopened.{unopened_disks}
-use Rattle.sb_journal.proofs.Pairs.{still_honest, fault_on, opening_stays_pair, opening_finishes_pair}
+use Rattle.sb_journal.proofs.Pairs.{still_honest, fault_on, opening_stays_pair, opening_finishes_pair, kept_aside}
 use Rattle.sb_journal.proofs.journal.Journal.open.Goals as goal
 
 pub returns-in-Ok-finish-clause-ok : goal.returns-in-Ok-finish-clause-ok
@@ -14,21 +16,21 @@ pub returns-in-Ok-finish-clause-any_moment : goal.returns-in-Ok-finish-clause-an
 returns-in-Ok-finish-clause-any_moment g c honest =
     let was = disks_of g.D.Disk c.args.disk_a c.args.disk_b in
     let mid = unopened_disks c.in-Ok.unopened in
-    let later = journal_disks c.in-Ok-finish.journal in
     let honest_1 = still_honest was mid c.in-Ok.ensures.honesty honest in
-    let honest_2 = still_honest mid later c.in-Ok-finish.ensures.honesty honest_1 in
-    let synced = c.in-Ok.ensures.synced honest in
-    opening_finishes_pair c.args.salt _ was mid later c.in-Ok.ensures.salt synced (g.met.D.Disk.seen_is_image _ honest_2.1) (c.in-Ok-finish.ensures.any_moment _ _ honest_1 (c.in-Ok.ensures.stands honest))
+    opening_finishes_pair c.args.salt _ was mid (journal_disks c.in-Ok-finish.journal) c.in-Ok.ensures.salt (c.in-Ok.ensures.synced honest) (c.in-Ok-finish.ensures.any_moment _ _ honest_1 (c.in-Ok.ensures.stands honest))
+
+pub returns-in-Ok-finish-clause-aside : goal.returns-in-Ok-finish-clause-aside
+returns-in-Ok-finish-clause-aside g c honest =
+    let was = disks_of g.D.Disk c.args.disk_a c.args.disk_b in
+    let later = journal_disks c.in-Ok-finish.journal in
+    kept_aside c.args.salt c.in-Ok-finish.journal.side was later (c.in-Ok.ensures.counts honest ∙ ap Counts (sym c.in-Ok-finish.ensures.side)) (returns-in-Ok-finish-clause-any_moment g c honest)
 
 pub returns-in-Err-finish-clause-any_moment : goal.returns-in-Err-finish-clause-any_moment
 returns-in-Err-finish-clause-any_moment g c honest =
     let was = disks_of g.D.Disk c.args.disk_a c.args.disk_b in
     let mid = unopened_disks c.in-Ok.unopened in
-    let later = fault_disks g.D.Disk c.in-Err-finish.fault in
     let honest_1 = still_honest was mid c.in-Ok.ensures.honesty honest in
-    let honest_2 = still_honest mid later c.in-Err-finish.ensures.honesty honest_1 in
-    let synced = c.in-Ok.ensures.synced honest in
-    opening_finishes_pair c.args.salt _ was mid later c.in-Ok.ensures.salt synced (g.met.D.Disk.seen_is_image _ honest_2.1) (c.in-Err-finish.ensures.any_moment _ _ honest_1 (c.in-Ok.ensures.stands honest))
+    opening_finishes_pair c.args.salt _ was mid (fault_disks g.D.Disk c.in-Err-finish.fault) c.in-Ok.ensures.salt (c.in-Ok.ensures.synced honest) (c.in-Err-finish.ensures.any_moment _ _ honest_1 (c.in-Ok.ensures.stands honest))
 
 pub returns-in-Err-clause-any_moment : goal.returns-in-Err-clause-any_moment
 returns-in-Err-clause-any_moment g c honest =
