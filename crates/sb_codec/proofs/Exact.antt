@@ -208,7 +208,7 @@ exact_optional exact = record { takes = optional_takes exact; again = optional_a
 
 -- ---- items behind their count
 
-items_take : {A : Type 0} (step : Option A → Reader A) (s : A → List ℕ) (F : Option A → A → Type 0) → ((last : Option A) → Exact (step last) s (F last)) → (n : ℕ) (last : Option A) (bytes : List ℕ) (x : List A × List ℕ) → IsBytes bytes
+pub items_take : {A : Type 0} (step : Option A → Reader A) (s : A → List ℕ) (F : Option A → A → Type 0) → ((last : Option A) → Exact (step last) s (F last)) → (n : ℕ) (last : Option A) (bytes : List ℕ) (x : List A × List ℕ) → IsBytes bytes
     → items_at step last n bytes ≡ Some x → Taken (flat_map s) (λ xs. (length xs ≡ n) × Follow F last xs) bytes x
 unfolding items_at
 items_take {A} step s F exact zero last bytes x bounds e =
@@ -225,7 +225,7 @@ items_take {A} step s F exact (suc n) last bytes x bounds e =
       fits = (ap suc v.fits.0, (u.fits, v.fits.1));
     })
 
-items_again : {A : Type 0} (step : Option A → Reader A) (s : A → List ℕ) (F : Option A → A → Type 0) → ((last : Option A) → Exact (step last) s (F last)) → (xs : List A) (last : Option A) (rest : List ℕ) → Follow F last xs
+pub items_again : {A : Type 0} (step : Option A → Reader A) (s : A → List ℕ) (F : Option A → A → Type 0) → ((last : Option A) → Exact (step last) s (F last)) → (xs : List A) (last : Option A) (rest : List ℕ) → Follow F last xs
     → items_at step last (length xs) (flat_map s xs ++ rest) ≡ Some (xs, rest)
 unfolding items_at
 items_again step s F exact [] last rest fits = refl

@@ -61,14 +61,14 @@ optional_asked i (Some a) h = i.asked a h
 pub optional_is : {A : Type 0} {f : Form A} → IsForm f → IsForm (optional f)
 optional_is i = record { exact = exact_optional i.exact; asked = optional_asked i; small = optional_small i }
 
-items_small : {A : Type 0} {f : Form A} → IsForm f → (xs : List A) → length (flat_map f.spell xs) ≤ sum_by (λ x. f.fixed + f.content x) xs
+pub items_small : {A : Type 0} {f : Form A} → IsForm f → (xs : List A) → length (flat_map f.spell xs) ≤ sum_by (λ x. f.fixed + f.content x) xs
 items_small i [] = omega arith
 items_small {A} {f} i (x ∷ xs) = omega (arith, length-flat_map-cons f.spell x xs, sum_by-cons (λ (y : A). f.fixed + f.content y) x xs, i.small x, items_small i xs)
 
 listed_small : {A : Type 0} {f : Form A} → IsForm f → (xs : List A) → length (bytes.listed f.spell xs) ≤ 4 + sum_by (λ x. f.fixed + f.content x) xs
 listed_small {A} {f} i xs = let len : length (to_be_bytes w32 (length xs)) ≡ 4 = refl in omega (arith, len, length-append (to_be_bytes w32 (length xs)) (flat_map f.spell xs), items_small i xs)
 
-items_asked : {A : Type 0} {f : Form A} (follows : Option A → A → Bool) → IsForm f → (last : Option A) (xs : List A)
+pub items_asked : {A : Type 0} {f : Form A} (follows : Option A → A → Bool) → IsForm f → (last : Option A) (xs : List A)
     → Follow (λ last x. f.Fits x × (follows last x ≡ true)) last xs → Follow (λ last x. f.Asks x × (follows last x ≡ true)) last xs
 items_asked follows i last [] h = tt
 items_asked follows i last (x ∷ xs) h = ((i.asked x h.0.0, h.0.1), items_asked follows i (Some x) xs h.1)

@@ -65,7 +65,8 @@ macro_rules! act_of {
     };
 }
 
-pub(crate) struct ActPiece;
+/// An act: its code and its fields.
+pub struct ActPiece;
 
 impl Piece for ActPiece {
     type Value = Act;

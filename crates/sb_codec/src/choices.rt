@@ -52,7 +52,8 @@ impl Piece for WhichPiece {
     }
 }
 
-pub(crate) struct HowPiece;
+/// What becomes of a message that is settled.
+pub struct HowPiece;
 
 impl Piece for HowPiece {
     type Value = How;

@@ -11,7 +11,8 @@ use sb_model::{Body, Rows, Text};
 use std::alloc::{AllocError, Global};
 use std::marker::PhantomData;
 
-pub(crate) struct Number32;
+/// A number in 4 bytes.
+pub struct Number32;
 
 impl Piece for Number32 {
     type Value = u64;
@@ -33,7 +34,8 @@ impl Piece for Number32 {
     }
 }
 
-pub(crate) struct Number64;
+/// A number in 8 bytes.
+pub struct Number64;
 
 impl Piece for Number64 {
     type Value = u64;
@@ -79,7 +81,8 @@ fn sized_of(alloc: Global, bytes: &[u8]) -> Result<(&[u8], &[u8]), Unread>
     Ok(rest.split_at(len as usize))
 }
 
-pub(crate) struct Blob;
+/// Bytes behind their length in 4 bytes.
+pub struct Blob;
 
 impl Piece for Blob {
     type Value = Rows<u8>;
@@ -114,7 +117,8 @@ impl Piece for Shared {
     }
 }
 
-pub(crate) struct Words;
+/// A text behind its length in 4 bytes.
+pub struct Words;
 
 impl Piece for Words {
     type Value = Text;
@@ -137,7 +141,8 @@ impl Piece for Words {
     }
 }
 
-pub(crate) struct Truth;
+/// 00 or 01.
+pub struct Truth;
 
 impl Piece for Truth {
     type Value = bool;
@@ -159,7 +164,8 @@ impl Piece for Truth {
     }
 }
 
-pub(crate) struct Opt<F> {
+/// 00, or 01 and the value.
+pub struct Opt<F> {
     of: PhantomData<F>,
 }
 

@@ -6,7 +6,8 @@
 //!
 //! A *form* (`specs/Forms`) says of one kind of values how they are spelled, how they are read,
 //! which of them have a spelling and how long it is; a piece (`piece.rt`) is a form in code. Forms
-//! are put together, and an act is one line: in `specs/Acts` and in the table of `acts.rt`.
+//! are put together, and an act is one line: in `specs/Acts` and in the table of `acts.rt`. The pieces
+//! are public, so that a crate above spells what else it keeps in the same way.
 //!
 //! ```text
 //! let bytes = encode_event(alloc, &EventRef::Tick { moment: 9 })?; // 00, and 9 in 8 bytes
@@ -29,7 +30,15 @@ mod pieces;
 mod unread;
 mod worked;
 
+pub use acts::ActPiece;
+pub use choices::HowPiece;
 pub use decode::decode_event;
 pub use encode::{encode_event, write_event};
+pub use fields::{Blob, Number32, Number64, Opt, Truth, Words};
 pub use laws::{journaled_calls, one_spelling};
+pub use lists::{Item, Listed, items_of, put_items};
+pub use messages::{ConditionsPiece, MessagePiece};
+pub use piece::Piece;
+pub use pieces::{DescriptionPiece, PartPiece, PathPiece, TokenPiece};
+pub use unread::Unread;
 pub use worked::worked_bytes;

@@ -14,14 +14,15 @@ use std::alloc::{AllocError, Global};
 use std::marker::PhantomData;
 
 /// What stands in lists, and which may stand behind which.
-pub(crate) trait Item: Piece {
+pub trait Item: Piece {
     ghost follows: { Option Self.Value → Self.Value → Bool };
 
     fn follows(last: Option<&Self::Value>, next: &Self::Value) -> bool
         ensures { result ≡ follows (option_copied last.entry) next.now };
 }
 
-fn put_items<F: Item>(items: &[F::Value], out: &mut Vec<u8>) -> Result<(), AllocError>
+/// Adds the spellings of these items, one behind the other.
+pub fn put_items<F: Item>(items: &[F::Value], out: &mut Vec<u8>) -> Result<(), AllocError>
     requires { Follow (λ last x. F.form.Asks x × (F.follows last x ≡ true)) None items.now }
     ensures puts { Puts (flat_map F.form.spell items.now) out.old out.new result }
     ensures fits { OnOk result (Follow (λ last x. F.form.Fits x × (F.follows last x ≡ true)) None items.now) }
@@ -32,7 +33,8 @@ fn put_items<F: Item>(items: &[F::Value], out: &mut Vec<u8>) -> Result<(), Alloc
     Ok(())
 }
 
-fn items_of<F: Item>(
+/// So many items, each of which may stand behind the one before it, and the bytes behind them.
+pub fn items_of<F: Item>(
     alloc: Global,
     count: u64,
     bytes: &[u8],
@@ -53,7 +55,8 @@ fn items_of<F: Item>(
     Ok((items, rest))
 }
 
-pub(crate) struct Listed<F> {
+/// A list behind its count in 4 bytes.
+pub struct Listed<F> {
     of: PhantomData<F>,
 }
 

@@ -198,7 +198,8 @@ impl Item for PropertyPiece {
     }
 }
 
-pub(crate) struct ConditionsPiece;
+/// What a correlation filter asks.
+pub struct ConditionsPiece;
 
 impl Piece for ConditionsPiece {
     type Value = Conditions;
@@ -216,7 +217,8 @@ impl Piece for ConditionsPiece {
     }
 }
 
-pub(crate) struct MessagePiece;
+/// A message.
+pub struct MessagePiece;
 
 impl Piece for MessagePiece {
     type Value = Message;

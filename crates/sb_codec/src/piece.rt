@@ -7,7 +7,7 @@ use crate::unread::Unread;
 use std::alloc::{AllocError, Global};
 
 /// How values of one kind stand in bytes.
-pub(crate) trait Piece {
+pub trait Piece {
     type Value: Drop;
 
     ghost form: { Form Self.Value };
@@ -24,7 +24,8 @@ pub(crate) trait Piece {
         ensures { Gives (λ x. (x.0, x.1.now)) result (form.reads bytes.now) };
 }
 
-// Writes these fields in order.
+/// Writes these fields in order.
+#[macro_export]
 macro_rules! put_fields {
     ($out:ident, $($value:expr => $form:ty),*) => {{
         $(<$form as Piece>::put($value, $out)?;)*
@@ -32,7 +33,8 @@ macro_rules! put_fields {
     }};
 }
 
-// Reads these fields in order, and makes a value of them.
+/// Reads these fields in order, and makes a value of them.
+#[macro_export]
 macro_rules! take_fields {
     ($alloc:ident, $bytes:ident, $($made:ident)::+ { $($field:ident: $form:ty),* }) => {{
         let rest = $bytes;

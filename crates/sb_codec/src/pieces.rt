@@ -11,7 +11,8 @@ use sb_machine::{By, Description, Mode, Part, Path, Token};
 use sb_model::Text;
 use std::alloc::{AllocError, Global};
 
-pub(crate) struct PartPiece;
+/// A part of an entity, as one byte.
+pub struct PartPiece;
 
 impl Piece for PartPiece {
     type Value = Part;
@@ -65,7 +66,8 @@ impl Piece for ModePiece {
     }
 }
 
-pub(crate) struct PathPiece;
+/// An address.
+pub struct PathPiece;
 
 impl Piece for PathPiece {
     type Value = Path;
@@ -83,7 +85,8 @@ impl Piece for PathPiece {
     }
 }
 
-pub(crate) struct TokenPiece;
+/// A lock token.
+pub struct TokenPiece;
 
 impl Piece for TokenPiece {
     type Value = Token;
@@ -133,7 +136,8 @@ impl Piece for ByPiece {
     }
 }
 
-pub(crate) struct DescriptionPiece;
+/// The description of an entity.
+pub struct DescriptionPiece;
 
 impl Piece for DescriptionPiece {
     type Value = Description;

@@ -6,7 +6,7 @@ use std::alloc::{AllocError, AllocFailed};
 
 /// Why a value could not be read from the front of the bytes.
 #[derive(Drop)]
-pub(crate) enum Unread {
+pub enum Unread {
     /// Memory is wanting.
     Memory,
     /// No value is spelled so.
