@@ -5,9 +5,8 @@ use Rattle.std.specs.List.{flat_map, sum_by}
 use Rattle.sb_codec.specs.Forms.{Form, Follow}
 use Rattle.sb_codec.specs.Readers as readers
 use Rattle.sb_codec.specs.Readers.{Reader, ◌>>=◌, number_at, items_at}
-use Rattle.sb_codec.proofs.Exact.{IsBytes, IsBytes-rest, bind_some, some_is, Taken, Exact, exact_number32, exact_number64, exact_tested}
-use Rattle.sb_codec.proofs.Forms.{IsForm, number32_is}
-use Rattle.sb_snapshot.proofs.Items.{items_take, items_again, items_small, items_asked}
+use Rattle.sb_codec.proofs.Exact.{IsBytes, IsBytes-rest, bind_some, some_is, Taken, Exact, exact_number32, exact_number64, exact_tested, items_take, items_again}
+use Rattle.sb_codec.proofs.Forms.{IsForm, number32_is, items_small, items_asked}
 use Rattle.sb_snapshot.specs.Lists.{byte_at, number8, count32, listed64_at, listed64, narrowed}
 
 -- ---- numbers

@@ -3,19 +3,26 @@
 //! The bytes are the base of a journal's file, behind which its records stand. They say all that a
 //! state holds but for the namespace's salt, which the file's head has. The crate stands on
 //! `sb_machine`, whose states these are, and on `sb_codec`, whose forms of messages, acts and
-//! descriptions stand here too. Its one contract: [`one_base`] says that a state that has a spelling
-//! (`specs/Base`) has one of its own, which begins no other, and that bytes are read as a state
-//! exactly where they spell it.
+//! descriptions stand here too.
+//!
+//! [`one_base`] says that a state that has a spelling (`specs/Base`) has one of its own, which begins
+//! no other, and that bytes are read as a state exactly where they spell it. A copy of a message is a
+//! piece, with a writer and a reader: [`CopyPiece`].
 //!
 //! ```text
-//! one_base(); // state_of salt (base_of s) is s again
+//! CopyPiece::put(&copy, &mut out)?;               // its bytes stand behind those of `out`
+//! let (copy, rest) = CopyPiece::take(alloc, bytes)?; // the copy at the front, and what is behind it
 //! ```
 #![tactic(auto)]
 
+mod coded;
+mod copies;
+mod counted;
 mod laws;
 mod parts;
 mod worked;
 
+pub use copies::CopyPiece;
 pub use laws::{consistent_is_written, one_base};
 pub use parts::{EntityHead, Parts, PlacedLeaf, PlacedSession};
 pub use worked::worked_bases;
