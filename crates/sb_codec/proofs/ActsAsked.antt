@@ -32,12 +32,12 @@ use Rattle.sb_codec.specs.Acts.{any_act}
 use Rattle.sb_codec.specs.Choices.{which, how, filter_text}
 use Rattle.sb_codec.specs.EventBytes.{a_call, event, IsSpellable}
 use Rattle.sb_codec.specs.Forms.{text, blob, optional, listed}
-use Rattle.sb_codec.specs.Judged.{has_names, bad_described, is_short_id, has_short_id, has_sizes, IsJudged}
+use Rattle.sb_machine.specs.Judged.{has_names, bad_described, is_short_id, has_short_id, has_sizes, IsJudged}
 use Rattle.sb_codec.specs.Messages.{conditions, message, any_next}
 use Rattle.sb_codec.specs.Pieces.{token, by}
 use Rattle.sb_codec.proofs.Asked.{short_text, any_number, entity_name, short_name, rule_name, path_asked, description_asked, conditions_asked, messages_asked}
 use Rattle.sb_codec.proofs.Characters.{length_by_chars, length_of_text, filter_limit, action_limit}
-use Rattle.sb_codec.proofs.Passed.{both, first_none, unless_none, first_size_none, above_none, none_is, between_most}
+use Rattle.sb_machine.proofs.Passed.{both, first_none, unless_none, first_size_none, above_none, none_is, between_most}
 
 -- ---- texts that are counted in characters
 

@@ -30,7 +30,7 @@ use Rattle.sb_machine.specs.declared.state.EntityKind.{EntityKind}
 use Rattle.sb_codec.specs.Forms.{Form, Follow, text, optional, number32, number64}
 use Rattle.sb_codec.specs.Messages.{value, signed64, system, systems, is_next_system, property, properties, is_next_property, message, any_next}
 use Rattle.sb_codec.specs.Pieces.{path, description, by}
-use Rattle.sb_codec.proofs.Passed.{both, both_true, either, first_none, unless_none, first_size_none, above_none, between_most, fit}
+use Rattle.sb_machine.proofs.Passed.{both, both_true, either, first_none, unless_none, first_size_none, above_none, between_most, fit}
 
 -- ---- texts and numbers
 

@@ -4,10 +4,10 @@ use Rattle.std.specs.Prelude.{◌==◌}
 use Rattle.std.specs.Str.{IsUtf8, chars}
 use Rattle.std.proofs.Math.Utf8.{encode, encodes}
 use Rattle.std.proofs.lemmas.Bool.{ltb-true, leb-true, le-leb}
-use Rattle.std.proofs.lemmas.Str.{encodes-chars, length-encode, length-le-encodes, len_utf8_bounds}
+use Rattle.std.proofs.lemmas.Str.{encodes-chars, length-encode, len_utf8_bounds}
 use Rattle.sb_machine.specs.Each.{is_read}
 use Rattle.sb_model.specs.Texts.{is_continuing, further, place_of_character, past_limit, read_short, read_text, filter_in, action_in}
-use Rattle.sb_codec.proofs.Passed.{both_true, not_both}
+use Rattle.sb_machine.proofs.Passed.{both_true, not_both}
 
 encodes_short : (cs : List ℕ) → length (encodes cs) ≤ 4 * length cs
 encodes_short [] = omega arith
@@ -17,12 +17,6 @@ pub length_by_chars : (t : List ℕ) → IsUtf8 t → length t ≤ 4 * length (c
 length_by_chars t u =
     let same : length (encodes (chars t)) ≡ length t = ap (λ (l : List ℕ). length l) (encodes-chars t u) in
     let short = encodes_short (chars t) in
-    omega (arith, same, short)
-
-pub chars_by_length : (t : List ℕ) → IsUtf8 t → length (chars t) ≤ length t
-chars_by_length t u =
-    let same : length (encodes (chars t)) ≡ length t = ap (λ (l : List ℕ). length l) (encodes-chars t u) in
-    let short = length-le-encodes (chars t) in
     omega (arith, same, short)
 
 -- ---- the place of a character

@@ -9,11 +9,7 @@ pub mod ExactMessages
 pub mod ExactChoices
 pub mod ExactActs
 pub mod Spelling
-pub mod Passed
 pub mod Characters
 pub mod Asked
 pub mod ActsAsked
 pub mod Short
-pub mod Rows
-pub mod Named
-pub mod Accepted

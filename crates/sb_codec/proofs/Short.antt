@@ -40,16 +40,16 @@ use Rattle.sb_machine.specs.declared.state.EntityKind.{EntityKind}
 use Rattle.sb_machine.specs.declared.state.EntityKind.TheVariants.{Queue, Topic, Subscription}
 use Rattle.sb_codec.specs.Acts.{any_act}
 use Rattle.sb_codec.specs.Choices.{which, how, filter_text}
-use Rattle.sb_codec.specs.EventBytes.{a_call, event, event_bytes, HasSpelling}
+use Rattle.sb_codec.specs.EventBytes.{a_call, event, event_bytes, max_payload, HasSpelling}
 use Rattle.sb_codec.specs.Forms.{Form, text, optional, number64, number32, content_or_none}
-use Rattle.sb_codec.specs.Judged.{has_names, bad_described, is_short_id, has_short_id, has_sizes, IsJudged, max_payload}
+use Rattle.sb_machine.specs.Judged.{has_names, bad_described, is_short_id, has_short_id, has_sizes, IsJudged}
 use Rattle.sb_codec.specs.Messages.{value, signed64, system, property, conditions, message}
 use Rattle.sb_codec.specs.Pieces.{path, token, by, description}
 use Rattle.sb_codec.proofs.ActsAsked.{is_read-as, conditions_within}
 use Rattle.sb_codec.proofs.Asked.{described, name_length, rule_name_length, few_systems, few_properties, sizes_of}
 use Rattle.sb_codec.proofs.Characters.{length_by_chars, length_of_text, filter_limit, action_limit}
 use Rattle.sb_codec.proofs.Spelling.{event_is}
-use Rattle.sb_codec.proofs.Passed.{both, first_none, unless_none, first_size_none, above_none, none_is, between_most, fit}
+use Rattle.sb_machine.proofs.Passed.{both, first_none, unless_none, first_size_none, above_none, none_is, between_most, fit}
 
 -- ---- what a piece takes beside its content
 

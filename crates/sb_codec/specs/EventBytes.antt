@@ -54,6 +54,10 @@ HasSpelling e = event.Fits e
 abbrev pub IsSpellable : Event → Type 0
 IsSpellable e = event.Asks e
 
+-- the most bytes that a journal record holds
+abbrev pub max_payload : ℕ
+max_payload = 1048576
+
 -- the event that these bytes spell, all of them
 unfoldable pub read_event : List ℕ → Option Event
 read_event bytes = event.reads bytes >>= λ x. if length x.1 == 0 then Some x.0 else None

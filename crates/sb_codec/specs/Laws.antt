@@ -2,14 +2,14 @@
 use Rattle.std.specs.Prelude.{◌≡◌, ◌≤◌, ℕ, List, [], ◌++◌, length, Bool, true, Some}
 use Rattle.sb_machine.specs.Answers.{is_change}
 use Rattle.sb_machine.specs.Consistent.{IsConsistent}
+use Rattle.sb_machine.specs.Judged.{IsJudged}
 use Rattle.sb_machine.specs.Ordered.{IsActInOrder}
 use Rattle.sb_machine.specs.Repeats.{client_of, outcome_of}
 use Rattle.sb_machine.specs.declared.call.Call.{Call}
 use Rattle.sb_machine.specs.declared.call.Event.{Event}
 use Rattle.sb_machine.specs.declared.call.Event.TheVariants.{Tick, Called}
 use Rattle.sb_machine.specs.declared.state.State.{State}
-use Rattle.sb_codec.specs.EventBytes.{event_bytes, HasSpelling, IsSpellable, read_event}
-use Rattle.sb_codec.specs.Judged.{IsJudged, max_payload}
+use Rattle.sb_codec.specs.EventBytes.{event_bytes, max_payload, HasSpelling, IsSpellable, read_event}
 
 -- bytes that begin with two spellings begin with one: two events never share theirs
 abbrev pub IsSpelledOnce : Type 0

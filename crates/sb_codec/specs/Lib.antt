@@ -1,5 +1,5 @@
 -- The bytes of events in the journal, in the order to read them: Bytes, Readers, Forms (what a form is); Pieces, Messages, Choices, Acts,
--- EventBytes (the format itself, as docs/FORMATS.md tells it); Judged and Laws (what passes the machine's tests has a spelling).
+-- EventBytes (the format itself, as docs/FORMATS.md tells it); Laws (what passes the machine's tests has a spelling).
 pub mod Bytes
 pub mod Readers
 pub mod Forms
@@ -8,6 +8,5 @@ pub mod Messages
 pub mod Choices
 pub mod Acts
 pub mod EventBytes
-pub mod Judged
 pub mod Laws
 pub mod Worked

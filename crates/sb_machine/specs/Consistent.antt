@@ -1,24 +1,25 @@
 -- What holds of a state between two entries of its history, point by point.
 use Rattle.std.specs.Prelude.{◌≡◌, ◌≢◌, ℕ, ◌+◌, ◌++◌, ◌≤◌, ◌<◌, List, [], ◌∷◌, length, map, filter, true, false, is_none, sum_by, Some, None}
 use Rattle.std.specs.List.{flat_map}
-use Rattle.sb_machine.specs.Administration.{large_filter}
 use Rattle.sb_machine.specs.Answers.{max_moment}
 use Rattle.sb_machine.specs.Changes.{max_number}
-use Rattle.sb_machine.specs.Fields.{max_messages, bad_in_act, bad_in_how, takes_number, is_between, is_number}
+use Rattle.sb_machine.specs.Delivery.{max_count}
+use Rattle.sb_machine.specs.Fields.{max_messages, bad_in_how, is_between, is_id, is_number}
+use Rattle.sb_machine.specs.Judged.{IsJudged}
 use Rattle.sb_machine.specs.Keyed.{AreRising}
 use Rattle.sb_machine.specs.Names.{is_address, is_main, is_before, is_same_entity}
 use Rattle.sb_machine.specs.Namespace.{made, entity_of, leaf_of, key_of}
-use Rattle.sb_machine.specs.Sending.{too_large}
-use Rattle.sb_machine.specs.Sessions.{max_state, size_of}
 use Rattle.sb_machine.specs.Settlement.{goes_with}
 use Rattle.sb_machine.specs.Transactions.{max_transactions}
-use Rattle.sb_machine.specs.declared.call.Act.{Act}
-use Rattle.sb_machine.specs.declared.call.Act.TheVariants.{CreateRule, SessionSet, Send as SendNow}
+use Rattle.sb_machine.specs.declared.call.Call.{Call}
 use Rattle.sb_machine.specs.declared.call.Part.{Part}
 use Rattle.sb_machine.specs.declared.call.Part.TheVariants.{Main, Dead, Transfer}
 use Rattle.sb_machine.specs.declared.change.LeafKey.{LeafKey}
+use Rattle.sb_machine.specs.declared.reply.CopyShown.{CopyShown}
 use Rattle.sb_machine.specs.declared.reply.Reply.{Reply}
-use Rattle.sb_machine.specs.declared.reply.Reply.TheVariants.{Sent, Copies, State as Remembers, Counts, Message as Given}
+use Rattle.sb_machine.specs.declared.reply.Reply.TheVariants.{Sent, Copies, State as Remembers, Counts, Message as Given, Session as Accepted}
+use Rattle.sb_machine.specs.declared.reply.Showing.{Showing}
+use Rattle.sb_machine.specs.declared.reply.Showing.TheVariants.{Removed, Locked, Browsed}
 use Rattle.sb_machine.specs.declared.state.Entity.{Entity}
 use Rattle.sb_machine.specs.declared.state.Kept.{Kept}
 use Rattle.sb_machine.specs.declared.state.Leaf.{Leaf}
@@ -93,34 +94,37 @@ pub record IsTransaction (now : ℕ) (s : Space) (x : Transaction) : Type 0 wher
 
 -- ---- clients
 
+-- it wasn't only looked at
+abbrev pub IsHandedOut : Showing → Type 0
+IsHandedOut Removed = Unit {0}
+IsHandedOut (Locked token until) = Unit {0}
+IsHandedOut (Browsed state) = ⊥
+
+-- what holds of a message as it was handed out: a part may hold it, and its delivery count is one above that of a copy
+pub record IsGiven (c : CopyShown) : Type 0 where
+  pub message : IsMessage c.message
+  pub no_schedule : c.message.schedule ≡ None
+  pub showing : IsHandedOut c.showing
+  pub once : 1 ≤ c.delivery
+  pub count : c.delivery ≤ max_count + 1
+
 -- what holds of a reply that is remembered for a client: it is never one of a call that only looks
 abbrev pub IsReply : Reply → Type 0
 IsReply (Sent receipts) = length receipts ≤ max_messages
-IsReply (Given shown) = shown.message.schedule ≡ None
+IsReply (Given shown) = IsGiven shown
+IsReply (Accepted id token until) = is_id id ≡ true
 IsReply (Copies copies) = ⊥
 IsReply (Remembers state) = ⊥
 IsReply (Counts main dead transfer) = ⊥
 IsReply _ = Unit {0}
 
--- a message that such a reply shows is one that a part may hold
-abbrev pub IsShown : Reply → Type 0
-IsShown (Given shown) = IsMessage shown.message
-IsShown _ = Unit {0}
+-- the call that is remembered
+abbrev pub kept_call : Kept → Call
+kept_call k = record { by = Some (record { client = k.client; number = k.number }); act = k.act }
 
--- what an accepted act carries has its size within the limits: messages, the conditions of a filter, a session's state
-abbrev pub IsSized : Act → Type 0
-IsSized (SendNow to messages txn) = too_large messages ≡ None
-IsSized (CreateRule topic subscription name filter action) = large_filter filter ≡ None
-IsSized (SessionSet from token state) = size_of state ≤ max_state
-IsSized _ = Unit {0}
-
--- what holds of what is remembered for a client
+-- what holds of what is remembered for a client: its call passed the tests, a send those of one that goes by way of no other entity
 pub record IsKept (k : Kept) : Type 0 where
-  pub client : is_between 1 50 (length k.client) ≡ true
-  pub number : is_number k.number ≡ true
-  pub act : takes_number k.act ≡ true
-  pub fields : bad_in_act false k.act ≡ None
-  pub size : IsSized k.act
+  pub judged : IsJudged false (kept_call k)
   pub reply : IsReply k.reply
 
 -- ---- the whole
@@ -145,4 +149,3 @@ pub record IsConsistent (st : State) : Type 0 where
   pub clients : IsSorted (λ a b. is_before a.client b.client) st.clients
   pub few_clients : length st.clients ≤ max_clients
   pub kept : Each IsKept st.clients
-  pub shown : Each (λ k. IsShown k.reply) st.clients

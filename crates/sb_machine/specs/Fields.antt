@@ -115,6 +115,10 @@ abbrev pub is_short : ℕ → Option (List ℕ) → Bool
 is_short most None = true
 is_short most (Some text) = nat_le (length (chars text)) most
 
+-- the id of a message or a session
+abbrev pub is_id : List ℕ → Bool
+is_id text = is_short 128 (Some text)
+
 -- the first bad field of a settlement
 abbrev pub bad_in_how : How → Key
 bad_in_how Complete = None

@@ -5,7 +5,7 @@ use Rattle.sb_machine.specs.Changes.{max_number, is_earlier}
 use Rattle.sb_machine.specs.Delivery.{max_count}
 use Rattle.sb_machine.specs.Descriptions.{bad_in_description, has_rules}
 use Rattle.sb_model.specs.Effects.{value_size, max_property_bytes, max_user_properties, property_bytes}
-use Rattle.sb_machine.specs.Fields.{max_ttl, bad_in_texts, is_between_or_none, is_number}
+use Rattle.sb_machine.specs.Fields.{max_ttl, bad_in_texts, is_between_or_none, is_id, is_number}
 use Rattle.sb_machine.specs.Keyed.{AreRising}
 use Rattle.sb_machine.specs.Leaves.{is_held_under}
 use Rattle.sb_machine.specs.Messages.{max_body, text_of}
@@ -89,6 +89,7 @@ pub record IsLeaf (now : ℕ) (leaf : Leaf) : Type 0 where
   pub numbers : AreRising (λ c. c.number) 0 leaf.last leaf.copies
   pub copies : Each (IsCopy now leaf.sessions) leaf.copies
   pub order : IsSorted (λ a b. is_before a.id b.id) leaf.sessions
+  pub short_ids : Each (λ x. is_id x.id ≡ true) leaf.sessions
   pub sessions : Each (IsSession now) leaf.sessions
 
 -- ---- entities
@@ -130,6 +131,7 @@ AreIds now (Some window) ids =
 pub record IsEntity (now : ℕ) (e : Entity) : Type 0 where
   pub about : IsListed e.about
   pub ids : AreIds now e.about.description.window e.ids
+  pub short_ids : Each (λ a. is_id a.id ≡ true) e.ids
   pub main : IsLeaf now e.main
   pub dead : IsLeaf now e.dead
   pub transfer : IsLeaf now e.transfer

@@ -1,6 +1,6 @@
 -- The broker as definitions, in the order to read them: Names, Namespace; Leaves, Changes; Rows, Claims, Leases; Visits, Delivery;
 -- an operation (Fields, Sending, SendRow, Receiving, Settlement, SettleRow, Sessions, Administration, Transactions, Queueing; Acts);
--- Due (time); Repeats, Answers, History (all calls); what the laws speak of (Ends, Accounts, Events, Consistent). The headline is sb_app's.
+-- Due (time); Repeats, Answers, History (all calls); what the laws speak of (Ends, Accounts, Events, Judged, Consistent). The headline is sb_app's.
 pub mod Names
 pub mod Keyed
 pub mod Namespace
@@ -36,6 +36,7 @@ pub mod Accounts
 pub mod Events
 pub mod Each
 pub mod Fit
+pub mod Judged
 pub mod Consistent
 pub mod Laws
 pub mod Worked

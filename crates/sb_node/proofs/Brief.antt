@@ -18,10 +18,10 @@ use Rattle.sb_codec.specs.Acts.{any_act}
 use Rattle.sb_codec.specs.Choices.{which, how}
 use Rattle.sb_codec.specs.EventBytes.{a_call, event, event_bytes}
 use Rattle.sb_codec.specs.Forms.{content_or_none}
-use Rattle.sb_codec.specs.Judged.{has_names, has_short_id, is_short_id}
+use Rattle.sb_machine.specs.Judged.{has_names, has_short_id, is_short_id}
 use Rattle.sb_codec.specs.Pieces.{path, token, by}
 use Rattle.sb_codec.proofs.Asked.{name_length}
-use Rattle.sb_codec.proofs.Passed.{both}
+use Rattle.sb_machine.proofs.Passed.{both}
 use Rattle.sb_codec.proofs.Spelling.{event_is}
 use Rattle.sb_engine.specs.Drafts.{copies_nothing}
 use Rattle.sb_engine.specs.Small.{is_small}

@@ -5,10 +5,10 @@ use Rattle.std.proofs.Props.{props}
 use Rattle.std.specs.List.{flat_map}
 use Rattle.std.specs.Prelude.{◌&&◌, is_none}
 use Rattle.sb_codec.specs.EventBytes.{event_bytes, HasSpelling, IsSpellable}
-use Rattle.sb_codec.specs.Judged.{IsJudged}
-use Rattle.sb_codec.proofs.Accepted.{changing_judged}
+use Rattle.sb_machine.specs.Judged.{IsJudged}
+use Rattle.sb_machine.proofs.Accepted.{changing_judged}
 use Rattle.sb_codec.proofs.ActsAsked.{judged_asked}
-use Rattle.sb_codec.proofs.Passed.{both, none_is}
+use Rattle.sb_machine.proofs.Passed.{both, none_is}
 use Rattle.sb_codec.proofs.Short.{judged_short}
 use Rattle.sb_journal.specs.Text.{max_payload}
 use Rattle.sb_laws.specs.Sweepable.{IsLasting, IsSweepable, IsSweepableCopy, IsSweepableLeaf, IsSweepableEntity}

@@ -26,7 +26,7 @@ use Rattle.sb_codec.specs.Pieces.{path, by}
 use Rattle.sb_codec.specs.Messages.{system, systems, is_next_system, property, properties, is_next_property, conditions, message, any_next}
 use Rattle.sb_codec.specs.Readers.{Reader, both, mapped, tested, number_at, items_at, listed_at}
 use Rattle.sb_codec.proofs.Exact.{bind_some, when_some}
-use Rattle.sb_codec.proofs.Passed.{both as both_of, both_true}
+use Rattle.sb_machine.proofs.Passed.{both as both_of, both_true}
 
 -- ---- readers
 

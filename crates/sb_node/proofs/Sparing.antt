@@ -1,7 +1,7 @@
 -- A call that takes no memory isn't refused for want of it.
 use Rattle.std.proofs.Common.{◌≡◌, ◌≢◌, ◌<◌, ◌≤◌, ◌+◌, ℕ, Bool, true, false, Option, Some, None, Result, Err, sym, ap, ◌∙◌, subst, arith}
 use Rattle.std.specs.Prelude.{not, IfSome}
-use Rattle.sb_codec.proofs.Passed.{both}
+use Rattle.sb_machine.proofs.Passed.{both}
 use Rattle.sb_desk.specs.Spared.{SparesFrom}
 use Rattle.sb_machine.specs.Answers.{answer_of, moment_of}
 use Rattle.sb_machine.specs.Due.{is_due}

@@ -13,7 +13,7 @@ use Rattle.sb_machine.specs.declared.call.Event.TheVariants.{Tick, Called}
 use Rattle.sb_machine.specs.declared.reply.Refusal.{Refusal}
 use Rattle.sb_machine.specs.declared.reply.Refusal.TheVariants.{OutOfMemory}
 use Rattle.sb_machine.specs.declared.state.State.{State}
-use Rattle.sb_codec.proofs.Passed.{both}
+use Rattle.sb_machine.proofs.Passed.{both}
 use Rattle.sb_node.specs.Recovery.{is_in_time, is_next_tick, is_next_call, next_state}
 use Rattle.sb_node.specs.Steps.{time_to}
 

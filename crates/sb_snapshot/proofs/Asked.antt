@@ -8,9 +8,10 @@ use Rattle.std.proofs.lemmas.List.Sums.{sum_by-cons}
 use Rattle.std.proofs.lemmas.Slice.Eq.{bytes_eq-Decides}
 use Rattle.std.proofs.lemmas.Str.{IsUtf8-from_is_utf8}
 use Rattle.sb_machine.specs.Changes.{is_earlier}
-use Rattle.sb_machine.specs.Consistent.{IsOperation, IsTransaction, IsKept, IsReply, IsShown, IsConsistent}
+use Rattle.sb_machine.specs.Consistent.{IsOperation, IsTransaction, IsHandedOut, IsGiven, IsReply, IsKept, kept_call, IsConsistent}
 use Rattle.sb_machine.specs.Each.{Each, Pairs}
-use Rattle.sb_machine.specs.Fields.{bad_in_how, is_short, max_messages}
+use Rattle.sb_machine.specs.Delivery.{max_count}
+use Rattle.sb_machine.specs.Fields.{bad_in_how, is_id, is_short, max_messages}
 use Rattle.sb_machine.specs.Fit.{IsMessage, IsFilter, IsRule, IsListed, AreIds, IsEntity, IsCopy, IsLeaf, IsSession}
 use Rattle.sb_machine.specs.Keyed.{AreRising}
 use Rattle.sb_machine.specs.Names.{is_before, is_same_entity, is_same_option}
@@ -51,26 +52,26 @@ use Rattle.sb_machine.specs.declared.state.State.{State}
 use Rattle.sb_machine.specs.declared.state.StoredCopy.{StoredCopy}
 use Rattle.sb_machine.specs.declared.state.Transaction.{Transaction}
 use Rattle.sb_codec.specs.Choices.{how}
+use Rattle.sb_codec.specs.EventBytes.{a_call, event}
 use Rattle.sb_codec.specs.Forms.{Follow, blob, text}
 use Rattle.sb_codec.specs.Messages.{conditions, message}
-use Rattle.sb_codec.specs.Pieces.{part_code, path, token}
-use Rattle.sb_codec.proofs.ActsAsked.{act_asked}
-use Rattle.sb_codec.proofs.Asked.{short_text, rule_name, path_asked, description_asked}
+use Rattle.sb_codec.specs.Pieces.{by, part_code, path, token}
+use Rattle.sb_codec.proofs.ActsAsked.{judged_asked}
+use Rattle.sb_codec.proofs.Asked.{rule_name, path_asked, description_asked}
 use Rattle.sb_codec.proofs.Exact.{some_is}
 use Rattle.sb_codec.proofs.Characters.{length_by_chars, length_of_text, filter_limit, action_limit}
-use Rattle.sb_codec.proofs.Passed.{first_none, unless_none, between_most}
+use Rattle.sb_machine.proofs.Passed.{first_none, unless_none, between_most}
 use Rattle.sb_snapshot.specs.Base.{head_of, leaves_in, placed_sessions, sessions_in, parts, IsSpellable}
-use Rattle.sb_snapshot.specs.Bounded.{is_id, HasIds, IsHanded, IsRemembered, IsBounded}
 use Rattle.sb_snapshot.specs.Copies.{hold, standing, copy, is_next_copy}
 use Rattle.sb_snapshot.specs.Entities.{filter, action_words, rule, is_next_rule, accepted, is_next_id, about, head, is_next_head}
-use Rattle.sb_snapshot.specs.Replies.{receipt, showing, delivery, shown, answer, kept, is_next_kept, IsHandedOut}
+use Rattle.sb_snapshot.specs.Replies.{receipt, showing, delivery, shown, answer, kept, is_next_kept}
 use Rattle.sb_snapshot.specs.Sessions.{key, is_same_key, is_before_key, leaf, holder, in_part, session, is_next_session}
 use Rattle.sb_snapshot.specs.Transactions.{operation, transaction, is_next_transaction}
 use Rattle.sb_snapshot.specs.declared.parts.EntityHead.{EntityHead}
 use Rattle.sb_snapshot.specs.declared.parts.PlacedSession.{PlacedSession}
 use Rattle.sb_snapshot.proofs.AskedMessages.{lists_asked, message_asked}
 use Rattle.sb_snapshot.proofs.Gathered.{key_self}
-use Rattle.sb_snapshot.proofs.Ordered.{each_more, each_both, each_append, pairs_append, follow_each, follow_sorted, follow_rising}
+use Rattle.sb_snapshot.proofs.Ordered.{each_more, each_append, pairs_append, follow_each, follow_sorted, follow_rising}
 
 -- ---- texts
 
@@ -131,9 +132,9 @@ unfolding about
 about_asked e is =
     (tt, (tt, (path_asked e.about.path is.address, (description_asked e.about.kind e.about.description is.described, follow_sorted IsRule rule.Asks is_next_rule rule_asked (λ r h. refl) (λ a b. is_before a.name b.name) (λ a b h before. before) e.about.rules is.rules is.order))))
 
-head_asked : (now : ℕ) (e : Entity) → IsEntity now e → HasIds e → HeadAsked e
+head_asked : (now : ℕ) (e : Entity) → IsEntity now e → HeadAsked e
 unfolding head
-head_asked now e is short = (about_asked e is.about, ids_asked now e.about.description.window e.ids is.ids short.0)
+head_asked now e is = (about_asked e is.about, ids_asked now e.about.description.window e.ids is.ids is.short_ids)
 
 abbrev HeadsAsked : Option EntityHead → List Entity → Type 0
 HeadsAsked last es = Follow (λ last x. head.Asks x × (is_next_head last x ≡ true)) last (map head_of es)
@@ -255,13 +256,13 @@ sessions_sorted now low top (e ∷ es) r h =
     let first : Sorted (placed_sessions e Main ++ (d ++ (t ++ rest))) = joined (key_of Main e) e.main.sessions (d ++ (t ++ rest)) h.0.main.order second (each_append _ d (t ++ rest) (of_part Main Dead refl) (each_append _ t rest (of_part Main Transfer refl) (later Main))) in
     regrouped (placed_sessions e Main) d t rest Sorted first
 
-sessions_written : (now : ℕ) (es : List Entity) → Each (IsEntity now) es → Each HasIds es → Each session.Asks (flat_map sessions_in es)
-sessions_written now [] h short = tt
-sessions_written now (e ∷ es) h short =
-    let m = in_leaf_asked now (key_of Main e) e.main.sessions h.0.main.sessions short.0.1 in
-    let d = in_leaf_asked now (key_of Dead e) e.dead.sessions h.0.dead.sessions short.0.2 in
-    let t = in_leaf_asked now (key_of Transfer e) e.transfer.sessions h.0.transfer.sessions short.0.3 in
-    each_append session.Asks (sessions_in e) (flat_map sessions_in es) (each_append session.Asks (placed_sessions e Main) _ m (each_append session.Asks (placed_sessions e Dead) (placed_sessions e Transfer) d t)) (sessions_written now es h.1 short.1)
+sessions_written : (now : ℕ) (es : List Entity) → Each (IsEntity now) es → Each session.Asks (flat_map sessions_in es)
+sessions_written now [] h = tt
+sessions_written now (e ∷ es) h =
+    let m = in_leaf_asked now (key_of Main e) e.main.sessions h.0.main.sessions h.0.main.short_ids in
+    let d = in_leaf_asked now (key_of Dead e) e.dead.sessions h.0.dead.sessions h.0.dead.short_ids in
+    let t = in_leaf_asked now (key_of Transfer e) e.transfer.sessions h.0.transfer.sessions h.0.transfer.short_ids in
+    each_append session.Asks (sessions_in e) (flat_map sessions_in es) (each_append session.Asks (placed_sessions e Main) _ m (each_append session.Asks (placed_sessions e Dead) (placed_sessions e Transfer) d t)) (sessions_written now es h.1)
 
 -- ---- transactions
 
@@ -331,50 +332,46 @@ showing_asked Removed is = (tt, is)
 showing_asked (Locked t until) is = ((token_asked t, tt), is)
 showing_asked (Browsed state) is = absurd is
 
-delivery_asked : (d : ℕ) → 0 < d → d ≤ 2 ^ 32 → delivery.Asks d
+delivery_asked : (d : ℕ) → 1 ≤ d → d ≤ max_count + 1 → delivery.Asks d
 unfolding delivery
-delivery_asked d least most = (omega (arith, least, most), least)
+delivery_asked d least most = (omega (arith, least, most), omega (arith, least))
 
-shown_asked : (x : CopyShown) → IsHandedOut x.showing → 0 < x.delivery → x.delivery ≤ 2 ^ 32 → IsMessage x.message → shown.Asks x
+shown_asked : (x : CopyShown) → IsGiven x → shown.Asks x
 unfolding shown
-shown_asked x handed least most is = (tt, (tt, (tt, (delivery_asked x.delivery least most, (showing_asked x.showing handed, message_asked x.message is)))))
+shown_asked x is = (tt, (tt, (tt, (delivery_asked x.delivery is.once is.count, (showing_asked x.showing is.showing, message_asked x.message is.message)))))
 
-answer_asked : (r : Reply) → IsReply r → IsShown r → IsHanded r → answer.Asks r
+answer_asked : (r : Reply) → IsReply r → answer.Asks r
 unfolding answer
-answer_asked reply.Done is there handed = tt
-answer_asked (reply.Sent receipts) is there handed = (omega (arith, is), follow_each receipt.Asks None receipts (receipts_asked receipts))
-answer_asked (reply.Message x) is there handed = shown_asked x handed.0 handed.1 handed.2 there
-answer_asked reply.Empty is there handed = tt
-answer_asked (reply.Expired n) is there handed = tt
-answer_asked (reply.Session id t until) is there handed = (id_asked id handed, (token_asked t, tt))
-answer_asked (reply.Renewed until) is there handed = tt
-answer_asked (reply.Begun n) is there handed = tt
-answer_asked reply.Queued is there handed = tt
-answer_asked reply.Committed is there handed = tt
-answer_asked (reply.Aborted p n) is there handed = (tt, tt)
-answer_asked (reply.Copies copies) is there handed = absurd is
-answer_asked (reply.State state) is there handed = absurd is
-answer_asked (reply.Counts main dead transfer) is there handed = absurd is
+answer_asked reply.Done is = tt
+answer_asked (reply.Sent receipts) is = (omega (arith, is), follow_each receipt.Asks None receipts (receipts_asked receipts))
+answer_asked (reply.Message x) is = shown_asked x is
+answer_asked reply.Empty is = tt
+answer_asked (reply.Expired n) is = tt
+answer_asked (reply.Session id t until) is = (id_asked id is, (token_asked t, tt))
+answer_asked (reply.Renewed until) is = tt
+answer_asked (reply.Begun n) is = tt
+answer_asked reply.Queued is = tt
+answer_asked reply.Committed is = tt
+answer_asked (reply.Aborted p n) is = (tt, tt)
+answer_asked (reply.Copies copies) is = absurd is
+answer_asked (reply.State state) is = absurd is
+answer_asked (reply.Counts main dead transfer) is = absurd is
 
-kept_asked : (k : Kept) → IsKept k × (IsShown k.reply × IsRemembered k) → kept.Asks k
-unfolding kept
-kept_asked k is =
-    let few = between_most 1 50 (length k.client) is.0.client in
-    (short_text k.client (omega (arith, few)), (tt, (act_asked false k.act is.0.act is.0.fields is.1.1.names is.1.1.described is.1.1.sizes is.1.1.id is.1.1.order, answer_asked k.reply is.0.reply is.1.0 is.1.1.reply)))
+kept_asked : (k : Kept) → IsKept k → kept.Asks k
+unfolding kept event a_call by
+kept_asked k is = let call = judged_asked false 0 (kept_call k) is.judged in (call.1.0.0, (tt, (call.1.1, answer_asked k.reply is.reply)))
 
 -- ---- the whole
 
-heads_of : (now : ℕ) (es : List Entity) → Each (IsEntity now) es → Each HasIds es → Each HeadAsked es
-heads_of now [] h short = tt
-heads_of now (e ∷ es) h short = (head_asked now e h.0 short.0, heads_of now es h.1 short.1)
+heads_of : (now : ℕ) (es : List Entity) → Each (IsEntity now) es → Each HeadAsked es
+heads_of now es h = each_more (IsEntity now) HeadAsked (head_asked now) es h
 
--- a consistent state whose ids and clients are within their limits may be written
-pub state_written : (s : State) → IsConsistent s → IsBounded s → IsSpellable s
+-- a consistent state may be written
+pub state_written : (s : State) → IsConsistent s → IsSpellable s
 unfolding parts
-state_written s is within =
+state_written s is =
     let es = s.space.entities in
-    let paths = each_more (IsEntity s.now) (λ e. path.Asks e.about.path) (λ e h. path_asked e.about.path h.about.address) es is.entities in
-    let clients = each_both IsKept (λ k. IsShown k.reply × IsRemembered k) s.clients is.kept (each_both (λ k. IsShown k.reply) IsRemembered s.clients is.shown within.clients) in (
+    let paths = each_more (IsEntity s.now) (λ e. path.Asks e.about.path) (λ e h. path_asked e.about.path h.about.address) es is.entities in (
       tt,
       (
         tt,
@@ -383,16 +380,16 @@ state_written s is within =
           (
             tt,
             (
-              heads_asked 0 s.space.last_entity es is.numbers (heads_of s.now es is.entities within.ids),
+              heads_asked 0 s.space.last_entity es is.numbers (heads_of s.now es is.entities),
               (
                 follow_each leaf.Asks None (flat_map leaves_in es) (leaves_asked s.now es is.entities),
                 (
                   tt,
                   (
-                    follow_sorted session.Asks session.Asks is_next_session (λ x h. h) (λ x h. refl) is_behind (λ a b h before. before) (flat_map sessions_in es) (sessions_written s.now es is.entities within.ids) (sessions_sorted s.now 0 s.space.last_entity es is.numbers is.entities),
+                    follow_sorted session.Asks session.Asks is_next_session (λ x h. h) (λ x h. refl) is_behind (λ a b h before. before) (flat_map sessions_in es) (sessions_written s.now es is.entities) (sessions_sorted s.now 0 s.space.last_entity es is.numbers is.entities),
                     (
                       follow_rising (IsTransaction s.now s.space) transaction.Asks is_next_transaction (transaction_asked s.now s.space paths) (λ x h. refl) (λ x. x.number) (λ a b less. lt-ltb a.number b.number less) 0 s.space.last_txn s.space.transactions is.transactions is.opened,
-                      follow_sorted (λ k. IsKept k × (IsShown k.reply × IsRemembered k)) kept.Asks is_next_kept kept_asked (λ k h. refl) (λ a b. is_before a.client b.client) (λ a b h before. before) s.clients clients is.clients,
+                      follow_sorted IsKept kept.Asks is_next_kept kept_asked (λ k h. refl) (λ a b. is_before a.client b.client) (λ a b h before. before) s.clients is.kept is.clients,
                     ),
                   ),
                 ),

@@ -1,5 +1,6 @@
 -- What is remembered for clients is a form that is exact.
 use Rattle.std.proofs.Common.{◌≡◌, ℕ, suc, ◌<◌, ◌-◌, Option, Some, None, refl, ap, subst, arith}
+use Rattle.sb_machine.specs.Consistent.{IsHandedOut}
 use Rattle.sb_machine.specs.declared.call.Token.{Token}
 use Rattle.sb_machine.specs.declared.reply.Receipt.{Receipt}
 use Rattle.sb_machine.specs.declared.reply.Receipt.TheVariants.{Number, Duplicate}
@@ -13,7 +14,7 @@ use Rattle.sb_codec.proofs.Forms.{IsForm, number32_is, number64_is, text_is, not
 use Rattle.sb_codec.proofs.ExactActs.{any_act_is}
 use Rattle.sb_codec.proofs.ExactMessages.{message_is}
 use Rattle.sb_codec.proofs.ExactPieces.{part_is, token_is}
-use Rattle.sb_snapshot.specs.Replies.{receipt_of, number_in, receipt, showing_of, lock_of, IsHandedOut, showing, delivery, shown, done, sent, given, nothing_there, expired, session_held, renewed, begun, queued, committed, aborted, no_reply, answer_case, answer_choice, answer, kept}
+use Rattle.sb_snapshot.specs.Replies.{receipt_of, number_in, receipt, showing_of, lock_of, showing, delivery, shown, done, sent, given, nothing_there, expired, session_held, renewed, begun, queued, committed, aborted, no_reply, answer_case, answer_choice, answer, kept}
 use Rattle.sb_snapshot.proofs.Lists.{narrowed_is}
 
 -- ---- receipts

@@ -4,7 +4,6 @@ use Rattle.sb_machine.specs.Consistent.{IsConsistent}
 use Rattle.sb_machine.specs.Each.{Each}
 use Rattle.sb_machine.specs.declared.state.State.{State}
 use Rattle.sb_snapshot.specs.Base.{base_of, HasSpelling, IsSpellable, state_of}
-use Rattle.sb_snapshot.specs.Bounded.{IsBounded}
 
 -- numbers that one byte holds
 abbrev pub AreBytes : List ℕ → Type 0
@@ -30,6 +29,6 @@ BeginsNone = (a b : State) (x : List ℕ) → HasSpelling a → HasSpelling b �
 abbrev pub IsWrittenAgain : Type 0
 IsWrittenAgain = (s : State) → HasSpelling s → IsSpellable s
 
--- a consistent state may be written, where its ids and what is remembered for clients are within their limits
+-- a consistent state may be written
 abbrev pub ConsistentIsWritten : Type 0
-ConsistentIsWritten = (s : State) → IsConsistent s → IsBounded s → IsSpellable s
+ConsistentIsWritten = (s : State) → IsConsistent s → IsSpellable s

@@ -1,5 +1,6 @@
 -- What is remembered for clients: their last act, and what it was answered.
 use Rattle.std.specs.Prelude.{◌<◌, ◌-◌, suc, ℕ, Bool, true, Option, Some, None}
+use Rattle.sb_machine.specs.Consistent.{IsHandedOut}
 use Rattle.sb_machine.specs.Names.{is_before}
 use Rattle.sb_machine.specs.declared.call.Token.{Token}
 use Rattle.sb_machine.specs.declared.reply.CopyShown.{CopyShown}
@@ -44,12 +45,6 @@ abbrev pub lock_of : Showing → Option (Token × ℕ)
 lock_of Removed = None
 lock_of (Locked t until) = Some (t, until)
 lock_of (Browsed state) = None
-
--- it wasn't only looked at
-abbrev pub IsHandedOut : Showing → Type 0
-IsHandedOut Removed = Unit {0}
-IsHandedOut (Locked t until) = Unit {0}
-IsHandedOut (Browsed state) = ⊥
 
 -- the form of how a copy was handed out
 unfoldable pub showing : Form Showing

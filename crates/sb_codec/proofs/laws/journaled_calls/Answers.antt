@@ -1,5 +1,5 @@
 use Rattle.sb_machine.specs.Acts.{is_via_in}
-use Rattle.sb_codec.proofs.Accepted.{changing_judged}
+use Rattle.sb_machine.proofs.Accepted.{changing_judged}
 use Rattle.sb_codec.proofs.ActsAsked.{judged_asked, tick_asked}
 use Rattle.sb_codec.proofs.Short.{judged_short, tick_short}
 use Rattle.sb_codec.proofs.laws.journaled_calls.Goals as goal

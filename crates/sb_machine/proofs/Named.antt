@@ -1,24 +1,24 @@
 -- A text that names a copy of a consistent state is short: it is a MessageId there, or a number in digits.
-use Rattle.std.proofs.Common.{◌≡◌, ◌≤◌, ◌<◌, ◌+◌, ◌^◌, ℕ, List, [], ◌∷◌, length, Bool, true, false, ◌&&◌, ◌||◌, not, nat_le, cond, find, Option, Some, None, refl, sym, ap, subst, ◌∙◌, arith, inl, inr}
-use Rattle.std.specs.Prelude.{bytes_eq, ◌==◌, IfSome}
+use Rattle.std.proofs.Common.{◌≡◌, ◌≤◌, ◌<◌, ◌^◌, ℕ, List, [], ◌∷◌, length, Bool, true, false, ◌&&◌, not, nat_le, cond, find, Option, Some, None, refl, ap, subst, arith, inl, inr}
+use Rattle.std.specs.Prelude.{bytes_eq, ◌==◌}
 use Rattle.std.specs.Fmt.{decimal}
 use Rattle.std.specs.Option.{option_map}
-use Rattle.std.specs.Str.{chars}
-use Rattle.std.proofs.lemmas.Bool.{leb-true, le-leb}
+use Rattle.std.specs.Str.{IsUtf8, chars}
+use Rattle.std.proofs.Math.Utf8.{encodes}
+use Rattle.std.proofs.lemmas.Bool.{le-leb}
 use Rattle.std.proofs.lemmas.Fmt.{length-decimal-le, IsAscii-decimal}
 use Rattle.std.proofs.lemmas.Slice.Eq.{bytes_eq-Decides}
-use Rattle.std.proofs.lemmas.Str.{IsUtf8-from_ascii}
-use Rattle.sb_machine.specs.Acts.{act_row}
+use Rattle.std.proofs.lemmas.Str.{IsUtf8-from_ascii, encodes-chars, length-le-encodes}
 use Rattle.sb_machine.specs.Changes.{max_number}
-use Rattle.sb_machine.specs.Claims.{Claim, has_sessions, asks_session, asks_holder, claiming, claim_of}
+use Rattle.sb_machine.specs.Claims.{has_sessions, asks_session, asks_holder, claiming}
 use Rattle.sb_machine.specs.Consistent.{IsConsistent}
 use Rattle.sb_machine.specs.Each.{Each}
 use Rattle.sb_model.specs.Effects.{text_limit, is_within}
-use Rattle.sb_machine.specs.Fields.{bad_in_texts, is_short, unless}
+use Rattle.sb_machine.specs.Fields.{bad_in_texts, unless}
 use Rattle.sb_machine.specs.Fit.{IsCopy, IsLeaf, IsEntity}
 use Rattle.sb_machine.specs.Keyed.{AreRising}
 use Rattle.sb_machine.specs.Leases.{is_living, is_named, held_session, leased}
-use Rattle.sb_machine.specs.Messages.{text_of, has_text_of}
+use Rattle.sb_machine.specs.Messages.{has_text_of}
 use Rattle.sb_machine.specs.Names.{is_address, is_same_entity}
 use Rattle.sb_machine.specs.Namespace.{entity_at, leaf_of}
 use Rattle.sb_machine.specs.Queueing.{open_in, is_open}
@@ -34,7 +34,6 @@ use Rattle.sb_machine.specs.declared.call.Path.{Path}
 use Rattle.sb_machine.specs.declared.call.Token.{Token}
 use Rattle.sb_machine.specs.declared.call.Which.{Which}
 use Rattle.sb_machine.specs.declared.call.Which.TheVariants.{Number, Id}
-use Rattle.sb_model.specs.declared.message.Message.{Message}
 use Rattle.sb_model.specs.declared.message.SystemName.{SystemName}
 use Rattle.sb_model.specs.declared.message.SystemName.TheVariants.{MessageId, Label, CorrelationId, SessionId, To, ReplyTo, ReplyToSessionId, ContentType}
 use Rattle.sb_model.specs.declared.message.SystemText.{SystemText}
@@ -46,19 +45,16 @@ use Rattle.sb_machine.specs.declared.state.Space.{Space}
 use Rattle.sb_machine.specs.declared.state.State.{State}
 use Rattle.sb_machine.specs.declared.state.StoredCopy.{StoredCopy}
 use Rattle.sb_machine.specs.declared.state.Transaction.{Transaction}
-use Rattle.sb_codec.specs.Judged.{is_short_id}
-use Rattle.sb_codec.proofs.Exact.{chosen, some_is}
-use Rattle.sb_codec.proofs.Characters.{chars_by_length}
-use Rattle.sb_codec.proofs.Rows.{Passes, is_answer, no_answer, asked_by}
-use Rattle.sb_codec.proofs.Passed.{both, either, first_none, unless_none}
+use Rattle.sb_machine.specs.Judged.{is_short_id}
+use Rattle.sb_machine.proofs.Rows.{Passes, is_answer, no_answer, asked_by}
+use Rattle.sb_machine.proofs.Passed.{both, either, first_none, unless_none}
 
 each_found : {X : Type 0} (P : X → Type 0) (p : X → Bool) (xs : List X) (x : X) → Each P xs → find p xs ≡ Some x → (p x ≡ true) × P x
 each_found P p [] x all e = absurd cc
-each_found P p (y ∷ ys) x all e =
-    elim (chosen (p y) (Some y) (find p ys) (Some x) e) [
-      | inl h ↦ let same = some_is y x h.1 in (subst (λ v. p v ≡ true) same h.0, subst P same all.0)
-      | inr h ↦ each_found P p ys x all.1 h.1
-    ]
+each_found {X} P p (y ∷ ys) x all e = by_test (p y) refl e (each_found P p ys x all.1) where
+  by_test : (b : Bool) → p y ≡ b → cond b (Some y) (find p ys) ≡ Some x → (find p ys ≡ Some x → (p x ≡ true) × P x) → (p x ≡ true) × P x
+  by_test true is here later = let same : y ≡ x = cc in (subst (λ (v : X). p v ≡ true) same is, subst P same all.0)
+  by_test false is there later = later there
 
 -- ---- a MessageId
 
@@ -90,6 +86,12 @@ text_short sys id good has = by_found (find is_message_id sys) refl has where
       subst (λ (t : List ℕ). nat_le (length (chars t)) 128 ≡ true) ((bytes_eq-Decides x.text id).0 same) (message_id_within x.name (length (chars x.text)) a.0 a.1)
 
 -- ---- a number's digits
+
+chars_by_length : (t : List ℕ) → IsUtf8 t → length (chars t) ≤ length t
+chars_by_length t u =
+    let same : length (encodes (chars t)) ≡ length t = ap (λ (l : List ℕ). length l) (encodes-chars t u) in
+    let short = length-le-encodes (chars t) in
+    omega (arith, same, short)
 
 digits_short : (n : ℕ) (id : List ℕ) → n ≤ max_number → bytes_eq (decimal n) id ≡ true → nat_le (length (chars id)) 128 ≡ true
 digits_short n id le same =

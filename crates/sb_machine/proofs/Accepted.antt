@@ -1,5 +1,5 @@
 -- A call that the machine accepts with an event has passed its tests.
-use Rattle.std.proofs.Common.{◌≡◌, ◌≤◌, ℕ, List, [], ◌∷◌, length, Bool, true, false, ◌&&◌, nat_le, cond, Option, Some, None, Result, Ok, Err, refl}
+use Rattle.std.proofs.Common.{◌≡◌, ℕ, List, [], ◌∷◌, length, Bool, true, false, ◌&&◌, nat_le, cond, Option, Some, None, refl}
 use Rattle.std.specs.Prelude.{is_none, is_some, ◌||◌, nat_lt, ◌==◌}
 use Rattle.std.specs.Option.{option_map}
 use Rattle.sb_machine.specs.Acts.{act_row, row_of, bad_call, is_via_in}
@@ -33,7 +33,6 @@ use Rattle.sb_machine.specs.declared.call.Description.{Description}
 use Rattle.sb_machine.specs.declared.call.Path.{Path}
 use Rattle.sb_machine.specs.declared.call.Token.{Token}
 use Rattle.sb_machine.specs.declared.call.FilterText.{FilterText}
-use Rattle.sb_machine.specs.declared.change.Change.{Change}
 use Rattle.sb_machine.specs.declared.change.Change.TheVariants.{Makes, AddsRule}
 use Rattle.sb_machine.specs.declared.change.LeafChange.TheVariants.{Writes}
 use Rattle.sb_model.specs.declared.message.Message.{Message}
@@ -49,10 +48,10 @@ use Rattle.sb_machine.specs.declared.state.Kept.{Kept}
 use Rattle.sb_machine.specs.declared.state.Session.{Session}
 use Rattle.sb_machine.specs.declared.state.Space.{Space}
 use Rattle.sb_machine.specs.declared.state.State.{State}
-use Rattle.sb_codec.specs.Judged.{has_names, bad_described, has_sizes, has_short_id, IsJudged}
-use Rattle.sb_codec.proofs.Named.{settle_id, renew_id}
-use Rattle.sb_codec.proofs.Rows.{Passes, is_answer, has_changes, no_answer, no_changes, asks_passed, refused_passed, found_passed, absent_passed, held_passed, read_passed, at_entity_passed, asked_by}
-use Rattle.sb_codec.proofs.Passed.{both_true}
+use Rattle.sb_machine.specs.Judged.{has_names, bad_described, has_sizes, has_short_id, IsJudged}
+use Rattle.sb_machine.proofs.Named.{settle_id, renew_id}
+use Rattle.sb_machine.proofs.Rows.{Passes, is_answer, has_changes, no_answer, no_changes, asks_passed, refused_passed, found_passed, absent_passed, held_passed, read_passed, at_entity_passed, asked_by}
+use Rattle.sb_machine.proofs.Passed.{both_true}
 
 -- ---- numbers
 

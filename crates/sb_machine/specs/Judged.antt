@@ -1,9 +1,9 @@
 -- What the machine's own tests say of a call that it accepts.
-use Rattle.std.specs.Prelude.{◌≡◌, ℕ, ◌&&◌, Bool, true, nat_le, Option, Some, None, is_none}
+use Rattle.std.specs.Prelude.{◌≡◌, ◌&&◌, Bool, true, nat_le, None, is_none}
 use Rattle.sb_machine.specs.Administration.{are_rule_names, filter_of, action_of, large_filter}
 use Rattle.sb_machine.specs.Descriptions.{bad_in_description}
 use Rattle.sb_machine.specs.Each.{is_read}
-use Rattle.sb_machine.specs.Fields.{Key, bad_field, is_short, takes_number}
+use Rattle.sb_machine.specs.Fields.{Key, bad_field, is_id, takes_number}
 use Rattle.sb_machine.specs.Messages.{large_size}
 use Rattle.sb_machine.specs.Names.{is_name, is_short_name, is_address}
 use Rattle.sb_machine.specs.Ordered.{IsActInOrder}
@@ -50,7 +50,7 @@ bad_described _ = None
 -- a text that names a copy is its MessageId or prints its number
 abbrev pub is_short_id : Which → Bool
 is_short_id (Number n) = true
-is_short_id (Id id) = is_short 128 (Some id)
+is_short_id (Id id) = is_id id
 
 -- of the copy that the act names
 abbrev pub has_short_id : Act → Bool
@@ -75,7 +75,3 @@ pub record IsJudged (is_via : Bool) (call : Call) : Type 0 where
   pub sizes : has_sizes call.act ≡ true
   pub id : has_short_id call.act ≡ true
   pub order : IsActInOrder call.act
-
--- the most bytes that a journal record holds
-abbrev pub max_payload : ℕ
-max_payload = 1048576

@@ -1,5 +1,5 @@
 -- What a test that was passed says.
-use Rattle.std.proofs.Common.{◌≡◌, ◌≤◌, ℕ, List, Bool, true, false, ◌&&◌, ◌||◌, nat_le, cond, Option, Some, None, refl, arith, ◌⊎◌, inl, inr}
+use Rattle.std.proofs.Common.{◌≡◌, ◌≤◌, ℕ, List, Bool, true, false, ◌&&◌, ◌||◌, nat_le, cond, Option, Some, None, refl, ◌⊎◌, inl, inr}
 use Rattle.std.specs.Prelude.{is_none}
 use Rattle.std.proofs.lemmas.Bool.{leb-true}
 use Rattle.sb_machine.specs.Descriptions.{is_fit}

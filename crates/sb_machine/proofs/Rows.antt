@@ -1,5 +1,5 @@
 -- What a row that is answered, or that changes something, says of the tests on the way.
-use Rattle.std.proofs.Common.{◌≡◌, ℕ, List, [], ◌∷◌, Bool, true, false, Option, Some, None, Result, Ok, Err, refl}
+use Rattle.std.proofs.Common.{◌≡◌, ℕ, [], ◌∷◌, Bool, true, false, Option, Some, None, Result, Ok, Err, refl}
 use Rattle.sb_machine.specs.Administration.{read_or}
 use Rattle.sb_machine.specs.Each.{is_read}
 use Rattle.sb_machine.specs.Names.{is_address}
