@@ -20,7 +20,7 @@ use Rattle.sb_model.specs.declared.message.SystemName.TheVariants.{ContentType, 
 use Rattle.sb_model.specs.declared.message.SystemText.{SystemText}
 use Rattle.sb_laws.proofs.Eachs.{each_filter, each_inserted}
 
-abbrev IsText : SystemText → Type 0
+abbrev pub IsText : SystemText → Type 0
 IsText s = is_within (text_limit s.name) (length (chars s.text)) ≡ true
 
 pub texts_each : (xs : List SystemText) → bad_in_texts xs ≡ None → Each IsText xs

@@ -127,7 +127,7 @@ module _ {P : Message → Type 0} {G : Listed → Type 0} {H : Rule → Type 0} 
 
     -- an accepted act keeps it
     pub core_way : (act : Act) (reply : Reply) (cs : List Change) → Fields P G MaySend s act → Way s t act reply cs → IsCore (after_all t cs s)
-    core_way _ _ _ fits (tells sized told) = h
+    core_way _ _ _ fits (tells told) = h
     core_way _ _ _ fits (makes_queue {name = name} {d = d} named new good) = single (Makes Queue (entity_path name) d []) (λ k. tt) (lists.made_entity Queue name d (s.last_entity + 1) refl named good) tt
     core_way _ _ _ fits (makes_topic {name = name} {d = d} named new good) = single (Makes Topic (entity_path name) d []) (λ k. tt) (lists.made_entity Topic name d (s.last_entity + 1) refl named good) tt
     core_way _ _ _ fits (makes_subscription {topic = topic} {name = name} {d = d} e named short there is new good) =
@@ -145,16 +145,16 @@ module _ {P : Message → Type 0} {G : Listed → Type 0} {H : Rule → Type 0} 
       at [] sent = h
       at (m ∷ ms) sent = single (Queues x.number (deadline_with t x) (SendLater to (m ∷ ms))) (λ k. tt) tt sent
     core_way _ _ _ fits (cancels {from = from} e c there is) = single (in_part from.part e (Ends c.number false Cancelled)) (λ k. tt) tt tt
-    core_way _ _ _ fits (hands_out from e c p sized there own is of stands) = single (in_part from.part e (Holds c.number _)) (λ k. tt) tt tt
-    core_way _ _ _ fits (takes_out from e c p sized there is stands) = single (in_part from.part e (Ends c.number false Received)) (λ k. tt) tt tt
-    core_way _ _ _ fits (expires from e c p sized there main is stands) = core_acts t (expired (listed s) e c false) s (expired_acts travels sending t s h.carries e c (about_fits from e there) (copy_fits from e p c there is)) h
+    core_way _ _ _ fits (hands_out from e c p there own is of stands) = single (in_part from.part e (Holds c.number _)) (λ k. tt) tt tt
+    core_way _ _ _ fits (takes_out from e c p there is stands) = single (in_part from.part e (Ends c.number false Received)) (λ k. tt) tt tt
+    core_way _ _ _ fits (expires from e c p there main is stands) = core_acts t (expired (listed s) e c false) s (expired_acts travels sending t s h.carries e c (about_fits from e there) (copy_fits from e p c there is)) h
     core_way _ _ _ fits (settles_now {from = from} {which = which} {token = token} {session = session} {how = how} e c there goes is none) =
         core_acts t (settled (listed s) t e from.part c how) s (settled_acts travels sending t s h.carries e from.part c how (about_fits from e there)
         (copy_fits from e (λ d. is_living t (leaf_of from.part e).sessions token.lock d.standing && is_named which d) c there (leased_held s t h.ordered token which (leaf_of from.part e) c is).0) (fits.how from which token session how None refl)) h
     core_way _ _ _ fits (settles_later {from = from} {which = which} {token = token} {session = session} {how = how} {n = n} e c x there goes on own is none room) =
         single (Queues x.number (deadline_with t x) (SettleLater from c.number token session how)) (λ k. tt) tt (fits.how from which token session how (Some n) refl)
     core_way _ _ _ fits (renews {from = from} e c there free is other) = single (in_part from.part e (Renews c.number (lock_end e t))) (λ k. tt) tt tt
-    core_way _ _ _ fits (opens from id e there has free) = single (in_part from.part e (Opens id (lock_end e t))) (λ k. tt) tt tt
+    core_way _ _ _ fits (opens from id e there has free named) = single (in_part from.part e (Opens id (lock_end e t))) (λ k. tt) tt tt
     core_way _ _ _ fits (prolongs {from = from} {token = token} e x there has held other) = single (in_part from.part e (Prolongs token.lock (lock_end e t))) (λ k. tt) tt tt
     core_way _ _ _ fits (closes {from = from} {token = token} e x there has held) =
         core_acts t (closed s t e from.part token.lock) s (closed_acts travels sending t s h.carries (λ y. is_same_entity y.about.path from) e from.part token.lock there) h

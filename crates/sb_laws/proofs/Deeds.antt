@@ -121,7 +121,7 @@ closed_steady s t e part lock = all_steady _ (flat_all (IsCalm false) (λ c. rel
 -- ---- each way in which an act is accepted
 
 pub deed : (s : Space) (t : ℕ) (act : Act) (reply : Reply) (cs : List Change) → Way s t act reply cs → Deed s t act reply cs
-deed s t _ _ _ (tells sized told) = steadies tt
+deed s t _ _ _ (tells told) = steadies tt
 deed s t _ _ _ (makes_queue named new good) = steadies (record { frees = λ k. tt; unspent = tt; quiet = λ k n. tt }, tt)
 deed s t _ _ _ (makes_topic named new good) = steadies (record { frees = λ k. tt; unspent = tt; quiet = λ k n. tt }, tt)
 deed s t _ _ _ (makes_subscription e named short there is new good) = steadies (record { frees = λ k. tt; unspent = tt; quiet = λ k n. tt }, tt)
@@ -134,13 +134,13 @@ deed s t act reply _ (queues_send {to = to} {messages = messages} {n = n} x name
   at [] = steadies tt
   at (m ∷ ms) = steadies (record { frees = λ k. tt; unspent = tt; quiet = λ k n. tt }, tt)
 deed s t _ _ _ (cancels {from = from} e c there is) = steadies (calm_steady _ (calm_ends (key_of from.part e) c.number Cancelled), tt)
-deed s t _ _ _ (hands_out from e c p sized there own is of stands) = steadies (record { frees = λ k. tt; unspent = tt; quiet = λ k n. tt }, tt)
-deed s t _ _ _ (takes_out from e c p sized there is stands) = steadies (calm_steady _ (calm_ends (key_of from.part e) c.number Received), tt)
-deed s t _ _ _ (expires from e c p sized there main is stands) = steadies (all_steady _ (expired_calm false (listed s) e c))
+deed s t _ _ _ (hands_out from e c p there own is of stands) = steadies (record { frees = λ k. tt; unspent = tt; quiet = λ k n. tt }, tt)
+deed s t _ _ _ (takes_out from e c p there is stands) = steadies (calm_steady _ (calm_ends (key_of from.part e) c.number Received), tt)
+deed s t _ _ _ (expires from e c p there main is stands) = steadies (all_steady _ (expired_calm false (listed s) e c))
 deed s t _ _ _ (settles_now {from = from} {how = how} e c there goes is none) = settles (settled_calm (listed s) t e from.part c how)
 deed s t _ _ _ (settles_later e c x there goes on own is none room) = steadies (record { frees = λ k. tt; unspent = tt; quiet = λ k n. tt }, tt)
 deed s t _ _ _ (renews e c there free is other) = steadies (record { frees = λ k. tt; unspent = tt; quiet = λ k n. tt }, tt)
-deed s t _ _ _ (opens from id e there has free) = steadies (record { frees = λ k. tt; unspent = tt; quiet = λ k n. tt }, tt)
+deed s t _ _ _ (opens from id e there has free named) = steadies (record { frees = λ k. tt; unspent = tt; quiet = λ k n. tt }, tt)
 deed s t _ _ _ (prolongs e x there has held other) = steadies (record { frees = λ k. tt; unspent = tt; quiet = λ k n. tt }, tt)
 deed s t _ _ _ (closes {from = from} {token = token} e x there has held) = shuts from token e refl refl there refl
 deed s t _ _ _ (writes e x there has held small other) = steadies (record { frees = λ k. tt; unspent = tt; quiet = λ k n. tt }, tt)

@@ -43,6 +43,8 @@ pub mod Points
 pub mod Noting
 pub mod Listing
 pub mod Clients
+pub mod Ids
+pub mod Remembering
 pub mod Topics
 pub mod Owning
 pub mod Ruling

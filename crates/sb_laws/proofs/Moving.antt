@@ -98,7 +98,7 @@ module _ (s : Space) (t : ℕ) (may : IsSweepable s) where
     at (Held lock hold deferred) lives other is = let off : (end == end) ≡ false = ap (is_until end) is ∙ other in let on = numbers_equal end in absurd cc
 
   moves_way : (act : Act) (reply : Reply) (cs : List Change) → Way s t act reply cs → after_all t cs s ≡ s → cs ≡ []
-  moves_way _ _ _ (tells sized told) same = refl
+  moves_way _ _ _ (tells told) same = refl
   moves_way _ _ _ (makes_queue named new good) same = absurd (counts_on s.last_entity (ap (λ (y : Space). y.last_entity) same))
   moves_way _ _ _ (makes_topic named new good) same = absurd (counts_on s.last_entity (ap (λ (y : Space). y.last_entity) same))
   moves_way _ _ _ (makes_subscription e named short there topic new good) same = absurd (counts_on s.last_entity (ap (λ (y : Space). y.last_entity) same))
@@ -113,9 +113,9 @@ module _ (s : Space) (t : ℕ) (may : IsSweepable s) where
     at (m ∷ ms) same = absurd (queues_differ n (deadline_with t x) (SendLater to (m ∷ ms)) x there same)
   moves_way _ _ _ (cancels {from = from} {n = n} e c there is) same =
       absurd (ends_differ t (key_of from.part e) c.number false Cancelled [] s e c (by_number s t o from e there) (copy_by_number s t o from.part e (λ x. is_same_entity x.about.path from) c (λ d. is_scheduled d.standing && (d.number == n)) there is) same)
-  moves_way _ _ _ (hands_out from e c p sized there own is of stands) same = absurd (counts_on s.last_lock (ap (λ (y : Space). y.last_lock) same))
-  moves_way _ _ _ (takes_out from e c p sized there is stands) same = absurd (ends_differ t (key_of from.part e) c.number false Received [] s e c (by_number s t o from e there) (copy_by_number s t o from.part e (λ x. is_same_entity x.about.path from) c p there is) same)
-  moves_way _ _ _ (expires from e c p sized there main is stands) same =
+  moves_way _ _ _ (hands_out from e c p there own is of stands) same = absurd (counts_on s.last_lock (ap (λ (y : Space). y.last_lock) same))
+  moves_way _ _ _ (takes_out from e c p there is stands) same = absurd (ends_differ t (key_of from.part e) c.number false Received [] s e c (by_number s t o from e there) (copy_by_number s t o from.part e (λ x. is_same_entity x.about.path from) c p there is) same)
+  moves_way _ _ _ (expires from e c p there main is stands) same =
       absurd (expired_differs s t o e c false (by_number s t o from e there) (subst (λ (part : Part). copy_in c.number (leaf_of part e) ≡ Some c) (main_part from.part main) (copy_by_number s t o from.part e (λ x. is_same_entity x.about.path from) c p there is)) same)
   moves_way _ _ _ (settles_now {from = from} {which = which} {token = token} {how = how} e c there goes is none) same =
       let lease = leased_held s t o token which (leaf_of from.part e) c is in
@@ -126,7 +126,7 @@ module _ (s : Space) (t : ℕ) (may : IsSweepable s) where
       let lease = leased_held s t o token which (leaf_of from.part e) c is in
       absurd (renews_differ e from.part (lock_end e t) token.lock (leaf_of from.part e).sessions c (by_number s t o from e there)
       (copy_by_number s t o from.part e (λ x. is_same_entity x.about.path from) c (λ d. is_living t (leaf_of from.part e).sessions token.lock d.standing && is_named which d) there lease.0) lease.1 other same)
-  moves_way _ _ _ (opens from id e there has free) same = absurd (counts_on s.last_lock (ap (λ (y : Space). y.last_lock) same))
+  moves_way _ _ _ (opens from id e there has free named) same = absurd (counts_on s.last_lock (ap (λ (y : Space). y.last_lock) same))
   moves_way _ _ _ (prolongs {from = from} {token = token} e x there has held other) same =
       let holds = holder_found s t may from.part (λ y. is_same_entity y.about.path from) e token x there held in
       absurd (prolongs_differ s t may from.part e token.lock (lock_end e t) x (by_number s t o from e there) holds.0 holds.1 other same)

@@ -4,7 +4,7 @@ use Rattle.std.proofs.lemmas.List.Sums.{sum_by-cons}
 use Rattle.std.specs.Prelude.{if◌then◌else◌, sum_by}
 use Rattle.sb_laws.proofs.Carried.{IsOfAct, OperationSent, tick_act}
 use Rattle.sb_laws.proofs.Claiming.{claimed_apart, claimed_few, claimed_of, claimed_steps}
-use Rattle.sb_laws.proofs.Clients.{AreClients, call_kept, keeps_clients}
+use Rattle.sb_laws.proofs.Clients.{AreClients, keeps_clients}
 use Rattle.sb_laws.proofs.Core.{Fields, core_acts, core_tick, core_way}
 use Rattle.sb_laws.proofs.Eachs.{each_append, each_back, each_both, each_front, each_implied}
 use Rattle.sb_laws.proofs.Entities.{EachLeaf, LeafRises, each_leaf, leaf_each}
@@ -20,7 +20,7 @@ use Rattle.sb_laws.proofs.Points.{AreTimed, IsTimed, TimedIn, shape_keeps, timed
 use Rattle.sb_laws.proofs.Queuing.{IsClaimed, at_or_above}
 use Rattle.sb_laws.proofs.Ruling.{AreRuled, ruled_steps}
 use Rattle.sb_laws.proofs.Shapes.{Arrives, PlainCore, Shape, arrives_sending, at_most, of_acts, plain_fields, plain_lists, plain_travels, shape}
-use Rattle.sb_laws.proofs.Tick.{IsOfTick, expired_of_tick, locks_of_tick, scheduled_of_tick, transactions_of_tick}
+use Rattle.sb_laws.proofs.Tick.{IsOfTick, expired_of_tick, first_of_any, locks_of_tick, scheduled_of_tick, transactions_of_tick}
 use Rattle.sb_laws.proofs.Topics.{AreTopiced, shape_topics}
 use Rattle.sb_laws.specs.Orderly.{IsOrderly, IsOrderlyCopy, IsOrderlyEntity, IsOrderlyLeaf, IsOrderlyOperation, IsOrderlyTransaction}
 use Rattle.sb_laws.specs.Plain.{IsPlain, IsRuled}
@@ -139,7 +139,6 @@ points_orderly st early of_clients p = record {
   few_open = p.open_so.few;
   clients = of_clients.order;
   few_clients = of_clients.few;
-  kept = of_clients.kept;
 } where
   leaf_orderly : (part : Part) (e : Entity) → made_in e ≤ max_number → EachLeaf LeafRises e → EachLeaf (λ part leaf. Each (IsCarried Arrives) leaf.copies) e → EachLeaf (TimedIn st.now) e → IsOrderlyLeaf st.now (leaf_of part e)
   leaf_orderly part e within rises carried timed =
@@ -224,22 +223,28 @@ points_kept t cs s numbered_so core_so is p =
       open_so = shape_keeps (AreOpen t) t s cs (open_steps t s) is p.open_so;
     }
 
+ticks_act : (t : ℕ) (first_one : Bool) (cs : List Change) → Each (IsOfTick Arrives first_one) cs → Each (IsOfAct Arrives t) cs
+ticks_act t first_one cs h = each_implied (IsOfTick Arrives first_one) (IsOfAct Arrives t) (tick_act Arrives t first_one) cs h
+
 -- all changes of a tick
-pub tick_acts : (t : ℕ) (s : Space) → PlainCore s → Each (IsOfAct Arrives t) (tick_changes t s)
-tick_acts t s core =
+pub tick_changes_so : (t : ℕ) (s : Space) → PlainCore s → Each (IsOfTick Arrives true) (tick_changes t s)
+tick_changes_so t s core =
     let s1 : Space = after_all t (sweep_locks t s) s in
-    let a0 = acts true (sweep_locks t s) (locks_of_tick plain_travels t s core.carries) in
-    let c1 : PlainCore s1 = core_acts plain_travels arrives_sending plain_lists t (sweep_locks t s) s a0 core in
+    let a0 = locks_of_tick plain_travels t s core.carries in
+    let c1 : PlainCore s1 = core_acts plain_travels arrives_sending plain_lists t (sweep_locks t s) s (ticks_act t true (sweep_locks t s) a0) core in
     let s2 : Space = after_all t (sweep_expired t s1) s1 in
-    let a1 = acts false (sweep_expired t s1) (expired_of_tick plain_travels t s1 c1.carries) in
-    let c2 : PlainCore s2 = core_acts plain_travels arrives_sending plain_lists t (sweep_expired t s1) s1 a1 c1 in
+    let a1 = expired_of_tick plain_travels t s1 c1.carries in
+    let c2 : PlainCore s2 = core_acts plain_travels arrives_sending plain_lists t (sweep_expired t s1) s1 (ticks_act t false (sweep_expired t s1) a1) c1 in
     let s3 : Space = after_all t (sweep_scheduled t s2) s2 in
-    let a2 = acts false (sweep_scheduled t s2) (scheduled_of_tick plain_travels t s2 c2.carries) in
-    each_append (IsOfAct Arrives t) (sweep_locks t s) (then_also t (sweep_expired t) (then_also t (sweep_scheduled t) (due_transactions t)) s1) a0
-    (each_append (IsOfAct Arrives t) (sweep_expired t s1) (then_also t (sweep_scheduled t) (due_transactions t) s2) a1
-    (each_append (IsOfAct Arrives t) (sweep_scheduled t s2) (due_transactions t s3) a2 (acts false (due_transactions t s3) (transactions_of_tick plain_travels t s3)))) where
-      acts : (first_one : Bool) (cs : List Change) → Each (IsOfTick Arrives first_one) cs → Each (IsOfAct Arrives t) cs
-      acts first_one cs h = each_implied (IsOfTick Arrives first_one) (IsOfAct Arrives t) (tick_act Arrives t first_one) cs h
+    let a2 = scheduled_of_tick plain_travels t s2 c2.carries in
+    each_append (IsOfTick Arrives true) (sweep_locks t s) (then_also t (sweep_expired t) (then_also t (sweep_scheduled t) (due_transactions t)) s1) a0
+    (each_append (IsOfTick Arrives true) (sweep_expired t s1) (then_also t (sweep_scheduled t) (due_transactions t) s2) (later (sweep_expired t s1) a1)
+    (each_append (IsOfTick Arrives true) (sweep_scheduled t s2) (due_transactions t s3) (later (sweep_scheduled t s2) a2) (later (due_transactions t s3) (transactions_of_tick plain_travels t s3)))) where
+      later : (cs : List Change) → Each (IsOfTick Arrives false) cs → Each (IsOfTick Arrives true) cs
+      later cs h = each_implied (IsOfTick Arrives false) (IsOfTick Arrives true) (first_of_any Arrives) cs h
+
+pub tick_acts : (t : ℕ) (s : Space) → PlainCore s → Each (IsOfAct Arrives t) (tick_changes t s)
+tick_acts t s core = ticks_act t true (tick_changes t s) (tick_changes_so t s core)
 
 -- ---- calls and ticks
 
@@ -261,7 +266,7 @@ called_orderly : (s : State) (t : ℕ) (call : Call) (o : Outcome) → IsOrderly
 called_orderly s t call _ h le most (comes_refused none) = h
 called_orderly s t call _ h le most comes_repeated = h
 called_orderly s t call (acted reply cs) h le most (comes_acted newer fits) = acted_orderly s t call reply cs (is_change (client_of call) (acted reply cs)) most h
-    (keeps_clients (client_of call) call.act reply s.clients newer (call_kept s.space t call reply cs (orderly_core s h) fits) (record { order = h.clients; few = h.few_clients; kept = h.kept })) (acted_points s t call.by call.act reply cs h le fits)
+    (keeps_clients (client_of call) call.act reply s.clients newer (record { order = h.clients; few = h.few_clients })) (acted_points s t call.by call.act reply cs h le fits)
 
 pub stays_orderly : (s : State) (t : ℕ) (call : Call) → IsOrderly s → s.now ≤ t → t ≤ max_moment → IsOrderly (state_of s t call)
 stays_orderly s t call h le most = called_orderly s t call (outcome_of s t call) h le most (comes s t call)
@@ -278,4 +283,4 @@ advanced_orderly : (s : State) (t : ℕ) (space : Space) → t ≤ max_moment �
 advanced_orderly s t space most of_clients p = points_orderly (record { now = t; clients = s.clients; space = space }) most of_clients p
 
 pub ticks_orderly : (s : State) (t : ℕ) → IsOrderly s → s.now ≤ t → t ≤ max_moment → is_spent s t ≡ false → IsOrderly (advanced s t)
-ticks_orderly s t h le most room = advanced_orderly s t (after_all t (tick_changes t s.space) s.space) most (record { order = h.clients; few = h.few_clients; kept = h.kept }) (tick_points t s.space (not_spent (is_numbered t (tick_changes t s.space) s.space) room) (orderly_points s t le h))
+ticks_orderly s t h le most room = advanced_orderly s t (after_all t (tick_changes t s.space) s.space) most (record { order = h.clients; few = h.few_clients }) (tick_points t s.space (not_spent (is_numbered t (tick_changes t s.space) s.space) room) (orderly_points s t le h))

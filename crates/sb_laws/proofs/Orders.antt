@@ -73,7 +73,6 @@ consistent_is_orderly s h = record {
   few_open = h.few_open;
   clients = h.clients;
   few_clients = h.few_clients;
-  kept = h.kept;
 }
 
 -- the core of an orderly state, as histories need it

@@ -196,7 +196,7 @@ module _ (t : ℕ) (s : Space) (core : PlainCore s) (h : IsSettled s) (most : ma
           within Transfer = omega arith
 
   pub placed_way : (act : Act) (reply : Reply) (cs : List Change) → bad_in_act (is_via_in s act) act ≡ None → Fields Arrives IsPlain Lasts s act → Way s t act reply cs → ArePlaced (after_all t cs s)
-  placed_way _ _ _ good fits (tells sized told) = h.1
+  placed_way _ _ _ good fits (tells told) = h.1
   placed_way _ _ _ good fits (makes_queue {name = name} {d = d} named new fine) = single (Makes Queue (entity_path name) d []) (λ k. tt) tt
   placed_way _ _ _ good fits (makes_topic {name = name} {d = d} named new fine) = single (Makes Topic (entity_path name) d []) (λ k. tt) tt
   placed_way _ _ _ good fits (makes_subscription {topic = topic} {name = name} {d = d} e named short there is new fine) = single (Makes Subscription (subscription_path topic name) d (default_rule ∷ [])) (λ k. tt) tt
@@ -209,9 +209,9 @@ module _ (t : ℕ) (s : Space) (core : PlainCore s) (h : IsSettled s) (most : ma
     at [] good = h.1
     at (m ∷ ms) good = single (Queues x.number (deadline_with t x) (SendLater to (m ∷ ms))) (λ k. tt) (send_queued to m ms n (deadline_with t x) x good named goes there)
   placed_way _ _ _ good fits (cancels {from = from} e c there is) = single (in_part from.part e (Ends c.number false Cancelled)) (λ k. tt) tt
-  placed_way _ _ _ good fits (hands_out from e c p sized there own is of stands) = single (in_part from.part e (Holds c.number _)) (λ k. tt) tt
-  placed_way _ _ _ good fits (takes_out from e c p sized there is stands) = single (in_part from.part e (Ends c.number false Received)) (λ k. tt) tt
-  placed_way _ _ _ good fits (expires from e c p sized there main is stands) = acts (expired (listed s) e c false) (expired_acts plain_travels arrives_sending t s core.carries e c (about_of from e there) (copy_of from e p c there is))
+  placed_way _ _ _ good fits (hands_out from e c p there own is of stands) = single (in_part from.part e (Holds c.number _)) (λ k. tt) tt
+  placed_way _ _ _ good fits (takes_out from e c p there is stands) = single (in_part from.part e (Ends c.number false Received)) (λ k. tt) tt
+  placed_way _ _ _ good fits (expires from e c p there main is stands) = acts (expired (listed s) e c false) (expired_acts plain_travels arrives_sending t s core.carries e c (about_of from e there) (copy_of from e p c there is))
   placed_way _ _ _ good fits (settles_now {from = from} {which = which} {token = token} {session = session} {how = how} e c there goes is none) =
       acts (settled (listed s) t e from.part c how) (settled_acts plain_travels arrives_sending t s core.carries e from.part c how (about_of from e there)
       (copy_of from e (λ d. is_living t (leaf_of from.part e).sessions token.lock d.standing && is_named which d) c there (leased_held s t core.ordered token which (leaf_of from.part e) c is).0) (fits.how from which token session how None refl))
@@ -219,7 +219,7 @@ module _ (t : ℕ) (s : Space) (core : PlainCore s) (h : IsSettled s) (most : ma
       let held = leased_held s t core.ordered token which (leaf_of from.part e) c is in
       single (Queues x.number (deadline_with t x) (SettleLater from c.number token session how)) (λ k. tt) (settle_queued from which token session how n (deadline_with t x) e c x there goes on own held.0 (living_has t token.lock (leaf_of from.part e) c.standing held.1))
   placed_way _ _ _ good fits (renews {from = from} e c there free is other) = single (in_part from.part e (Renews c.number (lock_end e t))) (λ k. tt) tt
-  placed_way _ _ _ good fits (opens from id e there has free) = single (in_part from.part e (Opens id (lock_end e t))) (λ k. tt) tt
+  placed_way _ _ _ good fits (opens from id e there has free named) = single (in_part from.part e (Opens id (lock_end e t))) (λ k. tt) tt
   placed_way _ _ _ good fits (prolongs {from = from} {token = token} e x there has held other) = single (in_part from.part e (Prolongs token.lock (lock_end e t))) (λ k. tt) tt
   placed_way _ _ _ good fits (closes {from = from} {token = token} e x there has held) = acts (closed s t e from.part token.lock) (closed_acts plain_travels arrives_sending t s core.carries (λ y. is_same_entity y.about.path from) e from.part token.lock there)
   placed_way _ _ _ good fits (writes {from = from} {token = token} {bytes = bytes} e x there has held small other) = single (in_part from.part e (Writes token.lock bytes)) (λ k. tt) tt

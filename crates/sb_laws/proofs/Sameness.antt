@@ -122,7 +122,7 @@ token_sound a b e = let parts = two (a.salt == b.salt) (a.lock == b.lock) e in t
 pub token_same : (a : Token) → same_token a a ≡ true
 token_same a = rw (numbers_equal a.salt, numbers_equal a.lock) refl
 
-name_sound : (a b : SystemName) → (system_code a == system_code b) ≡ true → a ≡ b
+pub name_sound : (a b : SystemName) → (system_code a == system_code b) ≡ true → a ≡ b
 name_sound MessageId MessageId e = refl
 name_sound Label Label e = refl
 name_sound CorrelationId CorrelationId e = refl

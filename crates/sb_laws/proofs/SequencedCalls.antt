@@ -36,7 +36,7 @@ module _ (most : ℕ) where
     copy_seq from e q c there found = found_seq most (λ x. is_same_entity x.about.path from) e from.part q c s h there found
 
     pub way_seq : (act : Act) (reply : Reply) (cs : List Change) → made s + numbers_given cs ≤ most → Way s t act reply cs → Each (BringsSeq most) cs
-    way_seq _ _ _ few (tells sized told) = tt
+    way_seq _ _ _ few (tells told) = tt
     way_seq _ _ _ few (makes_queue named new fine) = (tt, tt)
     way_seq _ _ _ few (makes_topic named new fine) = (tt, tt)
     way_seq _ _ _ few (makes_subscription e named short there is new fine) = (tt, tt)
@@ -49,13 +49,13 @@ module _ (most : ℕ) where
       at [] = tt
       at (m ∷ ms) = (tt, tt)
     way_seq _ _ _ few (cancels e c there is) = (tt, tt)
-    way_seq _ _ _ few (hands_out from e c p sized there own is of stands) = (tt, tt)
-    way_seq _ _ _ few (takes_out from e c p sized there is stands) = (tt, tt)
-    way_seq _ _ _ few (expires from e c p sized there main is stands) = expired_seq most (listed s) e c false (copy_seq from e p c there is)
+    way_seq _ _ _ few (hands_out from e c p there own is of stands) = (tt, tt)
+    way_seq _ _ _ few (takes_out from e c p there is stands) = (tt, tt)
+    way_seq _ _ _ few (expires from e c p there main is stands) = expired_seq most (listed s) e c false (copy_seq from e p c there is)
     way_seq _ _ _ few (settles_now {from = from} {which = which} {token = token} {how = how} e c there goes is none) = settled_seq most (listed s) t e from.part c how (copy_seq from e _ c there (leased_held s t ordered token which (leaf_of from.part e) c is).0)
     way_seq _ _ _ few (settles_later e c x there goes on own is none room) = (tt, tt)
     way_seq _ _ _ few (renews e c there free is other) = (tt, tt)
-    way_seq _ _ _ few (opens from id e there has free) = (tt, tt)
+    way_seq _ _ _ few (opens from id e there has free named) = (tt, tt)
     way_seq _ _ _ few (prolongs e x there has held other) = (tt, tt)
     way_seq _ _ _ few (closes {from = from} {token = token} e x there has held) = (
       tt,

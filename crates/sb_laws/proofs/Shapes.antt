@@ -218,7 +218,7 @@ module _ (s : Space) (t : ℕ) (h : PlainCore s) where
     at Topic (Some name) is fits named = let bad : false ≡ true = rw is at fits in absurd cc
 
   pub shape : (act : Act) (reply : Reply) (cs : List Change) → Fields Arrives IsPlain Lasts s act → Way s t act reply cs → Shape s t cs
-  shape _ _ _ fits (tells sized told) = of_acts tt
+  shape _ _ _ fits (tells told) = of_acts tt
   shape _ _ _ fits (makes_queue {name = name} {d = d} named new good) = of_makes Queue (entity_path name) d [] (plain_lists.made_entity Queue name d (s.last_entity + 1) refl named good) (record { order = tt; names = tt; none = λ bare. refl }) new (λ sub. absurd cc)
   shape _ _ _ fits (makes_topic {name = name} {d = d} named new good) = of_makes Topic (entity_path name) d [] (plain_lists.made_entity Topic name d (s.last_entity + 1) refl named good) (record { order = tt; names = tt; none = λ bare. refl }) new (λ sub. absurd cc)
   shape _ _ _ fits (makes_subscription {topic = topic} {name = name} {d = d} e named short there is new good) =
@@ -235,11 +235,11 @@ module _ (s : Space) (t : ℕ) (h : PlainCore s) where
     at [] few = of_acts tt
     at (m ∷ ms) few = of_queues x (SendLater to (m ∷ ms)) (found_by_key txn_number (is_transaction n) 0 s.last_txn x s.transactions h.transactions there) few tt
   shape _ _ _ fits (cancels {from = from} e c there is) = of_acts (act_ends (key_of from.part e) c.number false Cancelled, tt)
-  shape _ _ _ fits (hands_out {claim = claim} from e c p sized there own is of stands) =
+  shape _ _ _ fits (hands_out {claim = claim} from e c p there own is of stands) =
       of_holds (key_of from.part e) (hold_of e t claim) e c (by_number s t h.ordered from e there) (copy_by_number s t h.ordered from.part e (λ x. is_same_entity x.about.path from) c p there is) (stands_free c.standing stands)
       (holds_named from.part e (λ x. is_same_entity x.about.path from) c claim there own of (end_at from e there))
-  shape _ _ _ fits (takes_out from e c p sized there is stands) = of_acts (act_ends (key_of from.part e) c.number false Received, tt)
-  shape _ _ _ fits (expires from e c p sized there main is stands) =
+  shape _ _ _ fits (takes_out from e c p there is stands) = of_acts (act_ends (key_of from.part e) c.number false Received, tt)
+  shape _ _ _ fits (expires from e c p there main is stands) =
       of_acts (expired_acts plain_travels arrives_sending t s h.carries e c (plain_at from e there) (copy_at plain_travels arrives_sending t s h.carries (λ x. is_same_entity x.about.path from) e from.part p c there is))
   shape _ _ _ fits (settles_now {from = from} {which = which} {token = token} {session = session} {how = how} e c there goes is none) =
       of_acts (settled_acts plain_travels arrives_sending t s h.carries e from.part c how (plain_at from e there)
@@ -260,7 +260,7 @@ module _ (s : Space) (t : ℕ) (h : PlainCore s) where
         alone : (times_holding token.lock s ≡ 0) × (0 < token.lock) × (token.lock ≤ s.last_lock)
         alone = leased_alone s token.lock from.part (λ y. is_same_entity y.about.path from) e (λ d. is_living t (leaf_of from.part e).sessions token.lock d.standing && is_named which d) c h.locked there lease.0 (has c.standing lease.1)
   shape _ _ _ fits (renews {from = from} e c there free is other) = of_renews (key_of from.part e) c.number (lock_end e t) (end_at from e there)
-  shape _ _ _ fits (opens from id e there has free) = of_opens (key_of from.part e) id (lock_end e t) (end_at from e there)
+  shape _ _ _ fits (opens from id e there has free named) = of_opens (key_of from.part e) id (lock_end e t) (end_at from e there)
   shape _ _ _ fits (prolongs {from = from} {token = token} e x there has held other) = of_prolongs (key_of from.part e) token.lock (lock_end e t) (end_at from e there)
   shape _ _ _ fits (closes {from = from} {token = token} e x there has held) = of_acts (closed_acts plain_travels arrives_sending t s h.carries (λ y. is_same_entity y.about.path from) e from.part token.lock there)
   shape _ _ _ fits (writes {from = from} {token = token} {bytes = bytes} e x there has held small other) = of_writes (key_of from.part e) token.lock bytes (at_most (size_of bytes) max_state small)

@@ -1,76 +1,43 @@
 -- Calls whose lists are in order, and ticks, keep a state consistent.
-use Rattle.std.proofs.Common.{Bool, List, [], arith, false, nat_le, true, ℕ, ◌+◌, ◌∷◌, ◌≡◌, ◌≤◌}
+use Rattle.std.proofs.Common.{Bool, List, [], arith, false, nat_le, refl, true, ℕ, ◌+◌, ◌∷◌, ◌≡◌, ◌≤◌}
 use Rattle.std.specs.Prelude.{if◌then◌else◌}
-use Rattle.sb_laws.proofs.Carried.{copy_at}
-use Rattle.sb_laws.proofs.Clients.{keeps_each, named_by}
-use Rattle.sb_laws.proofs.Contents.{ContentsCore, contents_call, contents_sending, contents_tick, contents_travel}
+use Rattle.sb_laws.proofs.Clients.{keeps_each}
+use Rattle.sb_laws.proofs.Contents.{contents_call, contents_fields, contents_tick}
+use Rattle.sb_laws.proofs.Eachs.{each_implied}
 use Rattle.sb_laws.proofs.Freed.{tick_named}
+use Rattle.sb_laws.proofs.Ids.{AreShort, BringsIds, ids_all, tick_ids, way_ids}
 use Rattle.sb_laws.proofs.Keeping.{first_none}
 use Rattle.sb_laws.proofs.Named.{called_named}
-use Rattle.sb_laws.proofs.Ordering.{fields_of, four, not_spent, orderly_core, stays_orderly, tick_acts, ticks_orderly}
+use Rattle.sb_laws.proofs.Ordering.{fields_of, four, not_spent, orderly_core, stays_orderly, tick_acts, tick_changes_so, ticks_orderly}
 use Rattle.sb_laws.proofs.Orders.{orderly_is_sweepable}
 use Rattle.sb_laws.proofs.Outcomes.{Comes, Fits, comes, comes_acted}
 use Rattle.sb_laws.proofs.PlacedCalls.{placed_way}
 use Rattle.sb_laws.proofs.Placing.{ArePlaced, acts_placed}
+use Rattle.sb_laws.proofs.Remembering.{call_kept}
 use Rattle.sb_laws.proofs.SequencedCalls.{way_seq}
 use Rattle.sb_laws.proofs.Sequences.{AreSeqs, seqs_all, tick_seq}
-use Rattle.sb_laws.proofs.Shapes.{at_most}
-use Rattle.sb_laws.proofs.Ways.{Way, aborts, adds_rule, begins, cancels, closes, commits, drops_rule, expires, hands_out, makes_queue, makes_subscription, makes_topic, opens, prolongs, queues_send, removes, renews, rolls_back, sends, settles_later, settles_now, takes_out, tells, writes}
+use Rattle.sb_laws.proofs.Shapes.{Arrives, at_most}
+use Rattle.sb_laws.proofs.Tick.{IsOfTick}
 use Rattle.sb_laws.proofs.Wholes.{IsWhole, consistent_of, whole_of}
 use Rattle.sb_machine.specs.Acts.{is_via_in}
 use Rattle.sb_laws.specs.Staying.{AreInOrder}
 use Rattle.sb_machine.specs.Answers.{is_change, keeping, max_moment, moment_of, state_in, state_of}
 use Rattle.sb_machine.specs.Changes.{after_all, is_numbered, max_number, numbers_given}
-use Rattle.sb_machine.specs.Consistent.{IsConsistent, IsShown}
+use Rattle.sb_machine.specs.Consistent.{IsConsistent, IsKept}
 use Rattle.sb_machine.specs.Each.{Each}
 use Rattle.sb_machine.specs.Due.{is_due, tick_changes}
-use Rattle.sb_machine.specs.Fields.{bad_in_act, bad_in_by, takes_number}
+use Rattle.sb_machine.specs.Fields.{bad_in_act, bad_in_by}
 use Rattle.sb_machine.specs.History.{IsAllowed, IsLegal, IsLegalFrom, Log, advanced, after_entries, after_entry, fresh_log, is_fault, is_spent, state_after}
-use Rattle.sb_machine.specs.Names.{is_same_entity}
 use Rattle.sb_machine.specs.Namespace.{made}
 use Rattle.sb_machine.specs.Ordered.{IsActInOrder}
 use Rattle.sb_machine.specs.Repeats.{Outcome, acted, client_of, outcome_of, refused, repeated}
-use Rattle.sb_machine.specs.Transactions.{aborted_by}
-use Rattle.sb_machine.specs.declared.call.Act.{Act}
 use Rattle.sb_machine.specs.declared.call.Call.{Call}
 use Rattle.sb_machine.specs.declared.change.Change.{Change}
 use Rattle.sb_machine.specs.declared.history.Entry.{Entry}
 use Rattle.sb_machine.specs.declared.history.Entry.TheVariants.{Ticked, Answered as Replied}
 use Rattle.sb_machine.specs.declared.reply.Reply.{Reply}
-use Rattle.sb_machine.specs.declared.state.Operation.{Operation}
-use Rattle.sb_machine.specs.declared.state.Operation.TheVariants.{Send as SendLater, Settle as SettleLater}
 use Rattle.sb_machine.specs.declared.state.Space.{Space}
 use Rattle.sb_machine.specs.declared.state.State.{State}
-
--- a message that a reply shows is one that a part holds
-shown_fits : (s : Space) (t : ℕ) (act : Act) (reply : Reply) (cs : List Change) → ContentsCore s → takes_number act ≡ true → Way s t act reply cs → IsShown reply
-shown_fits s t _ _ _ core takes (tells sized told) = (told takes).1
-shown_fits s t _ _ _ core takes (makes_queue named new described) = tt
-shown_fits s t _ _ _ core takes (makes_topic named new described) = tt
-shown_fits s t _ _ _ core takes (makes_subscription e named short there is new described) = tt
-shown_fits s t _ _ _ core takes (adds_rule e f a named there new f_is a_is small) = tt
-shown_fits s t _ _ _ core takes (removes e there) = tt
-shown_fits s t _ _ _ core takes (drops_rule e r there is) = tt
-shown_fits s t _ _ _ core takes (sends e goes there sessions small) = tt
-shown_fits s t _ _ _ core takes (queues_send x named goes there room small) = tt
-shown_fits s t _ _ _ core takes (cancels e c there is) = tt
-shown_fits s t _ _ _ core takes (hands_out from e c p sized there own is of stands) = (copy_at contents_travel contents_sending t s core.carries (λ x. is_same_entity x.about.path from) e from.part p c there is).message.0
-shown_fits s t _ _ _ core takes (takes_out from e c p sized there is stands) = (copy_at contents_travel contents_sending t s core.carries (λ x. is_same_entity x.about.path from) e from.part p c there is).message.0
-shown_fits s t _ _ _ core takes (expires from e c p sized there main is stands) = tt
-shown_fits s t _ _ _ core takes (settles_now e c there goes is none) = tt
-shown_fits s t _ _ _ core takes (settles_later e c x there goes on own is none room) = tt
-shown_fits s t _ _ _ core takes (renews e c there free is other) = tt
-shown_fits s t _ _ _ core takes (opens from id e there has free) = tt
-shown_fits s t _ _ _ core takes (prolongs e x there has held other) = tt
-shown_fits s t _ _ _ core takes (closes e x there has held) = tt
-shown_fits s t _ _ _ core takes (writes e x there has held small other) = tt
-shown_fits s t _ _ _ core takes (begins e there few) = tt
-shown_fits s t _ _ _ core takes (commits x e there on none) = tt
-shown_fits s t _ _ _ core takes (aborts x o there) = at o where
-  at : (o : Operation) → IsShown (aborted_by o)
-  at (SendLater to messages) = tt
-  at (SettleLater from number token session how) = tt
-shown_fits s t _ _ _ core takes (rolls_back x there) = tt
 
 given_within : (t : ℕ) (cs : List Change) (s : Space) → is_numbered t cs s ≡ true → made s + numbers_given cs ≤ max_number
 given_within t cs s is = at_most (made s + numbers_given cs) max_number (four (nat_le (made s + numbers_given cs) max_number) (nat_le (after_all t cs s).last_entity max_number) (nat_le (after_all t cs s).last_lock max_number) (nat_le (after_all t cs s).last_txn max_number) is).0
@@ -99,27 +66,32 @@ module _ (s : State) (t : ℕ) (call : Call) (w : IsWhole s) where
       go true = changed_so
       go false = (w.placed, w.seqs)
 
-  kept_shown : (reply : Reply) (cs : List Change) → Fits s.space t call.by call.act reply cs → Each (λ k. IsShown k.reply) (keeping (client_of call) call.act reply s.clients)
-  kept_shown reply cs fits = keeps_each (λ k. IsShown k.reply) (client_of call) call.act reply s.clients (λ b is. shown_fits s.space t call.act reply cs w.contents (named_by call.act call.by b is).1 fits.way) w.shown
+  acted_ids : IsActInOrder call.act → (reply : Reply) (cs : List Change) → Fits s.space t call.by call.act reply cs → AreShort (after_all t cs s.space)
+  acted_ids order reply cs fits =
+      let is_via = is_via_in s.space call.act in
+      let good = (first_none (bad_in_act is_via call.act) (bad_in_by call.act call.by) fits.fields).0 in
+      ids_all t cs s.space (way_ids t s.space w.contents is_via call.act reply cs good (contents_fields s.space is_via call.act good order) fits.way) w.ids
 
-  called_shown : Each (λ k. IsShown k.reply) (state_of s t call).clients
-  called_shown = by (outcome_of s t call) (comes s t call) where
-    by : (o : Outcome) → Comes s t call o → Each (λ k. IsShown k.reply) (state_in s t call o).clients
-    by (refused r) is = w.shown
-    by (repeated reply) is = w.shown
-    by (acted reply cs) (comes_acted newer fits) = go (is_change (client_of call) (acted reply cs)) where
-      go : (b : Bool) → Each (λ k. IsShown k.reply) (if b then record { now = t; clients = keeping (client_of call) call.act reply s.clients; space = after_all t cs s.space } else s).clients
-      go true = kept_shown reply cs fits
-      go false = w.shown
+  called_kept : IsActInOrder call.act → AreShort (state_of s t call).space × Each IsKept (state_of s t call).clients
+  called_kept order = by (outcome_of s t call) refl (comes s t call) where
+    by : (o : Outcome) → outcome_of s t call ≡ o → Comes s t call o → AreShort (state_in s t call o).space × Each IsKept (state_in s t call o).clients
+    by (refused r) same is = (w.ids, w.kept)
+    by (repeated reply) same is = (w.ids, w.kept)
+    by (acted reply cs) same (comes_acted newer fits) = go (is_change (client_of call) (acted reply cs)) where
+      go : (b : Bool) → AreShort (if b then record { now = t; clients = keeping (client_of call) call.act reply s.clients; space = after_all t cs s.space } else s).space
+          × Each IsKept (if b then record { now = t; clients = keeping (client_of call) call.act reply s.clients; space = after_all t cs s.space } else s).clients
+      go true = (acted_ids order reply cs fits, keeps_each IsKept (client_of call) call.act reply s.clients (λ b is. call_kept s t call reply cs (consistent_of s w) w.contents order fits same b is) w.kept)
+      go false = (w.ids, w.kept)
 
   pub whole_called : IsActInOrder call.act → s.now ≤ t → t ≤ max_moment → IsWhole (state_of s t call)
-  whole_called order le most = record {
+  whole_called order le most = let kept_so = called_kept order in record {
     orderly = stays_orderly s t call w.orderly le most;
     contents = contents_call s t call order w.contents;
     placed = called_so.0;
     seqs = called_so.1;
     named = called_named s t call le (record { orderly = w.orderly; named = w.named });
-    shown = called_shown;
+    ids = kept_so.0;
+    kept = kept_so.1;
   }
 
 pub whole_ticked : (s : State) (t : ℕ) → IsWhole s → s.now ≤ t → t ≤ max_moment → is_spent s t ≡ false → IsWhole (advanced s t)
@@ -131,7 +103,8 @@ whole_ticked s t w le most room =
       placed = (acts_placed t (tick_changes t s.space) s.space (tick_acts t s.space (orderly_core s w.orderly)) (w.orderly.owned, w.placed)).1;
       seqs = seqs_all max_number t (tick_changes t s.space) s.space (tick_seq max_number t s.space w.seqs few) few w.seqs;
       named = tick_named t s.space (orderly_is_sweepable s w.orderly) s.now le w.named;
-      shown = w.shown;
+      ids = ids_all t (tick_changes t s.space) s.space (each_implied (IsOfTick Arrives true) BringsIds (tick_ids true) (tick_changes t s.space) (tick_changes_so t s.space (orderly_core s w.orderly))) w.ids;
+      kept = w.kept;
     }
 
 pub stays_consistent : (s : State) (t : ℕ) (call : Call) → IsConsistent s → IsActInOrder call.act → s.now ≤ t → t ≤ max_moment → IsConsistent (state_of s t call)

@@ -1,13 +1,12 @@
 -- In which ways an act is accepted: with which reply and changes, and what was found and tested before.
-use Rattle.std.proofs.Common.{Bool, Err, List, None, Ok, Option, Some, [], ap, arith, false, length, map, nat_le, nat_lt, not, refl, subst, true, ℕ, ◌&&◌, ◌+◌, ◌==◌, ◌||◌, ◌∙◌, ◌∷◌, ◌≡◌, ◌≤◌}
-use Rattle.std.proofs.lemmas.Bool.Decides.{nat_tests}
+use Rattle.std.proofs.Common.{Bool, Err, List, None, Ok, Option, Some, [], ap, false, length, map, nat_le, nat_lt, not, refl, subst, true, ℕ, ◌&&◌, ◌+◌, ◌==◌, ◌||◌, ◌∙◌, ◌∷◌, ◌≡◌}
 use Rattle.std.specs.Prelude.{find, if◌then◌else◌, is_some, option_map}
 use Rattle.sb_laws.proofs.Lists.{found_passes}
 use Rattle.sb_laws.proofs.Rows.{Of, absent, answered_so, asked, counted, found, read, refused_so, refusing, with_entity, with_receivable}
 use Rattle.sb_machine.specs.Acts.{act_row}
 use Rattle.sb_machine.specs.Administration.{action_of, are_rule_names, bad_description, conditions_size, create_row, create_rule_row, create_subscription_row, default_rule, filter_of, going_with, large_filter, rule_in}
 use Rattle.sb_machine.specs.Claims.{Claim, asks_holder, asks_session, claim_of, claiming, has_sessions, is_of}
-use Rattle.sb_machine.specs.Consistent.{IsReply, IsShown, IsSized}
+use Rattle.sb_machine.specs.Consistent.{IsReply}
 use Rattle.sb_machine.specs.Delivery.{expired, in_part, is_expired}
 use Rattle.sb_machine.specs.Descriptions.{bad_in_description}
 use Rattle.sb_model.specs.Effects.{max_property_bytes}
@@ -68,8 +67,13 @@ pub data IsClaim (s : Space) (t : ℕ) (e : Entity) (part : Part) : Option Claim
   by_anybody : has_sessions e part ≡ false → IsClaim s t e part None
   by_holder_of : (token : Token) (x : Session) → has_sessions e part ≡ true → held_session s t token (leaf_of part e) ≡ Some x → IsClaim s t e part (Some (claim_of token.lock x))
 
+-- the session that is asked for, or else the next one that may be had
+abbrev pub session_for : Leaf → Option (List ℕ) → Option (List ℕ)
+session_for leaf (Some id) = Some id
+session_for leaf None = next_session leaf leaf.copies
+
 pub data Way (s : Space) (t : ℕ) : Act → Reply → List Change → Type 0 where
-  tells : {act : Act} {reply : Reply} → IsSized act → (takes_number act ≡ true → IsReply reply × IsShown reply) → Way s t act reply []
+  tells : {act : Act} {reply : Reply} → (takes_number act ≡ true → IsReply reply) → Way s t act reply []
   makes_queue : {name : List ℕ} {d : Description} → is_name name ≡ true → entity_at (entity_path name) s ≡ None → bad_in_description Queue d ≡ None → Way s t (CreateQueue name d) Done (Makes Queue (entity_path name) d [] ∷ [])
   makes_topic : {name : List ℕ} {d : Description} → is_name name ≡ true → entity_at (entity_path name) s ≡ None → bad_in_description Topic d ≡ None → Way s t (CreateTopic name d) Done (Makes Topic (entity_path name) d [] ∷ [])
   makes_subscription : {topic name : List ℕ} {d : Description} (e : Entity) → is_name topic ≡ true → is_short_name name ≡ true → entity_at (entity_path topic) s ≡ Some e → is_topic e.about.kind ≡ true → entity_at (subscription_path topic name) s ≡ None
@@ -83,12 +87,12 @@ pub data Way (s : Space) (t : ℕ) : Act → Reply → List Change → Type 0 wh
   queues_send : {to : Path} {messages : List Message} {n : ℕ} (x : Transaction) → is_address to ≡ true → is_destination to ≡ true → open_in (Some n) s ≡ Some x → has_room x (length messages) ≡ true → too_large messages ≡ None
       → Way s t (Send to messages (Some n)) Queued (queued_send t to messages x)
   cancels : {from : Path} {n : ℕ} (e : Entity) (c : StoredCopy) → entity_at from s ≡ Some e → scheduled_copy n (leaf_of from.part e) ≡ Some c → Way s t (Cancel from n) Done (in_part from.part e (Ends c.number false Cancelled) ∷ [])
-  hands_out : {act : Act} {claim : Option Claim} (from : Path) (e : Entity) (c : StoredCopy) (p : StoredCopy → Bool) → IsSized act → entity_at from s ≡ Some e → IsClaim s t e from.part claim → find p (leaf_of from.part e).copies ≡ Some c
+  hands_out : {act : Act} {claim : Option Claim} (from : Path) (e : Entity) (c : StoredCopy) (p : StoredCopy → Bool) → entity_at from s ≡ Some e → IsClaim s t e from.part claim → find p (leaf_of from.part e).copies ≡ Some c
       → is_of claim c ≡ true → (is_ready c.standing || is_deferred c.standing) ≡ true
       → Way s t act (Given (shown (c.count + 1) (Locked (next_token s) (until_of e t claim)) c)) (in_part from.part e (Holds c.number (hold_of e t claim)) ∷ [])
-  takes_out : {act : Act} (from : Path) (e : Entity) (c : StoredCopy) (p : StoredCopy → Bool) → IsSized act → entity_at from s ≡ Some e → find p (leaf_of from.part e).copies ≡ Some c → (is_ready c.standing || is_deferred c.standing) ≡ true
+  takes_out : {act : Act} (from : Path) (e : Entity) (c : StoredCopy) (p : StoredCopy → Bool) → entity_at from s ≡ Some e → find p (leaf_of from.part e).copies ≡ Some c → (is_ready c.standing || is_deferred c.standing) ≡ true
       → Way s t act (Given (shown (c.count + 1) Removed c)) (in_part from.part e (Ends c.number false Received) ∷ [])
-  expires : {act : Act} (from : Path) (e : Entity) (c : StoredCopy) (p : StoredCopy → Bool) → IsSized act → entity_at from s ≡ Some e → is_main from.part ≡ true → find p (leaf_of from.part e).copies ≡ Some c → is_deferred c.standing ≡ true
+  expires : {act : Act} (from : Path) (e : Entity) (c : StoredCopy) (p : StoredCopy → Bool) → entity_at from s ≡ Some e → is_main from.part ≡ true → find p (leaf_of from.part e).copies ≡ Some c → is_deferred c.standing ≡ true
       → Way s t act (HasExpired c.number) (expired (listed s) e c false)
   settles_now : {from : Path} {which : Which} {token : Token} {session : Option Token} {how : How} (e : Entity) (c : StoredCopy) → entity_at from s ≡ Some e → goes_with how from.part ≡ true → leased s t token which (leaf_of from.part e) ≡ Some c
       → pending_in token.lock s ≡ None → Way s t (Settle from which token session how None) Done (settled (listed s) t e from.part c how)
@@ -98,7 +102,7 @@ pub data Way (s : Space) (t : ℕ) : Act → Reply → List Change → Type 0 wh
   renews : {from : Path} {which : Which} {token : Token} (e : Entity) (c : StoredCopy) → entity_at from s ≡ Some e → has_sessions e from.part ≡ false → leased s t token which (leaf_of from.part e) ≡ Some c → is_until (lock_end e t) c.standing ≡ false
       → Way s t (Renew from which token) (Renewed (lock_end e t)) (in_part from.part e (Renews c.number (lock_end e t)) ∷ [])
   opens : {asked_for : Option (List ℕ)} (from : Path) (id : List ℕ) (e : Entity) → entity_at from s ≡ Some e → has_sessions e from.part ≡ true → held_until t (holder_in id (leaf_of from.part e)) ≡ None
-      → Way s t (Accept from asked_for) (Accepted id (next_token s) (lock_end e t)) (in_part from.part e (Opens id (lock_end e t)) ∷ [])
+      → session_for (leaf_of from.part e) asked_for ≡ Some id → Way s t (Accept from asked_for) (Accepted id (next_token s) (lock_end e t)) (in_part from.part e (Opens id (lock_end e t)) ∷ [])
   prolongs : {from : Path} {token : Token} (e : Entity) (x : Session) → entity_at from s ≡ Some e → has_sessions e from.part ≡ true → held_session s t token (leaf_of from.part e) ≡ Some x → lives_until (lock_end e t) x ≡ false
       → Way s t (SessionRenew from token) (Renewed (lock_end e t)) (in_part from.part e (Prolongs token.lock (lock_end e t)) ∷ [])
   closes : {from : Path} {token : Token} (e : Entity) (x : Session) → entity_at from s ≡ Some e → has_sessions e from.part ≡ true → held_session s t token (leaf_of from.part e) ≡ Some x → Way s t (SessionClose from token) Done (closed s t e from.part token.lock)
@@ -122,9 +126,6 @@ both_of_three : (a b c : Bool) → (a && b && c) ≡ true → (a ≡ true) × (b
 both_of_three true true c e = (refl, refl, e)
 both_of_three true false c e = absurd cc
 both_of_three false b c e = absurd cc
-
-state_fits : (size : ℕ) → nat_le size max_state ≡ true → size ≤ max_state
-state_fits size e = grind (arith, nat_tests)
 
 is_not : (b : Bool) → not b ≡ true → b ≡ false
 is_not true e = absurd cc
@@ -184,21 +185,21 @@ module _ (s : Space) (t : ℕ) where
     at None there is = refused_so refl
     at (Some x) there is = h (Some (claim_of token.lock x)) (by_holder_of token x is there)
 
-  row_hands : (act : Act) (from : Path) (e : Entity) (mode : Mode) (claim : Option Claim) (c : StoredCopy) (p : StoredCopy → Bool) → IsSized act → entity_at from s ≡ Some e → IsClaim s t e from.part claim → find p (leaf_of from.part e).copies ≡ Some c
+  row_hands : (act : Act) (from : Path) (e : Entity) (mode : Mode) (claim : Option Claim) (c : StoredCopy) (p : StoredCopy → Bool) → entity_at from s ≡ Some e → IsClaim s t e from.part claim → find p (leaf_of from.part e).copies ≡ Some c
       → is_of claim c ≡ true → (is_ready c.standing || is_deferred c.standing) ≡ true → Accepts act (handed_out s t e from.part mode claim c)
-  row_hands act from e Lock claim c p sized there own first of stands = answered_so (hands_out from e c p sized there own first of stands)
-  row_hands act from e WithDeletion claim c p sized there own first of stands = answered_so (takes_out from e c p sized there first stands)
+  row_hands act from e Lock claim c p there own first of stands = answered_so (hands_out from e c p there own first of stands)
+  row_hands act from e WithDeletion claim c p there own first of stands = answered_so (takes_out from e c p there first stands)
 
-  row_received : (act : Act) (from : Path) (e : Entity) (mode : Mode) (claim : Option Claim) → IsSized act → entity_at from s ≡ Some e → IsClaim s t e from.part claim → Accepts act (received s t e from.part mode claim (first_ready claim (leaf_of from.part e)))
-  row_received act from e mode claim sized there own = at (first_ready claim (leaf_of from.part e)) refl where
+  row_received : (act : Act) (from : Path) (e : Entity) (mode : Mode) (claim : Option Claim) → entity_at from s ≡ Some e → IsClaim s t e from.part claim → Accepts act (received s t e from.part mode claim (first_ready claim (leaf_of from.part e)))
+  row_received act from e mode claim there own = at (first_ready claim (leaf_of from.part e)) refl where
     at : (o : Option StoredCopy) → first_ready claim (leaf_of from.part e) ≡ o → Accepts act (received s t e from.part mode claim o)
-    at None is = answered_so (tells sized (λ numbered. (tt, tt)))
+    at None is = answered_so (tells (λ numbered. tt))
     at (Some c) is =
         let passes = both (is_ready c.standing) (is_of claim c) (found_passes (is_ready_for claim) c (leaf_of from.part e).copies is) in
-        row_hands act from e mode claim c (is_ready_for claim) sized there own is passes.1 (either_first (is_ready c.standing) (is_deferred c.standing) passes.0)
+        row_hands act from e mode claim c (is_ready_for claim) there own is passes.1 (either_first (is_ready c.standing) (is_deferred c.standing) passes.0)
 
-  row_deferred : (act : Act) (from : Path) (n : ℕ) (e : Entity) (mode : Mode) (claim : Option Claim) → IsSized act → entity_at from s ≡ Some e → IsClaim s t e from.part claim → Accepts act (deferred_received s t e from.part mode claim (deferred_copy n claim (leaf_of from.part e)))
-  row_deferred act from n e mode claim sized there own = at (deferred_copy n claim (leaf_of from.part e)) refl where
+  row_deferred : (act : Act) (from : Path) (n : ℕ) (e : Entity) (mode : Mode) (claim : Option Claim) → entity_at from s ≡ Some e → IsClaim s t e from.part claim → Accepts act (deferred_received s t e from.part mode claim (deferred_copy n claim (leaf_of from.part e)))
+  row_deferred act from n e mode claim there own = at (deferred_copy n claim (leaf_of from.part e)) refl where
     at : (o : Option StoredCopy) → deferred_copy n claim (leaf_of from.part e) ≡ o → Accepts act (deferred_received s t e from.part mode claim o)
     at None is = refused_so refl
     at (Some c) is = go (is_main from.part && is_expired t c) refl where
@@ -206,8 +207,8 @@ module _ (s : Space) (t : ℕ) where
       passes = both_of_three (is_deferred c.standing) (c.number == n) (is_of claim c) (found_passes (λ d. is_deferred d.standing && (d.number == n) && is_of claim d) c (leaf_of from.part e).copies is)
 
       go : (b : Bool) → (is_main from.part && is_expired t c) ≡ b → Accepts act (if b then answers (HasExpired c.number) (expired (listed s) e c false) else handed_out s t e from.part mode claim c)
-      go true so = answered_so (expires from e c (λ d. is_deferred d.standing && (d.number == n) && is_of claim d) sized there (both (is_main from.part) (is_expired t c) so).0 is passes.0)
-      go false so = row_hands act from e mode claim c (λ d. is_deferred d.standing && (d.number == n) && is_of claim d) sized there own is passes.2 (either_second (is_ready c.standing) (is_deferred c.standing) passes.0)
+      go true so = answered_so (expires from e c (λ d. is_deferred d.standing && (d.number == n) && is_of claim d) there (both (is_main from.part) (is_expired t c) so).0 is passes.0)
+      go false so = row_hands act from e mode claim c (λ d. is_deferred d.standing && (d.number == n) && is_of claim d) there own is passes.2 (either_second (is_ready c.standing) (is_deferred c.standing) passes.0)
 
   row_holder : (act : Act) (from : Path) (token : Token) (next : Entity → Session → Row)
       → ((e : Entity) (x : Session) → entity_at from s ≡ Some e → has_sessions e from.part ≡ true → held_session s t token (leaf_of from.part e) ≡ Some x → Accepts act (next e x)) → Accepts act (by_holder s t from token next)
@@ -221,11 +222,11 @@ module _ (s : Space) (t : ℕ) where
   row_accepting from (Some id) e there is = at (held_until t (holder_in id (leaf_of from.part e))) refl where
     at : (o : Option ℕ) → held_until t (holder_in id (leaf_of from.part e)) ≡ o → Accepts (Accept from (Some id)) (accepted_named s t e from.part id o)
     at (Some until) free = refused_so refl
-    at None free = answered_so (opens from id e there is free)
+    at None free = answered_so (opens from id e there is free refl)
   row_accepting from None e there is = at (next_session (leaf_of from.part e) (leaf_of from.part e).copies) refl where
     at : (o : Option (List ℕ)) → next_session (leaf_of from.part e) (leaf_of from.part e).copies ≡ o → Accepts (Accept from None) (accepted_next s t e from.part o)
-    at None free = answered_so (tells tt (λ numbered. (tt, tt)))
-    at (Some id) free = answered_so (opens from id e there is (ap (held_until t) (free_one (leaf_of from.part e) id (leaf_of from.part e).copies free)))
+    at None free = answered_so (tells (λ numbered. tt))
+    at (Some id) free = answered_so (opens from id e there is (ap (held_until t) (free_one (leaf_of from.part e) id (leaf_of from.part e).copies free)) free)
 
   row_sends : (to : Path) (messages : List Message) (txn : Option ℕ) → Accepts (Send to messages txn) (send_row s t to messages txn)
   row_sends to messages None =
@@ -309,21 +310,21 @@ module _ (s : Space) (t : ℕ) where
     at e there free None is = refused_so refl
     at e there free (Some c) is = go (is_until (lock_end e t) c.standing) refl where
       go : (b : Bool) → is_until (lock_end e t) c.standing ≡ b → Accepts (Renew from which token) (answers (Renewed (lock_end e t)) (if b then [] else in_part from.part e (Renews c.number (lock_end e t)) ∷ []))
-      go true same = answered_so (tells tt (λ numbered. (tt, tt)))
+      go true same = answered_so (tells (λ numbered. tt))
       go false same = answered_so (renews e c there free is same)
 
   row_prolongs : (from : Path) (token : Token) → Accepts (SessionRenew from token) (session_renew_row s t from token)
   row_prolongs from token = row_holder (SessionRenew from token) from token _ (λ e x there has held. go e x there has held (lives_until (lock_end e t) x) refl) where
     go : (e : Entity) (x : Session) → entity_at from s ≡ Some e → has_sessions e from.part ≡ true → held_session s t token (leaf_of from.part e) ≡ Some x → (b : Bool) → lives_until (lock_end e t) x ≡ b
         → Accepts (SessionRenew from token) (answers (Renewed (lock_end e t)) (if b then [] else in_part from.part e (Prolongs token.lock (lock_end e t)) ∷ []))
-    go e x there has held true same = answered_so (tells tt (λ numbered. (tt, tt)))
+    go e x there has held true same = answered_so (tells (λ numbered. tt))
     go e x there has held false same = answered_so (prolongs e x there has held same)
 
   row_writes : (from : Path) (token : Token) (bytes : Option (List ℕ)) → Accepts (SessionSet from token bytes) (session_set_row s t from token bytes)
   row_writes from token bytes = row_holder (SessionSet from token bytes) from token _ (λ e x there has held. asked (nat_le (size_of bytes) max_state) (TooLarge (size_of bytes)) _ refl (λ small. go e x there has held small (is_same_option x.state bytes) refl)) where
     go : (e : Entity) (x : Session) → entity_at from s ≡ Some e → has_sessions e from.part ≡ true → held_session s t token (leaf_of from.part e) ≡ Some x → nat_le (size_of bytes) max_state ≡ true → (b : Bool) → is_same_option x.state bytes ≡ b
         → Accepts (SessionSet from token bytes) (answers Done (if b then [] else in_part from.part e (Writes token.lock bytes) ∷ []))
-    go e x there has held small true same = answered_so (tells (state_fits (size_of bytes) small) (λ numbered. (tt, tt)))
+    go e x there has held small true same = answered_so (tells (λ numbered. tt))
     go e x there has held small false same = answered_so (writes e x there has held small same)
 
   row_commits : (n : ℕ) → Accepts (Commit n) (commit_row s t n)
@@ -346,17 +347,17 @@ module _ (s : Space) (t : ℕ) where
     at : (e : Entity) → entity_at from s ≡ Some e → (o : Option StoredCopy) → scheduled_copy n (leaf_of from.part e) ≡ o → Accepts (Cancel from n) (cancelled e from.part o)
     at e there None is = refused_so refl
     at e there (Some c) is = answered_so (cancels e c there is)
-  accepts (Receive from mode session) = with_receivable s from _ refl refl refl (λ e there. row_claim (Receive from mode session) e from.part session _ (λ claim own. row_received (Receive from mode session) from e mode claim tt there own))
-  accepts (ReceiveDeferred from n mode session) = with_receivable s from _ refl refl refl (λ e there. row_claim (ReceiveDeferred from n mode session) e from.part session _ (λ claim own. row_deferred (ReceiveDeferred from n mode session) from n e mode claim tt there own))
+  accepts (Receive from mode session) = with_receivable s from _ refl refl refl (λ e there. row_claim (Receive from mode session) e from.part session _ (λ claim own. row_received (Receive from mode session) from e mode claim there own))
+  accepts (ReceiveDeferred from n mode session) = with_receivable s from _ refl refl refl (λ e there. row_claim (ReceiveDeferred from n mode session) e from.part session _ (λ claim own. row_deferred (ReceiveDeferred from n mode session) from n e mode claim there own))
   accepts (Settle from which token session how txn) = row_settles from which token session how txn
   accepts (Renew from which token) = row_renews from which token
   accepts (Accept from id) = with_receivable s from _ refl refl refl (λ e there. asked (has_sessions e from.part) SessionNotAllowed _ refl (λ has. row_accepting from id e there has))
   accepts (SessionRenew from token) = row_prolongs from token
   accepts (SessionClose from token) = row_holder (SessionClose from token) from token _ (λ e x there has held. answered_so (closes e x there has held))
   accepts (SessionSet from token bytes) = row_writes from token bytes
-  accepts (SessionState from token) = row_holder (SessionState from token) from token _ (λ e x there has held. answered_so (tells tt (λ numbered. absurd cc)))
+  accepts (SessionState from token) = row_holder (SessionState from token) from token _ (λ e x there has held. answered_so (tells (λ numbered. absurd cc)))
   accepts (Begin path) = with_entity s path _ refl refl (λ e there. asked (nat_lt (length s.transactions) max_transactions) TxnsFull _ refl (λ few. answered_so (begins e there few)))
   accepts (Commit n) = row_commits n
   accepts (Rollback n) = found (transaction_of n s) TxnNotFound _ refl (λ x there. answered_so (rolls_back x there))
-  accepts (Peek from start count) = with_entity s from _ refl refl (λ e there. answered_so (tells tt (λ numbered. absurd cc)))
-  accepts (Counts path) = with_entity s path _ refl refl (λ e there. answered_so (tells tt (λ numbered. absurd cc)))
+  accepts (Peek from start count) = with_entity s from _ refl refl (λ e there. answered_so (tells (λ numbered. absurd cc)))
+  accepts (Counts path) = with_entity s path _ refl refl (λ e there. answered_so (tells (λ numbered. absurd cc)))

@@ -9,6 +9,7 @@ use Rattle.sb_laws.proofs.Contents.{ContentsCore, IsStill}
 use Rattle.sb_laws.proofs.Eachs.{each_back, each_both, each_implied, is_equal}
 use Rattle.sb_laws.proofs.Entities.{EachLeaf, each_leaf, leaf_each}
 use Rattle.sb_laws.proofs.Freed.{AreNamed, none_exempt}
+use Rattle.sb_laws.proofs.Ids.{AcceptedShort, AreShort, SessionIsShort, SessionsShort}
 use Rattle.sb_laws.proofs.Lists.{found_passes}
 use Rattle.sb_laws.proofs.Loose.{IsHeldOr, LooseIn, under_exempt}
 use Rattle.sb_laws.proofs.Mild.{IsCarried}
@@ -21,7 +22,7 @@ use Rattle.sb_laws.proofs.Placing.{ArePlaced, IsPlaced, IsQueuedIn, OwnsLock}
 use Rattle.sb_laws.proofs.Sequences.{AreSeqs, HasSeq, SeqsIn}
 use Rattle.sb_laws.specs.Orderly.{IsOrderly, IsOrderlyCopy, IsOrderlyEntity, IsOrderlyLeaf, IsOrderlyTransaction}
 use Rattle.sb_machine.specs.Changes.{max_number}
-use Rattle.sb_machine.specs.Consistent.{IsConsistent, IsOperation, IsShown, IsTransaction, locks_of, queued_lock, queued_locks}
+use Rattle.sb_machine.specs.Consistent.{IsConsistent, IsKept, IsOperation, IsTransaction, locks_of, queued_lock, queued_locks}
 use Rattle.sb_machine.specs.Each.{Each}
 use Rattle.sb_machine.specs.Fields.{is_number}
 use Rattle.sb_machine.specs.Fit.{IsCopy, IsEntity, IsHold, IsLeaf, IsListed, IsMessage}
@@ -48,7 +49,8 @@ pub record IsWhole (st : State) : Type 0 where
   pub placed : ArePlaced st.space
   pub seqs : AreSeqs max_number st.space
   pub named : AreNamed st.now st.space
-  pub shown : Each (λ k. IsShown k.reply) st.clients
+  pub ids : AreShort st.space
+  pub kept : Each IsKept st.clients
 
 -- ---- what a consistent state gives
 
@@ -110,8 +112,14 @@ module _ (st : State) (h : IsConsistent st) where
   whole_seqs : AreSeqs max_number s
   whole_seqs = each_implied (IsEntity st.now) (EachLeaf (SeqsIn max_number)) (λ e is. each_leaf (leaf_seqs e.main is.main) (leaf_seqs e.dead is.dead) (leaf_seqs e.transfer is.transfer)) s.entities h.entities
 
+  whole_ids : AreShort s
+  whole_ids = record {
+    sessions = each_implied (IsEntity st.now) (EachLeaf SessionsShort) (λ e is. each_leaf is.main.short_ids is.dead.short_ids is.transfer.short_ids) s.entities h.entities;
+    accepted = each_implied (IsEntity st.now) AcceptedShort (λ e is. is.short_ids) s.entities h.entities;
+  }
+
   pub whole_of : IsWhole st
-  whole_of = let well = starts_well st h in record { orderly = well.orderly; contents = whole_contents; placed = whole_placed; seqs = whole_seqs; named = well.named; shown = h.shown }
+  whole_of = let well = starts_well st h in record { orderly = well.orderly; contents = whole_contents; placed = whole_placed; seqs = whole_seqs; named = well.named; ids = whole_ids; kept = h.kept }
 
 -- ---- and what gives one
 
@@ -148,21 +156,22 @@ module _ (st : State) (w : IsWhole st) where
     copies_fit key sessions cs o.1 m.1 q.1 n.1,
   )
 
-  leaf_fits : (key : LeafKey) (leaf : Leaf) → IsOrderlyLeaf st.now leaf → Each (IsCarried IsStill) leaf.copies → Each (HasSeq max_number) leaf.copies → LooseIn none_exempt st.now key leaf → IsLeaf st.now leaf
-  leaf_fits key leaf o m q n = record { last = o.last; numbers = o.numbers; copies = copies_fit key leaf.sessions leaf.copies o.copies m q n; order = o.order; sessions = o.sessions }
+  leaf_fits : (key : LeafKey) (leaf : Leaf) → IsOrderlyLeaf st.now leaf → Each (IsCarried IsStill) leaf.copies → Each (HasSeq max_number) leaf.copies → LooseIn none_exempt st.now key leaf → Each SessionIsShort leaf.sessions → IsLeaf st.now leaf
+  leaf_fits key leaf o m q n short = record { last = o.last; numbers = o.numbers; copies = copies_fit key leaf.sessions leaf.copies o.copies m q n; order = o.order; short_ids = short; sessions = o.sessions }
 
   entities_fit : (es : List Entity) → Each (IsOrderlyEntity st.now) es → Each (λ e. IsListed e.about) es → Each (EachLeaf (λ part leaf. Each (IsCarried IsStill) leaf.copies)) es → Each (EachLeaf (SeqsIn max_number)) es
-      → Each (λ e. (part : Part) → LooseIn none_exempt st.now (key_of part e) (leaf_of part e)) es → Each (IsEntity st.now) es
-  entities_fit [] o g m q n = tt
-  entities_fit (e ∷ es) o g m q n = (
+      → Each (λ e. (part : Part) → LooseIn none_exempt st.now (key_of part e) (leaf_of part e)) es → Each (EachLeaf SessionsShort) es → Each AcceptedShort es → Each (IsEntity st.now) es
+  entities_fit [] o g m q n i a = tt
+  entities_fit (e ∷ es) o g m q n i a = (
     record {
       about = g.0;
       ids = o.0.ids;
-      main = leaf_fits (key_of Main e) e.main o.0.main (leaf_each (λ part leaf. Each (IsCarried IsStill) leaf.copies) Main e m.0) (leaf_each (SeqsIn max_number) Main e q.0) (n.0 Main);
-      dead = leaf_fits (key_of Dead e) e.dead o.0.dead (leaf_each (λ part leaf. Each (IsCarried IsStill) leaf.copies) Dead e m.0) (leaf_each (SeqsIn max_number) Dead e q.0) (n.0 Dead);
-      transfer = leaf_fits (key_of Transfer e) e.transfer o.0.transfer (leaf_each (λ part leaf. Each (IsCarried IsStill) leaf.copies) Transfer e m.0) (leaf_each (SeqsIn max_number) Transfer e q.0) (n.0 Transfer);
+      short_ids = a.0;
+      main = leaf_fits (key_of Main e) e.main o.0.main (leaf_each (λ part leaf. Each (IsCarried IsStill) leaf.copies) Main e m.0) (leaf_each (SeqsIn max_number) Main e q.0) (n.0 Main) (leaf_each SessionsShort Main e i.0);
+      dead = leaf_fits (key_of Dead e) e.dead o.0.dead (leaf_each (λ part leaf. Each (IsCarried IsStill) leaf.copies) Dead e m.0) (leaf_each (SeqsIn max_number) Dead e q.0) (n.0 Dead) (leaf_each SessionsShort Dead e i.0);
+      transfer = leaf_fits (key_of Transfer e) e.transfer o.0.transfer (leaf_each (λ part leaf. Each (IsCarried IsStill) leaf.copies) Transfer e m.0) (leaf_each (SeqsIn max_number) Transfer e q.0) (n.0 Transfer) (leaf_each SessionsShort Transfer e i.0);
     },
-    entities_fit es o.1 g.1 m.1 q.1 n.1,
+    entities_fit es o.1 g.1 m.1 q.1 n.1 i.1 a.1,
   )
 
   operation_fits : (n : ℕ) (e : Entity) → e.about.number ≡ n → (o : Operation) → OperationSent IsMessage o → IsPlaced e.about.path o → OwnsLock now_in n o → IsOperation now_in e o
@@ -196,7 +205,7 @@ module _ (st : State) (w : IsWhole st) where
     last_lock = o.last_lock;
     last_txn = o.last_txn;
     numbers = o.numbers;
-    entities = entities_fit now_in.entities o.entities w.contents.carries.abouts w.contents.carries.copies w.seqs w.named;
+    entities = entities_fit now_in.entities o.entities w.contents.carries.abouts w.contents.carries.copies w.seqs w.named w.ids.sessions w.ids.accepted;
     paths = o.paths;
     topics = o.topics;
     locks = o.locks;
@@ -207,6 +216,5 @@ module _ (st : State) (w : IsWhole st) where
     queued = o.queued;
     clients = o.clients;
     few_clients = o.few_clients;
-    kept = o.kept;
-    shown = w.shown;
+    kept = w.kept;
   }

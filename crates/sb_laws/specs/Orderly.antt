@@ -1,10 +1,10 @@
 -- The points of consistency that every call keeps, whatever the order of its lists. The others are what messages and filters hold inside,
 -- that a copy under a session's lock names its holder, that first numbers are in range, which copy and address a queued operation names and
--- where it goes, and that a message which a kept reply shows is one that a part may hold.
+-- where it goes, that ids are short, and what is remembered for a client.
 use Rattle.std.specs.Prelude.{◌≡◌, ◌≢◌, ℕ, ◌+◌, ◌++◌, ◌≤◌, ◌<◌, length, sum_by, is_some, true, false, None}
 use Rattle.sb_machine.specs.Answers.{max_moment}
 use Rattle.sb_machine.specs.Changes.{max_number}
-use Rattle.sb_machine.specs.Consistent.{locks_of, queued_locks, holder_locks, IsKept}
+use Rattle.sb_machine.specs.Consistent.{locks_of, queued_locks, holder_locks}
 use Rattle.sb_machine.specs.Delivery.{max_count}
 use Rattle.sb_machine.specs.Each.{Each, Pairs, IsSorted}
 use Rattle.sb_machine.specs.Fields.{bad_in_how}
@@ -82,4 +82,3 @@ pub record IsOrderly (st : State) : Type 0 where
   pub few_open : length st.space.transactions ≤ max_transactions
   pub clients : IsSorted (λ a b. is_before a.client b.client) st.clients
   pub few_clients : length st.clients ≤ max_clients
-  pub kept : Each IsKept st.clients
