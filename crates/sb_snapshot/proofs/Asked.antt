@@ -1,5 +1,5 @@
 -- What a consistent state holds may be written.
-use Rattle.std.proofs.Common.{◌≡◌, ◌≤◌, ◌<◌, ◌^◌, ℕ, List, [], ◌∷◌, ◌++◌, length, map, Bool, true, false, Option, Some, None, refl, sym, ap, subst, ◌∙◌, append_assoc, cond, find, arith}
+use Rattle.std.proofs.Common.{◌≡◌, ◌≤◌, ◌+◌, ℕ, List, [], ◌∷◌, ◌++◌, length, map, Bool, true, false, Option, Some, None, refl, sym, ap, subst, ◌∙◌, append_assoc, cond, find, arith}
 use Rattle.std.specs.Prelude.{IfSome, bytes_eq, nat_lt}
 use Rattle.std.specs.List.{flat_map, sum_by}
 use Rattle.std.specs.Str.{chars}

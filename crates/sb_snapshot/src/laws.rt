@@ -11,8 +11,7 @@ pub fn one_base()
     ensures again { IsWrittenAgain }
 {}
 
-/// A consistent state may be written, where its ids and what is remembered for clients are within
-/// their limits.
+/// A consistent state may be written.
 pub fn consistent_is_written()
     ensures { ConsistentIsWritten }
 {}
