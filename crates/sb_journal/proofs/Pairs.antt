@@ -14,7 +14,7 @@ use Rattle.sb_journal.specs.Choosing.{sided, turned, chosen, is_unshut}
 use Rattle.sb_journal.specs.Opened.{Stands, opened, opened_alone, opened_by, placed, FindsFile, FindsNoneOrAll}
 use Rattle.sb_journal.specs.Crashes.{IsSameFrom, IsShutFile, IsTornGroup, IsShutPair, IsTornPair, MayLeave, MayShut, LeavesOf}
 use Rattle.sb_journal.specs.Moments.{EachMoment, FromSync, IsUnwritten}
-use Rattle.sb_journal.specs.Disks.{Disks, OneDisk, disk_of, disks_of, on_side, opened_on, EachImage, EachPair, KeepsOn, KeepsOne, KeepFound, Finishes, AreHonest, AreStill, AreSynced, AreUnwritten, StaysBehind, AreQuiet, OneFault, HaveFailed, NoneFell, SameHonesty}
+use Rattle.sb_journal.specs.Disks.{Disks, OneDisk, disk_of, disks_of, on_side, opened_on, EachImage, EachPair, KeepsOn, KeepsAside, KeepFound, Finishes, AreHonest, AreStill, AreSynced, AreUnwritten, StaysBehind, AreQuiet, OneFault, HaveFailed, NoneFell, SameHonesty}
 use Rattle.sb_journal.proofs.Adding.{torn_read}
 use Rattle.sb_journal.proofs.Choices.{counts_here, counts_b_made, not_created}
 use Rattle.sb_journal.proofs.Finishing.{kept_leaves}
@@ -268,8 +268,9 @@ kept_aside salt A was later counts kept = kept.1
 kept_aside salt B was later counts kept = kept.0 (λ on_a. let both : Counts B ≡ Counts A = sym counts ∙ on_a in absurd cc)
 
 -- to which nothing was done
-pub keeps_still : (salt : ℕ) (was later : Disks) → AreStill was later → KeepsOne salt was later
-keeps_still salt was later still = (B, inl (still.1.1, still.1.0))
+pub keeps_still : (salt : ℕ) (was later : Disks) → AreStill was later → KeepsAside salt was later
+keeps_still salt was later still A counts = inl (still.1.1, still.1.0)
+keeps_still salt was later still B counts = inl (still.0.1, still.0.0)
 
 -- ---- the disk that counts, at its opening
 

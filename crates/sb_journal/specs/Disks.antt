@@ -7,7 +7,7 @@ use Rattle.sb_journal.specs.declared.found.Side.{Side}
 use Rattle.sb_journal.specs.declared.found.Side.TheVariants.{A, B}
 use Rattle.sb_journal.specs.declared.choosing.Choice.TheVariants.{Counts}
 use Rattle.sb_journal.specs.Framing.{Uncreated, framing, new_length}
-use Rattle.sb_journal.specs.Choosing.{chosen, sided}
+use Rattle.sb_journal.specs.Choosing.{chosen, sided, turned}
 use Rattle.sb_journal.specs.Moments.{EachMoment, FromSync, IsUnwritten}
 use Rattle.sb_journal.specs.Opened.{Opened, opened}
 use Rattle.sb_journal.specs.Crashes.{IsSameFrom, LeavesOf}
@@ -67,9 +67,9 @@ KeepsOn salt side was later =
     FromSync (on_side side was).past (on_side side was).held (on_side side later).past (on_side side later).held
     (LeavesOf salt (chosen was.a.held.seen was.b.held.seen) side (on_side side was).held.seen)
 
--- One of them does.
-abbrev pub KeepsOne : ℕ → (was later : Disks) → Type 0
-KeepsOne salt was later = (side : Side) × KeepsOn salt side was later
+-- The disk beside the one whose file counts does. Where damage is told instead, this says nothing.
+abbrev pub KeepsAside : ℕ → (was later : Disks) → Type 0
+KeepsAside salt was later = (side : Side) → chosen was.a.held.seen was.b.held.seen ≡ Counts side → KeepsOn salt (turned side) was later
 
 -- From its first sync on, each disk leaves what a crash during an opening that found these may leave there: what counts, up to its end
 -- gate, or, where there was no file, none or a new one; beside it all but the first byte. Where a new file is made over somebody else's
