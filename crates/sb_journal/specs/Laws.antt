@@ -1,8 +1,10 @@
 -- Reading and writing files belong together, and what a whole file's bytes are.
-use Rattle.std.specs.Prelude.{◌≡◌, ◌≢◌, ◌≤◌, ◌<◌, ◌^◌, ℕ, List, [], ◌∷◌, ◌++◌, length, false}
+use Rattle.std.specs.Prelude.{◌≡◌, ◌≢◌, ◌≤◌, ◌<◌, ◌^◌, ℕ, List, [], ◌∷◌, ◌++◌, length, take, drop, false}
 use Rattle.sb_journal.specs.Text.{File, new_file, new_bytes, file_text, IsWithin, AreBytes, Spells}
 use Rattle.sb_journal.specs.Framing.{Uncreated, Whole, framing, is_created, new_length}
-use Rattle.sb_journal.specs.Choosing.{is_unshut}
+use Rattle.sb_journal.specs.Choosing.{sided, chosen, is_unshut}
+use Rattle.sb_journal.specs.declared.choosing.Choice.TheVariants.{Counts, Hurt}
+use Rattle.sb_journal.specs.declared.found.Side.{Side}
 use Rattle.sb_journal.specs.Opened.{Stands, Damage, opened, FindsNoneOrAll}
 use Rattle.sb_journal.specs.declared.found.Side.TheVariants.{A, B}
 use Rattle.sb_journal.specs.Crashes.{IsTornPair, LeavesFound}
@@ -53,3 +55,25 @@ GreaterIsFound = (salt : ℕ) (f g : File) (x y : List ℕ) → framing x ≡ Wh
 -- Two of one generation are damage of disk b, at the generation's place.
 abbrev pub SameIsDamage : Type 0
 SameIsDamage = (salt : ℕ) (f g : File) (x y : List ℕ) → framing x ≡ Whole f → framing y ≡ Whole g → f.generation ≡ g.generation → opened x y salt ≡ Damage B 18
+
+-- A file beside which none counts is chosen, on either disk.
+abbrev pub OneIsChosen : Type 0
+OneIsChosen = (side : Side) (f : File) (x y : List ℕ) → framing x ≡ Whole f → is_created y ≡ false → chosen (sided side x y) (sided side y x) ≡ Counts side
+
+-- The first 44 bytes of both disks say which is.
+abbrev pub FrontsChoose : Type 0
+FrontsChoose = (a b : List ℕ) → chosen (take 44 a) (take 44 b) ≡ chosen a b
+
+-- by the heads of new files, one without a base, of another version, and of bytes that may be another file
+abbrev pub ChoiceIsWorked : Type 0
+ChoiceIsWorked =
+    (chosen [] [] ≡ Counts A)
+    × (chosen [] (new_bytes 5 1 1 []) ≡ Counts B)
+    × (chosen (new_bytes 5 1 1 []) [] ≡ Counts A)
+    × (chosen (new_bytes 5 1 1 []) (new_bytes 5 2 7 (1 ∷ 2 ∷ [])) ≡ Counts B)
+    × (chosen (new_bytes 5 3 9 []) (new_bytes 5 2 7 (1 ∷ 2 ∷ [])) ≡ Counts A)
+    × (chosen (new_bytes 5 2 7 []) (new_bytes 6 2 1 []) ≡ Hurt B 18)
+    × (chosen (new_bytes 5 1 1 []) (take 9 (new_bytes 5 1 1 []) ++ 2 ∷ drop 10 (new_bytes 5 1 1 [])) ≡ Hurt B 9)
+    × (chosen [] (0x58 ∷ new_bytes 5 1 1 []) ≡ Hurt B 0)
+    × (chosen (new_bytes 5 1 1 []) (0x58 ∷ new_bytes 5 1 1 []) ≡ Counts A)
+    × (chosen (0x58 ∷ new_bytes 5 1 1 []) (0x58 ∷ new_bytes 5 1 1 []) ≡ Hurt A 0)

@@ -1,5 +1,5 @@
 // What holds of the file format itself. Each law is the contract of a function that does nothing.
-ghost use Rattle.sb_journal.specs.Laws.{ReadsBack, ReadsBackCut, SpellsOnly, NewFileBytes, NewIsFound, OtherIsRefused, GreaterIsFound, SameIsDamage, TornIsFound, TornIsKept};
+ghost use Rattle.sb_journal.specs.Laws.{ReadsBack, ReadsBackCut, SpellsOnly, NewFileBytes, NewIsFound, OtherIsRefused, GreaterIsFound, SameIsDamage, TornIsFound, TornIsKept, OneIsChosen, FrontsChoose, ChoiceIsWorked};
 
 /// A whole file is read back as itself, whatever stands behind its closed end gate, and also where
 /// the end gate is missing behind a record.
@@ -37,4 +37,11 @@ pub fn recovers_from_torn_appends()
 pub fn reads_the_later_file()
     ensures greater { GreaterIsFound }
     ensures same { SameIsDamage }
+{}
+
+/// Which of two disks' files counts is chosen by the begin of each disk alone.
+pub fn chooses_by_the_begin_of_each()
+    ensures one { OneIsChosen }
+    ensures fronts { FrontsChoose }
+    ensures worked { ChoiceIsWorked }
 {}
