@@ -155,13 +155,15 @@ pub none_staged : {D : Type 0} {B : Ghosts D} (j : Journal D B) (file : File) (s
 none_staged j file [] holds none = subst (λ (f : File). HoldsFile j f) (sym (with_none file)) holds
 none_staged j file (p ∷ ps) holds none = absurd (omega (arith, holds.count, none))
 
-pub sealed : {D : Type 0} {B : Ghosts D} (j : Journal D B) (file : File) → IsTrue (B.honest j.current) → IsTrue (B.honest j.other) → j.failed ≡ false → Rests (B.held j.current) j.end j.next file → IsAside (B.held j.other)
+pub sealed : {D : Type 0} {B : Ghosts D} (j : Journal D B) (file : File) → IsTrue (B.honest j.current) → IsTrue (B.honest j.other) → j.failed ≡ false → j.salt ≡ file.salt → j.generation ≡ file.generation → Rests (B.held j.current) j.end j.next file → IsAside (B.held j.other)
     → j.written ≡ 0 → j.count ≡ 0 → j.buffer.items ≡ [] → HoldsFile j file
-sealed {D} {B} j file on_current on_other running rests aside written count kept =
+sealed {D} {B} j file on_current on_other running salt generation rests aside written count kept =
     let stages = rests_stage (B.held j.current) j.end j.next file rests in
     record {
       honest = honest_both B j.side j.current j.other on_current on_other;
       running = running;
+      salt_is = salt;
+      generation_is = generation;
       written = [];
       stages = stages;
       long = sym written;

@@ -8,7 +8,7 @@ use Rattle.sb_journal.proofs.Heads.{length-file_text}
 use Rattle.sb_journal.proofs.Images.{written_at}
 
 -- a write from a place to the end or past it
-overwritten_end : (front back bytes : List ℕ) (place : ℕ) → place ≡ length front → length back ≤ length bytes → overwritten (front ++ back) place bytes ≡ front ++ bytes
+pub overwritten_end : (front back bytes : List ℕ) (place : ℕ) → place ≡ length front → length back ≤ length bytes → overwritten (front ++ back) place bytes ≡ front ++ bytes
 overwritten_end front back bytes place at over =
     ap (λ (l : List ℕ). l ++ bytes ++ drop (place + length bytes) (front ++ back)) (take_at front back place (sym at))
     ∙ ap (λ (l : List ℕ). front ++ bytes ++ l) (drop_all (place + length bytes) (front ++ back) (omega (arith, at, length-append front back)))

@@ -9,7 +9,7 @@ use Rattle.sb_journal.specs.declared.choosing.Choice.TheVariants.{Counts, Hurt}
 use Rattle.sb_journal.specs.declared.found.Side.{Side}
 use Rattle.sb_journal.specs.declared.found.Side.TheVariants.{A, B}
 use Rattle.sb_journal.specs.Text.{File, with_payloads}
-use Rattle.sb_journal.specs.Framing.{Framing, Uncreated, Occupied, Whole, Damaged, framing}
+use Rattle.sb_journal.specs.Framing.{Framing, Uncreated, Occupied, Whole, Damaged, framing, is_created}
 use Rattle.sb_journal.specs.Choosing.{sided, turned, chosen, is_unshut}
 use Rattle.sb_journal.specs.Opened.{Stands, opened, opened_alone, opened_by, placed, FindsFile, FindsNoneOrAll}
 use Rattle.sb_journal.specs.Crashes.{IsSameFrom, IsShutFile, IsTornGroup, IsShutPair, IsTornPair, MayLeave, MayShut, LeavesOf}
@@ -63,13 +63,17 @@ on_both P B x y on_x on_y = on_y
 pub opened_counts : (salt : ℕ) (a b : List ℕ) (side : Side) → chosen a b ≡ Counts side → opened a b salt ≡ placed side (opened_alone salt (framing (sided side a b)))
 opened_counts salt a b side counts = ap (opened_by salt a b) counts
 
-pub finds_here : (f : File) (side : Side) (x y : List ℕ) → framing x ≡ Whole f → is_unshut y ≡ false → FindsFile f (sided side x y) (sided side y x)
-finds_here f side x y whole shut salt = (
+-- beside no file
+pub finds_beside : (f : File) (side : Side) (x y : List ℕ) → framing x ≡ Whole f → is_created y ≡ false → FindsFile f (sided side x y) (sided side y x)
+finds_beside f side x y whole isnt salt = (
   side,
-  opened_counts salt (sided side x y) (sided side y x) side (counts_here side f.generation x y (headed_whole x f whole) (not_created y shut))
+  opened_counts salt (sided side x y) (sided side y x) side (counts_here side f.generation x y (headed_whole x f whole) isnt)
       ∙ ap (λ (l : List ℕ). placed side (opened_alone salt (framing l))) (sided_twice side x y)
       ∙ ap (λ (r : Framing). placed side (opened_alone salt r)) whole,
 )
+
+pub finds_here : (f : File) (side : Side) (x y : List ℕ) → framing x ≡ Whole f → is_unshut y ≡ false → FindsFile f (sided side x y) (sided side y x)
+finds_here f side x y whole shut = finds_beside f side x y whole (not_created y shut)
 
 shut_here : (f : File) (side : Side) (x y : List ℕ) → IsShutFile f x → is_unshut y ≡ false → IsShutPair f (sided side x y) (sided side y x)
 shut_here f A x y stands shut = inl (stands, shut)

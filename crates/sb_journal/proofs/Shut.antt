@@ -17,7 +17,7 @@ length-closed bytes = omega (arith, length-drop 1 bytes)
 closed_none : (most : ℕ) (image : List ℕ) → slice_index image 0 ≢ 1 → length image ≤ most → HasNoFile most image
 closed_none most image shut short = record { none = test_closed image shut; short = short }
 
-shut_image : (most : ℕ) (h : Held) (image : List ℕ) → IsShut most h → IsImage h image → HasNoFile most image
+pub shut_image : (most : ℕ) (h : Held) (image : List ℕ) → IsShut most h → IsImage h image → HasNoFile most image
 shut_image most h image shut left =
     let some = shut.some in
     let zero : slice_index image 0 ≡ 0 = left.same 0 (omega (arith, left.no_shorter)) (omega (arith, shut.kept)) shut.free ∙ shut.gate in
@@ -29,7 +29,7 @@ shut-rest most bytes some gate short = record { some = some; kept = some; gate =
 shut-cut : (most : ℕ) (h : Held) (n : ℕ) (seen : List ℕ) → IsShut most h → 1 ≤ n → IsShut most (shortened h n seen)
 shut-cut most h n seen shut low = record { some = omega (arith, shut.some); kept = shut.kept; gate = shut.gate; free = shut.free; short = shut.short }
 
-shut-write : (most : ℕ) (h : Held) (place n : ℕ) (seen : List ℕ) → IsShut most h → 1 ≤ place → place + n ≤ most → IsShut most (touched h place n seen)
+pub shut-write : (most : ℕ) (h : Held) (place n : ℕ) (seen : List ℕ) → IsShut most h → 1 ≤ place → place + n ≤ most → IsShut most (touched h place n seen)
 shut-write most h place n seen shut low fits = record { some = shut.some; kept = shut.kept; gate = shut.gate; free = let free = shut.free in grind (arith, nat_tests); short = omega (arith, shut.short, fits) }
 
 -- the gate is closed over bytes that are old

@@ -10,7 +10,7 @@ use Rattle.sb_journal.proofs.Images.{rest_image, one_place}
 use Rattle.sb_journal.proofs.Wholes.{test_closed}
 
 -- what begins with 00 is shut
-shut_none : (bytes : List ℕ) → slice_index bytes 0 ≡ 0 → is_unshut bytes ≡ false
+pub shut_none : (bytes : List ℕ) → slice_index bytes 0 ≡ 0 → is_unshut bytes ≡ false
 shut_none bytes zero =
     let not_one : slice_index bytes 0 ≡ 1 → ⊥ = λ one. let both : 0 ≡ 1 = sym zero ∙ one in omega (arith, both) in
     ap (λ (b : Bool). b || nat_lt 1 (slice_index bytes 0)) (test_closed bytes not_one) ∙ ap (λ n. nat_lt 1 n) zero

@@ -290,6 +290,11 @@ test_short bytes short = grind (arith, nat_tests)
 pub test_closed : (bytes : List ℕ) → slice_index bytes 0 ≢ 1 → is_created bytes ≡ false
 test_closed bytes shut = grind (arith, nat_tests)
 
+-- a whole file is created
+pub whole_created : (bytes : List ℕ) (f : File) → framing bytes ≡ Whole f → is_created bytes ≡ true
+unfolding framing
+whole_created bytes f e = (where_created bytes (is_created bytes) (sound_or_damaged bytes (head_fault bytes)) f e).0
+
 -- where a whole file is read, its generation is what the head says
 pub headed_whole : (bytes : List ℕ) (f : File) → framing bytes ≡ Whole f → headed bytes ≡ Generation f.generation
 unfolding framing headed

@@ -71,6 +71,15 @@ pub record IsShut (most : ℕ) (held : Held) : Type 0 where
   pub free : is_written 0 held.ranges ≡ false
   pub short : held.greatest ≤ most
 
+-- Behind a closed gate stands this text; no crash now opens the gate.
+pub record IsFilled (held : Held) (text : List ℕ) : Type 0 where
+  pub seen_is : held.seen ≡ 0 ∷ text
+  pub shut : IsShut held.greatest held
+
+-- nothing counts here, nor is anything to be shut; or this text stands behind any gate
+abbrev pub IsShutOrGated : List ℕ → (bytes : List ℕ) → Type 0
+IsShutOrGated text bytes = (is_unshut bytes ≡ false) ⊎ ((gate : ℕ) × (bytes ≡ gate ∷ text))
+
 -- The file's end gate was missing, or neither open nor closed: any bytes may stand from there on.
 pub record IsTornEnd (file : File) (seen bytes : List ℕ) : Type 0 where
   pub rest : List ℕ

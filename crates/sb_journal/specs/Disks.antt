@@ -57,6 +57,10 @@ EachImage disks P = (x y : List ℕ) → IsImage disks.a.held x → IsImage disk
 abbrev pub EachPair : (was later : Disks) → (List ℕ → List ℕ → Type 0) → Type 0
 EachPair was later P = EachMoment was.a.past later.a.past later.a.held (λ x. EachMoment was.b.past later.b.past later.b.held (λ y. P x y))
 
+-- The same in two stretches: each two images of the first, and each two of the second.
+abbrev pub EachStretch : (was later : Disks) → (List ℕ → List ℕ → Type 0) → Type 0
+EachStretch was later P = (mid : Disks) × EachPair was mid P × EachPair mid later P
+
 -- What stands on disk a where a new file is made is shorter than one, or begins with 00 or 01: it can't be somebody else's.
 abbrev pub AreOurs : Disks → Type 0
 AreOurs disks = chosen disks.a.held.seen disks.b.held.seen ≡ Counts A → framing disks.a.held.seen ≡ Uncreated → new_length ≤ length disks.a.held.seen → slice_index disks.a.held.seen 0 ≤ 1

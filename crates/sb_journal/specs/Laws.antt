@@ -1,5 +1,5 @@
 -- Reading and writing files belong together, and what a whole file's bytes are.
-use Rattle.std.specs.Prelude.{◌≡◌, ◌≢◌, ◌≤◌, ◌<◌, ◌^◌, ℕ, List, [], ◌∷◌, ◌++◌, length, take, drop, false}
+use Rattle.std.specs.Prelude.{◌≡◌, ◌≢◌, ◌≤◌, ◌<◌, ◌^◌, ℕ, List, [], ◌∷◌, ◌++◌, length, replicate, take, drop, false}
 use Rattle.sb_journal.specs.Text.{File, new_file, new_bytes, file_text, IsWithin, AreBytes, Spells}
 use Rattle.sb_journal.specs.Framing.{Uncreated, Whole, framing, is_created, new_length}
 use Rattle.sb_journal.specs.Choosing.{sided, chosen, is_unshut}
@@ -30,6 +30,18 @@ NewFileBytes = new_bytes 11651590505119483672 1 1 []
     ∷ 0 ∷ 0 ∷ 0 ∷ 0 ∷ 0 ∷ 0 ∷ 0 ∷ 1
     ∷ 0 ∷ 0 ∷ 0 ∷ 0 ∷ 0 ∷ 0 ∷ 0 ∷ 0
     ∷ 0 ∷ []
+
+-- A file of generation 2 and first number 1 with a base of 80 bytes 00, which has 123 bytes.
+abbrev pub NextFileBytes : Type 0
+NextFileBytes =
+    (new_bytes 11651590505119483672 2 1 (replicate 80 0)
+    ≡ 1 ∷ 0x53 ∷ 0x42 ∷ 0x4e ∷ 0x53 ∷ 0x4a ∷ 0x52 ∷ 0x4e ∷ 0x4c ∷ 1
+    ∷ 0xa1 ∷ 0xb2 ∷ 0xc3 ∷ 0xd4 ∷ 0xe5 ∷ 0xf6 ∷ 0x07 ∷ 0x18
+    ∷ 0 ∷ 0 ∷ 0 ∷ 0 ∷ 0 ∷ 0 ∷ 0 ∷ 2
+    ∷ 0 ∷ 0 ∷ 0 ∷ 0 ∷ 0 ∷ 0 ∷ 0 ∷ 1
+    ∷ 0 ∷ 0 ∷ 0 ∷ 0 ∷ 0 ∷ 0 ∷ 0 ∷ 0x50
+    ∷ replicate 81 0)
+    × (length (new_bytes 11651590505119483672 2 1 (replicate 80 0)) ≡ 123)
 
 -- what a crash left while records were added is found as the file with all of them or with none
 abbrev pub TornIsFound : Type 0

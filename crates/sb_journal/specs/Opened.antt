@@ -63,6 +63,10 @@ FindsNoneOrAll file payloads a b = FindsFile file a b ⊎ FindsFile (with_payloa
 abbrev pub FindsEither : File → List ℕ → (a b : List ℕ) → Type 0
 FindsEither file payload a b = FindsNoneOrAll file (payload ∷ []) a b
 
+-- it finds the file, or the one that goes on from it
+abbrev pub FindsOldOrNext : (file next : File) → (a b : List ℕ) → Type 0
+FindsOldOrNext file next a b = FindsFile file a b ⊎ FindsFile next a b
+
 -- the file that was found
 abbrev pub found_file : Found → File
 found_file found = record { salt = found.salt; generation = found.generation; first = found.first; base = found.base; payloads = found.payloads.items }

@@ -21,7 +21,7 @@ pub(crate) struct Based<J> {
 }
 
 // At most so many of these bytes.
-fn up_to(bytes: &[u8], most: usize) -> &[u8]
+pub(crate) fn up_to(bytes: &[u8], most: usize) -> &[u8]
     ensures { result.now ≡ take (min most (length bytes.now)) bytes.now }
 {
     &bytes[..most.min(bytes.len())]

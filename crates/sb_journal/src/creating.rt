@@ -12,7 +12,7 @@ use crate::reading::VERSION;
 use sb_outside::{Disk, DiskFault};
 
 // The bytes from behind the file's gate to the base, and a closed gate.
-fn head_bytes(salt: u64, generation: u64, first: u64, base_length: u64) -> [u8; 42]
+pub(crate) fn head_bytes(salt: u64, generation: u64, first: u64, base_length: u64) -> [u8; 42]
     ensures { result ≡ head salt generation first base_length ++ 0 ∷ [] }
 {
     let s = salt.to_be_bytes();
@@ -40,7 +40,7 @@ fn has_closed_gate<D: Disk>(disk: &mut D) -> Result<bool, DiskFault>
 }
 
 // Makes sure that the file's gate is closed, unless it is.
-fn close_file<D: Disk>(disk: &mut D) -> Result<(), DiskFault>
+pub(crate) fn close_file<D: Disk>(disk: &mut D) -> Result<(), DiskFault>
     ensures honesty { D.honest disk.new ≡ D.honest disk.old }
     ensures ok { IsTrue (D.honest disk.old) → OnOk result (take 1 (D.held disk.new).seen ≡ 0 ∷ []) }
     ensures rest { IsTrue (D.honest disk.old) → D.held disk.old ≡ at_rest (D.held disk.old).seen → OnOk result (D.held disk.new ≡ at_rest (D.held disk.new).seen) }

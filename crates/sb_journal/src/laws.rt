@@ -1,5 +1,5 @@
 // What holds of the file format itself. Each law is the contract of a function that does nothing.
-ghost use Rattle.sb_journal.specs.Laws.{ReadsBack, ReadsBackCut, SpellsOnly, NewFileBytes, NewIsFound, OtherIsRefused, GreaterIsFound, SameIsDamage, TornIsFound, TornIsKept, OneIsChosen, FrontsChoose, ChoiceIsWorked};
+ghost use Rattle.sb_journal.specs.Laws.{ReadsBack, ReadsBackCut, SpellsOnly, NewFileBytes, NextFileBytes, NewIsFound, OtherIsRefused, GreaterIsFound, SameIsDamage, TornIsFound, TornIsKept, OneIsChosen, FrontsChoose, ChoiceIsWorked};
 
 /// A whole file is read back as itself, whatever stands behind its closed end gate, and also where
 /// the end gate is missing behind a record.
@@ -13,9 +13,10 @@ pub fn spells_only()
     ensures { SpellsOnly }
 {}
 
-/// The bytes of a new file.
+/// The bytes of a new file, and of one that goes on with a base.
 pub fn new_file_bytes()
-    ensures { NewFileBytes }
+    ensures first { NewFileBytes }
+    ensures next { NextFileBytes }
 {}
 
 /// No file is made over what may be one, nor beside it: where no file was made, bytes are damage at 0 that

@@ -36,6 +36,7 @@ mod opening;
 mod picking;
 mod piece;
 mod reading;
+mod rotating;
 mod unopened;
 
 pub use collecting::Collecting;
@@ -44,5 +45,6 @@ pub use found::{Found, OpenFault, OpenWhy, Side};
 pub use journal::Journal;
 pub use judge::{Judge, Judged};
 pub use looking::{look, look_by};
+pub use rotating::NextFile;
 pub use sb_outside::Bytes;
 pub use unopened::Unopened;

@@ -26,7 +26,7 @@ pub(crate) const NEW_FILE_BYTES: usize = HEAD_BYTES + 1;
 pub(crate) const MAX_PAYLOAD: usize = 1_048_576;
 
 // A generation and a first number are 1 to this.
-const MAX_COUNT: u64 = 1 << 62;
+pub(crate) const MAX_COUNT: u64 = 1 << 62;
 
 const MAGIC: [u8; 8] = *b"SBNSJRNL";
 

@@ -29,6 +29,8 @@ returns-clause-ok g c file staged holds =
     record {
       honest = there.honest;
       running = there.running;
+      salt_is = there.salt_is;
+      generation_is = there.generation_is;
       written = there.written;
       stages = there.stages;
       long = there.long;

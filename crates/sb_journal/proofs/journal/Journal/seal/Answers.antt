@@ -103,7 +103,7 @@ returns-clause-ok g c file staged holds =
     (subst (λ ss. holds.written ++ frames ≡ framed_all j.next ss ++ 0 ∷ []) is all) (subst (λ ss. IsWithin (with_payloads file ss)) is holds.within)) in
     let end_is : j.end + j.written + length frames ≡ j.end + (j.written + c.len.result) = omega (arith, ap length c.deref.ensures.value) in
     let next_is : j.next + length staged ≡ j.next + j.count = ap (λ n. j.next + n) holds.count in
-    sealed _ (with_payloads file staged) (subst IsTrue (sym c.seal_frames.ensures.honesty) (staged_honest j file staged holds).0) (staged_honest j file staged holds).1 holds.running
+    sealed _ (with_payloads file staged) (subst IsTrue (sym c.seal_frames.ensures.honesty) (staged_honest j file staged holds).0) (staged_honest j file staged holds).1 holds.running holds.salt_is holds.generation_is
     (rests_as _ _ _ _ _ (with_payloads file staged) end_is next_is rests) holds.aside refl refl c.clear.ensures.items
 
 pub returns-clause-quiet : goal.returns-clause-quiet

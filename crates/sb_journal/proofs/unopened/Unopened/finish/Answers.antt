@@ -12,7 +12,7 @@ returns-clause-ok g c side file honest stands =
     let u = c.args.self in
     let were = honest_sides g.D.Disk u.side u.current u.other honest in
     let alone = stands_current g.D.Disk u.salt u.side u.current u.other side file (u.counts were.0 were.1) stands in
-    c.started.ensures.holds file (subst IsTrue (sym c.make_ready.ensures.honesty) were.0) (subst IsTrue (sym c.shut_aside.ensures.honesty) were.1) (c.in-Ok.ensures.ok file were.0 alone) (c.in-Ok-shut_aside.ensures.ok were.1 (u.rests were.1) (u.known were.0 were.1))
+    c.started.ensures.holds file (subst IsTrue (sym c.make_ready.ensures.honesty) were.0) (subst IsTrue (sym c.shut_aside.ensures.honesty) were.1) (c.in-Ok.ensures.ok file were.0 alone) (u.named _ file were.0 alone).0 (u.named _ file were.0 alone).1 (c.in-Ok-shut_aside.ensures.ok were.1 (u.rests were.1) (u.known were.0 were.1))
 
 pub returns-clause-any_moment : goal.returns-clause-any_moment
 returns-clause-any_moment g c side file honest stands =
