@@ -6,7 +6,8 @@ usage: numbered_sends.py PORT QUEUE PLACE < LINES
 Line N is call number N of the client PLACE, of which the server remembers the last number with its
 reply. So a call whose reply was lost is made again and acts once; and after a crash the same lines are
 given again from the first on, and what was sent is passed over. PLACE names where the lines come from,
-as a till or a file, and not the process that sends them; each place has a name of its own.
+as the file of a till, and not the process that sends them; each has a name of its own. New lines of a
+place stand behind those that it has sent already: other lines in their stead would be passed over.
 """
 import http.client
 import json
@@ -45,7 +46,7 @@ def main():
     if len(sys.argv) != 4:
         sys.exit(__doc__)
     port, queue, place = int(sys.argv[1]), sys.argv[2], sys.argv[3]
-    sent, last = 0, 0
+    sent, last, number = 0, 0, 0
     for number, line in enumerate(sys.stdin, 1):
         if number < last:
             continue
@@ -59,6 +60,8 @@ def main():
         elif reply["ok"] == "sent":
             sent += 1
     print(f"{sent} sent")
+    if number < last:
+        sys.exit(f"{place} has sent {last} lines already, and here are {number}: new lines stand behind those")
 
 
 if __name__ == "__main__":
