@@ -31,9 +31,11 @@ async function carryOut(text) {
   await pause(order.seconds * 1000)
 }
 
+// Whether it was settled so: a message whose lock was lost isn't.
 async function settle(method, location) {
   const response = await fetch(location, { method })
   if (!response.ok) console.error(`${method} ${location}: ${response.status} ${await response.text()}`)
+  return response.ok
 }
 
 async function bury({ SequenceNumber: seq, LockToken: token }, description) {
@@ -45,20 +47,19 @@ async function bury({ SequenceNumber: seq, LockToken: token }, description) {
 
 async function work(response) {
   const location = response.headers.get('location')
+  const order = await response.text()
   const properties = JSON.parse(response.headers.get('brokerproperties'))
   const half = (Date.parse(properties.LockedUntilUtc) - Date.now()) / 2
   const renew = () => settle('POST', location).catch((fault) => console.error(`renew: ${fault.message}`))
   const renewal = setInterval(renew, Math.max(half, 500))
   try {
-    await carryOut(await response.text())
-    await settle('DELETE', location)
-    console.log(`${properties.SequenceNumber} done`)
+    await carryOut(order).finally(() => clearInterval(renewal))
+    const completed = await settle('DELETE', location)
+    console.log(`${properties.SequenceNumber} ${completed ? 'done' : 'is done, but not completed: it may come again'}`)
   } catch (fault) {
     if (fault instanceof BadOrder) await bury(properties, fault.message)
     else await settle('PUT', location)
     console.log(`${properties.SequenceNumber} ${fault instanceof BadOrder ? 'is no order' : 'is put back'}: ${fault.message}`)
-  } finally {
-    clearInterval(renewal)
   }
 }
 
