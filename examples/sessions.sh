@@ -3,8 +3,8 @@
 # the order in which they were sent, and has each session remember how many messages it had.
 # usage: sessions.sh PORT QUEUE
 # The queue is one with "requires_session":true; each message names its session in SessionId. Several of these may run at
-# once: a session has one holder at a time. What a run that dies held comes back once its lock has ended. Where the work on
-# a message takes longer than the lock, it calls session-renew meanwhile.
+# once: a session has one holder at a time. What a run that dies held comes back once its lock has ended. No receive renews
+# a session's lock, so it's renewed before each message; where the work on one takes longer, meanwhile too.
 if [ $# -ne 2 ]; then
     echo "usage: sessions.sh PORT QUEUE" >&2
     exit 2
@@ -31,7 +31,7 @@ while ask "{\"do\":\"accept\",\"from\":\"$queue\"}" && [ "$reply" != '{"ok":"emp
     ask "{\"do\":\"session-state\",$held}"
     had=$(value state)
     [ "$had" = null ] && had=0
-    while ask "{\"do\":\"receive\",$held}" && [ "$reply" != '{"ok":"empty"}' ]; do
+    while ask "{\"do\":\"session-renew\",$held}" && ask "{\"do\":\"receive\",$held}" && [ "$reply" != '{"ok":"empty"}' ]; do
         echo "$id $(echo "$reply" | sed -n 's/.*"body":\(".*"\),"delivery":.*/\1/p')"
         ask "{\"do\":\"complete\",$held,\"seq\":$(value seq),\"token\":\"$(value token)\"}"
         had=$((had + 1))
