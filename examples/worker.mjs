@@ -51,7 +51,7 @@ async function work(response) {
   const properties = JSON.parse(response.headers.get('brokerproperties'))
   const half = (Date.parse(properties.LockedUntilUtc) - Date.now()) / 2
   const renew = () => settle('POST', location).catch((fault) => console.error(`renew: ${fault.message}`))
-  const renewal = setInterval(renew, Math.max(half, 500))
+  const renewal = setInterval(renew, Math.min(Math.max(half, 500), 150_000)) // a lock lives 300 s at the most
   try {
     await carryOut(order).finally(() => clearInterval(renewal))
     const completed = await settle('DELETE', location)
