@@ -258,7 +258,7 @@ fn attend<V: Served, R: Wait, C: Clock, N: Conn>(
             (pass, None, again)
         }
         Went::Blocked => {
-            rest_asking(&mut guest.inbox, &guest.doing);
+            rest_blocked(&mut guest.inbox, &guest.doing);
             let again = asks_at(clock, desk, &guest.doing).min(until);
             (pass, None, again)
         }
@@ -292,14 +292,17 @@ fn rested_at(from: u64) -> u64 {
         .saturating_mul(RESTS_EACH_MS)
 }
 
-// A connection whose call waits gives its reader's memory back once the call has waited so long.
-fn rest_asking(inbox: &mut Inbox, doing: &Doing)
+// A connection whose call waits gives its reader's memory back once the call has waited so long, and one that
+// has no memory to tell an answer at once: that memory is enough for most answers.
+fn rest_blocked(inbox: &mut Inbox, doing: &Doing)
     ensures { (left : Option (List ℕ)) → stand_of inbox.new left ≡ stand_of inbox.old left }
 {
-    let Doing::Asks(patience) = doing else {
-        return;
+    let rests = match doing {
+        Doing::Asks(patience) => patience.asked_ms.saturating_sub(patience.first_ms) >= RESTS_MS,
+        Doing::Says(_, _, _) | Doing::Tells(_) => true,
+        Doing::Reads | Doing::Calls(_) | Doing::Writes(_) => false,
     };
-    if patience.asked_ms.saturating_sub(patience.first_ms) >= RESTS_MS {
+    if rests {
         inbox.give_back();
     }
 }

@@ -31,7 +31,7 @@ returns-in-Blocked-clause-goes g c = λ s same limits since i.
     let n : Here = here_of g.N.Conn.left g.N.Conn.given g.N.Conn.reads g.N.Conn.writes c.step-pass.result.0 new in
     let next : IsNext (g.C.Clock.reads c.args.clock.now) s n c.look-went.result.0 c.step-pass.new.doing = c.look-went.ensures.next s n limits refl since (c.step-pass.ensures.steps s same i) in
     let here = subst (λ (w : Went). IsNext (g.C.Clock.reads c.args.clock.now) s n w c.step-pass.new.doing) c.in-Blocked.is next in
-    subst (λ (stand : Stand). IsDoing (g.C.Clock.reads c.args.clock.now) s (record n { stand = stand }) c.step-pass.new.doing) (sym (c.rest_asking.ensures (g.N.Conn.left c.step-pass.new.conn))) here
+    subst (λ (stand : Stand). IsDoing (g.C.Clock.reads c.args.clock.now) s (record n { stand = stand }) c.step-pass.new.doing) (sym (c.rest_blocked.ensures (g.N.Conn.left c.step-pass.new.conn))) here
 
 pub returns-in-Over-clause-goes : goal.returns-in-Over-clause-goes
 returns-in-Over-clause-goes g c = λ s same limits since i.
