@@ -9,23 +9,22 @@ use Rattle.sb_journal.specs.declared.found.Side.{Side}
 use Rattle.sb_journal.specs.declared.found.Side.TheVariants.{A, B as Other}
 use Rattle.sb_journal.specs.declared.journal.Journal.{Journal}
 use Rattle.sb_journal.specs.declared.rotating.NextFile.{NextFile}
-use Rattle.sb_journal.specs.Text.{File, head, file_text, new_file, new_bytes, next_file}
+use Rattle.sb_journal.specs.Text.{File, IsWithin, head, file_text, new_file, new_bytes, next_file}
 use Rattle.sb_journal.specs.Framing.{Whole, framing, is_created}
 use Rattle.sb_journal.specs.Choosing.{sided, turned, is_unshut}
 use Rattle.sb_journal.specs.Opened.{FindsFile, FindsOldOrNext}
-use Rattle.sb_journal.specs.Crashes.{Rests, IsShutOrGated, MayShut}
+use Rattle.sb_journal.specs.Turned.{behind_gate}
+use Rattle.sb_journal.specs.Crashes.{IsShutFile, Rests, IsShutOrGated, MayShut}
 use Rattle.sb_journal.specs.Moments.{EachMoment}
-use Rattle.sb_journal.specs.Disks.{on_side, EachImage, EachPair, EachStretch, OneFault}
+use Rattle.sb_journal.specs.Disks.{on_side, EachPair, OneFault}
 use Rattle.sb_journal.specs.Journals.{base_left, HoldsFile, HoldsNext}
-use Rattle.sb_journal.proofs.Adding.{rests_read}
 use Rattle.sb_journal.proofs.Filling.{IsNone}
 use Rattle.sb_journal.proofs.Foreign.{greater_found}
 use Rattle.sb_journal.proofs.Heads.{new_rests, length-head}
-use Rattle.sb_journal.proofs.Images.{rest_image}
 use Rattle.sb_journal.proofs.Making.{opened_text}
 use Rattle.sb_journal.proofs.Moments.{started, weaker_moments}
-use Rattle.sb_journal.proofs.Pairs.{both, pair_here, finds_beside, finds_here, started_pair}
-use Rattle.sb_journal.proofs.Staging.{stages_leave, stages_read}
+use Rattle.sb_journal.proofs.Pairs.{both, finds_beside, finds_here}
+use Rattle.sb_journal.proofs.Staging.{shut_of, stages_keep, stages_leave, stages_read}
 use Rattle.sb_journal.proofs.Wholes.{test_closed, whole_created}
 
 -- ---- which file is found
@@ -38,12 +37,12 @@ beside_turned : (g : File) (side : Side) (x y : List ℕ) → framing y ≡ Whol
 beside_turned g A x y on_y isnt = finds_beside g Other y x on_y isnt
 beside_turned g Other x y on_y isnt = finds_beside g A y x on_y isnt
 
-gate_shut : (gate : ℕ) (bytes rest : List ℕ) → bytes ≡ gate ∷ rest → (gate ≡ 1 → ⊥) → is_created bytes ≡ false
+pub gate_shut : (gate : ℕ) (bytes rest : List ℕ) → bytes ≡ gate ∷ rest → (gate ≡ 1 → ⊥) → is_created bytes ≡ false
 gate_shut gate bytes rest is off = test_closed bytes (λ one. off (sym (ap (λ (l : List ℕ). slice_index l 0) is) ∙ one))
 
 module _ (f g : File) (side : Side) (low : f.generation < g.generation) (all : List ℕ) (whole_g : framing (1 ∷ all) ≡ Whole g) where
   -- the new one's gate is being opened
-  opening : (x y : List ℕ) → framing x ≡ Whole f → IsShutOrGated all y → FindsOldOrNext f g (sided side x y) (sided side y x)
+  pub opening : (x y : List ℕ) → framing x ≡ Whole f → IsShutOrGated all y → FindsOldOrNext f g (sided side x y) (sided side y x)
   opening x y whole (inl shut) = inl (finds_here f side x y whole shut)
   opening x y whole (inr gated) = elim (cases_eq gated.0 1) [
     | inl one ↦ inr (next_found f g side x y whole (ap framing (gated.1 ∙ ap (λ n. n ∷ all) one) ∙ whole_g) low)
@@ -51,7 +50,7 @@ module _ (f g : File) (side : Side) (low : f.generation < g.generation) (all : L
   ]
 
   -- the old one's gate is being closed
-  closing : (seen x y : List ℕ) → framing seen ≡ Whole f → 1 ∷ drop 1 seen ≡ seen → MayShut seen x → y ≡ 1 ∷ all → FindsOldOrNext f g (sided side x y) (sided side y x)
+  pub closing : (seen x y : List ℕ) → framing seen ≡ Whole f → 1 ∷ drop 1 seen ≡ seen → MayShut seen x → y ≡ 1 ∷ all → FindsOldOrNext f g (sided side x y) (sided side y x)
   closing seen x y whole first (inl same) is = inr (next_found f g side x y (ap framing same ∙ whole) (ap framing is ∙ whole_g) low)
   closing seen x y whole first (inr shut) is = elim (cases_eq shut.1 1) [
     | inl one ↦ inr (next_found f g side x y (ap framing (shut.2 ∙ ap (λ n. n ∷ drop 1 seen) one ∙ first) ∙ whole) (ap framing is ∙ whole_g) low)
@@ -86,7 +85,7 @@ module _ {D : Type 0} (G : Ghosts D) where
   current_fault_of Other c o c1 o1 rose same = inr (refl, rose, same)
 
   -- what is said of the other at each moment is said of both
-  pair_other : (side : Side) (c o0 o1 : D) (Q : List ℕ → Type 0) (P : List ℕ → List ℕ → Type 0) → ((x y : List ℕ) → IsImage (G.held c) x → Q y → P (sided side x y) (sided side y x))
+  pub pair_other : (side : Side) (c o0 o1 : D) (Q : List ℕ → Type 0) (P : List ℕ → List ℕ → Type 0) → ((x y : List ℕ) → IsImage (G.held c) x → Q y → P (sided side x y) (sided side y x))
       → EachMoment (G.past o0) (G.past o1) (G.held o1) Q → EachPair (both G side c o0) (both G side c o1) P
   pair_other A c o0 o1 Q P joined run =
       started (G.past c) (G.held c) (λ x. EachMoment (G.past o0) (G.past o1) (G.held o1) (λ y. P x y))
@@ -99,35 +98,14 @@ module _ {D : Type 0} (G : Ghosts D) where
   pub filling_pair : (side : Side) (c o0 o1 : D) (f : File) → ((x : List ℕ) → IsImage (G.held c) x → framing x ≡ Whole f) → EachMoment (G.past o0) (G.past o1) (G.held o1) IsNone → EachPair (both G side c o0) (both G side c o1) (FindsFile f)
   filling_pair side c o0 o1 f leaves run = pair_other side c o0 o1 IsNone (FindsFile f) (λ x y left isnt. finds_beside f side x y (leaves x left) isnt) run
 
-  module _ (side : Side) (c o0 o1 : D) (f g : File) (low : f.generation < g.generation) (all : List ℕ) (whole_g : framing (1 ∷ all) ≡ Whole g) (leaves : (x : List ℕ) → IsImage (G.held c) x → framing x ≡ Whole f)
-      (found : EachImage (both G side c o0) (FindsFile f)) (run : EachMoment (G.past o0) (G.past o1) (G.held o1) (IsShutOrGated all)) where
-    opening_pair : EachPair (both G side c o0) (both G side c o1) (FindsOldOrNext f g)
-    opening_pair = pair_other side c o0 o1 (IsShutOrGated all) (FindsOldOrNext f g) (λ x y left q. opening f g side low all whole_g x y (leaves x left) q) run
-
-    -- the new one's gate wasn't opened, or not safely
-    pub one_stretch : EachStretch (both G side c o0) (both G side c o1) (FindsOldOrNext f g)
-    one_stretch = (both G side c o0, started_pair (both G side c o0) (FindsOldOrNext f g) (λ x y on_x on_y. inl (found x y on_x on_y)), opening_pair)
-
-    -- it was
-    pub two_stretches : (c1 : D) (seen : List ℕ) → framing seen ≡ Whole f → 1 ∷ drop 1 seen ≡ seen → G.held o1 ≡ at_rest (1 ∷ all) → EachMoment (G.past c) (G.past c1) (G.held c1) (MayShut seen) → EachStretch (both G side c o0) (both G side c1 o1) (FindsOldOrNext f g)
-    two_stretches c1 seen whole first at closed = (
-      both G side c o1,
-      opening_pair,
-      pair_here G side c c1 o1 (MayShut seen) (FindsOldOrNext f g)
-          (λ x y q left. closing f g side low all whole_g seen x y whole first q (rest_image (1 ∷ all) y (subst (λ (h : Held). IsImage h y) at left))) closed,
-    )
-
 -- ---- the file that was recorded on
-
-pub text_first : (f : File) (seen tail : List ℕ) → seen ≡ file_text f ++ 0 ∷ tail → 1 ∷ drop 1 seen ≡ seen
-unfolding file_text
-text_first f seen tail is = ap (λ (l : List ℕ). 1 ∷ drop 1 l) is ∙ sym is
 
 -- all of it is safe, and its gate is open
 pub record StandsOpen (h : Held) (file : File) : Type 0 where
   pub rest : h ≡ at_rest h.seen
   pub whole : framing h.seen ≡ Whole file
-  pub first : 1 ∷ drop 1 h.seen ≡ h.seen
+  pub tail : List ℕ
+  pub is : h.seen ≡ file_text file ++ 0 ∷ tail
   pub unshut : true ≡ is_unshut h.seen
 
 none_written : (w kept : List ℕ) → [] ≡ w ++ kept → w ≡ []
@@ -141,7 +119,8 @@ stands_open {D} {B} j file holds =
     record {
       rest = holds.stages.fresh (none_written holds.written j.buffer.items holds.bytes);
       whole = whole;
-      first = text_first file seen (holds.written ++ drop (length holds.written) holds.stages.tail) holds.stages.seen_is;
+      tail = holds.written ++ drop (length holds.written) holds.stages.tail;
+      is = holds.stages.seen_is;
       unshut = sym (ap (λ (b : Bool). b || nat_lt 1 (slice_index seen 0)) (whole_created seen file whole));
     }
 
@@ -160,6 +139,9 @@ module _ {D : Type 0} {B : Ghosts D} (j : Journal D B) (n : NextFile) (file : Fi
   pub next_place : n.end ≡ 1 + length NextText
   next_place = let end_is = holds.end_is in omega (arith, end_is, length-append (head file.salt n.generation n.first n.base_length) base, length-head file.salt n.generation n.first n.base_length)
 
+  pub next_shut : (x : List ℕ) → IsImage (B.held j.current) x → IsShutFile file x
+  next_shut x left = shut_of file (B.held j.current) x (stages_keep (B.held j.current) j.end j.next file holds.holds.written holds.holds.stages) left
+
   pub next_leaves : (x : List ℕ) → IsImage (B.held j.current) x → framing x ≡ Whole file
   next_leaves x left = stages_leave (B.held j.current) j.end j.next file holds.holds.written holds.holds.stages x left
 
@@ -175,5 +157,10 @@ module _ {D : Type 0} {B : Ghosts D} (j : Journal D B) (n : NextFile) (file : Fi
         let by_place = subst (λ k. Rests h k n.first (new_file file.salt n.generation n.first base)) (sym holds.end_is) rests in
         subst (λ k. Rests h n.end n.first (new_file file.salt k n.first base)) holds.generation_is by_place
 
-    pub next_whole : framing (1 ∷ (NextText ++ 0 ∷ [])) ≡ Whole (next_file file n.first base)
-    next_whole = rests_read (at_rest (1 ∷ (NextText ++ 0 ∷ []))) n.end n.first (next_file file n.first base) (next_rests (at_rest (1 ∷ (NextText ++ 0 ∷ []))) refl)
+    pub next_behind : NextText ++ 0 ∷ [] ≡ behind_gate (next_file file n.first base) []
+    next_behind =
+        ap (drop 1) (next_text file.salt n.generation n.first n.base_length base all_written)
+        ∙ ap (λ k. drop 1 (new_bytes file.salt k n.first base)) holds.generation_is
+
+    pub next_within : IsWithin (next_file file n.first base)
+    next_within = (next_rests (at_rest (1 ∷ (NextText ++ 0 ∷ []))) refl).within

@@ -57,9 +57,14 @@ EachImage disks P = (x y : List ℕ) → IsImage disks.a.held x → IsImage disk
 abbrev pub EachPair : (was later : Disks) → (List ℕ → List ℕ → Type 0) → Type 0
 EachPair was later P = EachMoment was.a.past later.a.past later.a.held (λ x. EachMoment was.b.past later.b.past later.b.held (λ y. P x y))
 
--- The same in two stretches: each two images of the first, and each two of the second.
-abbrev pub EachStretch : (was later : Disks) → (List ℕ → List ℕ → Type 0) → Type 0
-EachStretch was later P = (mid : Disks) × EachPair was mid P × EachPair mid later P
+-- the disk of this side as it was, and the other one as it is later
+abbrev pub halfway : Side → (was later : Disks) → Disks
+halfway A was later = record { a = was.a; b = later.b }
+halfway B was later = record { a = later.a; b = was.b }
+
+-- The same in two stretches: first the disk of this side stands still, then the other one.
+abbrev pub EachStretch : Side → (was later : Disks) → (List ℕ → List ℕ → Type 0) → Type 0
+EachStretch side was later P = EachPair was (halfway side was later) P × EachPair (halfway side was later) later P
 
 -- What stands on disk a where a new file is made is shorter than one, or begins with 00 or 01: it can't be somebody else's.
 abbrev pub AreOurs : Disks → Type 0

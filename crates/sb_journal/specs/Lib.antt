@@ -1,5 +1,5 @@
 -- The journal, in the order to read it: Text (the bytes of a file), Framing (what bytes stand for), Judges, Opened, Unopened, Journals (what
--- contracts see); Disks, Pieces, Moments, Crashes (what a crash may leave, and when); Laws.
+-- contracts see); Disks, Pieces, Moments, Crashes, Turned (what a crash may leave, and when); Laws.
 pub mod Choosing
 pub mod Crashes
 pub mod Disks
@@ -11,4 +11,5 @@ pub mod Moments
 pub mod Opened
 pub mod Pieces
 pub mod Text
+pub mod Turned
 pub mod Unopened

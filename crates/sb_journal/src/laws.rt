@@ -1,5 +1,6 @@
 // What holds of the file format itself. Each law is the contract of a function that does nothing.
 ghost use Rattle.sb_journal.specs.Laws.{ReadsBack, ReadsBackCut, SpellsOnly, NewFileBytes, NextFileBytes, NewIsFound, OtherIsRefused, GreaterIsFound, SameIsDamage, TornIsFound, TornIsKept, OneIsChosen, FrontsChoose, ChoiceIsWorked};
+ghost use Rattle.sb_journal.specs.Turned.{TurnedIsFound, TurnedIsKept};
 
 /// A whole file is read back as itself, whatever stands behind its closed end gate, and also where
 /// the end gate is missing behind a record.
@@ -31,6 +32,13 @@ pub fn keeps_what_may_be_a_file()
 pub fn recovers_from_torn_appends()
     ensures found { TornIsFound }
     ensures kept { TornIsKept }
+{}
+
+/// What a crash left while a journal went on with the next file is found as the file before or the next one,
+/// and stays so through crashes during openings, however many.
+pub fn recovers_from_torn_bases()
+    ensures found { TurnedIsFound }
+    ensures kept { TurnedIsKept }
 {}
 
 /// Of two files the one of greater generation is read, whichever disk it stands on; two of one

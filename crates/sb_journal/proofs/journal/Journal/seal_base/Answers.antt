@@ -2,11 +2,12 @@ use Rattle.std.proofs.Common.{◌≤◌, [], ◌+◌, length, refl, sym, ◌∙�
 use Rattle.std.specs.Prelude.{IsTrue}
 use Rattle.sb_journal.specs.Text.{next_file}
 use Rattle.sb_journal.specs.Crashes.{IsAside}
-use Rattle.sb_journal.specs.Opened.{FindsOldOrNext}
+use Rattle.sb_journal.specs.Turned.{IsTurnedPair}
 use Rattle.sb_journal.specs.Disks.{Disks, EachStretch, AreQuiet, OneFault, NoneFell, SameHonesty}
 use Rattle.sb_journal.specs.Journals.{journal_disks, fault_count}
 use Rattle.sb_journal.proofs.Both.{quiet_then, later_then, honest_then}
 use Rattle.sb_journal.proofs.Holding.{staged_honest, sealed}
+use Rattle.sb_journal.proofs.Turned as turned
 use Rattle.sb_journal.proofs.Turning as turning
 use Rattle.sb_journal.proofs.journal.Journal.seal_base.Goals as goal
 
@@ -27,15 +28,19 @@ returns-in_default-clause-honesty g c =
     let j = c.args.self.now in
     subst (λ (d : Disks). SameHonesty (journal_disks j) d) (sym c.fail_other.ensures.disks) (honest_then g.D.Disk j.current j.other j.current c.open_file.new.disk j.side refl c.open_file.ensures.honesty)
 
-pub returns-in_default-clause-any_moment : goal.returns-in_default-clause-any_moment
-returns-in_default-clause-any_moment g c file base holds =
+pub returns-in_default-clause-torn : goal.returns-in_default-clause-torn
+returns-in_default-clause-torn g c file base holds =
     let j = c.args.self.now in
     let n = c.args.next in
     let honest = staged_honest j file [] holds.holds in
     let next = next_file file n.first base in
-    subst (λ (d : Disks). EachStretch (journal_disks j) d (FindsOldOrNext file next)) (sym c.fail_other.ensures.disks)
-    (turning.one_stretch g.D.Disk j.side j.current j.other c.open_file.new.disk file next (omega arith) _ (turning.next_whole j n file base holds c.requires.whole) (turning.next_leaves j n file base holds) holds.holds.leaves
-    (c.open_file.ensures.any_moment _ honest.1 holds.filled (turning.next_place j n file base holds)))
+    let place = turning.next_place j n file base holds in
+    subst (λ (d : Disks). EachStretch j.side (journal_disks j) d (IsTurnedPair file next)) (sym c.fail_other.ensures.disks)
+    (turned.one_stretch g.D.Disk j.side j.current j.other c.open_file.new.disk file next holds.holds.stages.within (turning.next_within j n file base holds c.requires.whole) (omega arith) _ (turning.next_behind j n file base holds c.requires.whole) (turning.next_shut j n file base holds)
+    (c.open_file.ensures.any_moment _ honest.1 holds.filled place))
+
+pub returns-in_default-clause-any_moment : goal.returns-in_default-clause-any_moment
+returns-in_default-clause-any_moment g c file base holds = turned.found_stretch c.args.self.now.side _ _ file (next_file file c.args.next.first base) (returns-in_default-clause-torn g c file base holds)
 
 -- ---- where the old one's gate isn't closed
 
@@ -54,16 +59,19 @@ returns-in_default-shut_aside-clause-honesty g c =
     let j = c.args.self.now in
     honest_then g.D.Disk j.current j.other c.shut_aside.new.disk c.open_file.new.disk j.side c.shut_aside.ensures.honesty c.open_file.ensures.honesty
 
-pub returns-in_default-shut_aside-clause-any_moment : goal.returns-in_default-shut_aside-clause-any_moment
-returns-in_default-shut_aside-clause-any_moment g c file base holds =
+pub returns-in_default-shut_aside-clause-torn : goal.returns-in_default-shut_aside-clause-torn
+returns-in_default-shut_aside-clause-torn g c file base holds =
     let j = c.args.self.now in
     let n = c.args.next in
     let honest = staged_honest j file [] holds.holds in
     let next = next_file file n.first base in
     let place = turning.next_place j n file base holds in
     let stands = turning.stands_open j file holds.holds in
-    turning.two_stretches g.D.Disk j.side j.current j.other c.open_file.new.disk file next (omega arith) _ (turning.next_whole j n file base holds c.requires.whole) (turning.next_leaves j n file base holds) holds.holds.leaves
-    (c.open_file.ensures.any_moment _ honest.1 holds.filled place) c.shut_aside.new.disk _ stands.whole stands.first (c.in-Ok.ensures.ok _ honest.1 holds.filled place) (c.shut_aside.ensures.any_moment honest.0 stands.rest stands.unshut)
+    turned.two_stretches g.D.Disk j.side j.current j.other c.open_file.new.disk file next holds.holds.stages.within (turning.next_within j n file base holds c.requires.whole) (omega arith) _ (turning.next_behind j n file base holds c.requires.whole) (turning.next_shut j n file base holds)
+    (c.open_file.ensures.any_moment _ honest.1 holds.filled place) c.shut_aside.new.disk _ stands.tail stands.is (c.in-Ok.ensures.ok _ honest.1 holds.filled place) (c.shut_aside.ensures.any_moment honest.0 stands.rest stands.unshut)
+
+pub returns-in_default-shut_aside-clause-any_moment : goal.returns-in_default-shut_aside-clause-any_moment
+returns-in_default-shut_aside-clause-any_moment g c file base holds = turned.found_stretch c.args.self.now.side _ _ file (next_file file c.args.next.first base) (returns-in_default-shut_aside-clause-torn g c file base holds)
 
 -- ---- where it is
 
@@ -85,17 +93,20 @@ returns-clause-honesty g c =
     subst (λ (d : Disks). SameHonesty (journal_disks j) d) (sym (turning.turned_disks g.D.Disk j.side _ c.shut_aside.new.disk c.open_file.new.disk _ _ c.facing-self.ensures c.swap.ensures.x_after c.swap.ensures.y_after))
     (honest_then g.D.Disk j.current j.other c.shut_aside.new.disk c.open_file.new.disk j.side c.shut_aside.ensures.honesty c.open_file.ensures.honesty)
 
-pub returns-clause-any_moment : goal.returns-clause-any_moment
-returns-clause-any_moment g c file base holds =
+pub returns-clause-torn : goal.returns-clause-torn
+returns-clause-torn g c file base holds =
     let j = c.args.self.now in
     let n = c.args.next in
     let honest = staged_honest j file [] holds.holds in
     let next = next_file file n.first base in
     let place = turning.next_place j n file base holds in
     let stands = turning.stands_open j file holds.holds in
-    subst (λ (d : Disks). EachStretch (journal_disks j) d (FindsOldOrNext file next)) (sym (turning.turned_disks g.D.Disk j.side _ c.shut_aside.new.disk c.open_file.new.disk _ _ c.facing-self.ensures c.swap.ensures.x_after c.swap.ensures.y_after))
-    (turning.two_stretches g.D.Disk j.side j.current j.other c.open_file.new.disk file next (omega arith) _ (turning.next_whole j n file base holds c.requires.whole) (turning.next_leaves j n file base holds) holds.holds.leaves
-    (c.open_file.ensures.any_moment _ honest.1 holds.filled place) c.shut_aside.new.disk _ stands.whole stands.first (c.in-Ok.ensures.ok _ honest.1 holds.filled place) (c.shut_aside.ensures.any_moment honest.0 stands.rest stands.unshut))
+    subst (λ (d : Disks). EachStretch j.side (journal_disks j) d (IsTurnedPair file next)) (sym (turning.turned_disks g.D.Disk j.side _ c.shut_aside.new.disk c.open_file.new.disk _ _ c.facing-self.ensures c.swap.ensures.x_after c.swap.ensures.y_after))
+    (turned.two_stretches g.D.Disk j.side j.current j.other c.open_file.new.disk file next holds.holds.stages.within (turning.next_within j n file base holds c.requires.whole) (omega arith) _ (turning.next_behind j n file base holds c.requires.whole) (turning.next_shut j n file base holds)
+    (c.open_file.ensures.any_moment _ honest.1 holds.filled place) c.shut_aside.new.disk _ stands.tail stands.is (c.in-Ok.ensures.ok _ honest.1 holds.filled place) (c.shut_aside.ensures.any_moment honest.0 stands.rest stands.unshut))
+
+pub returns-clause-any_moment : goal.returns-clause-any_moment
+returns-clause-any_moment g c file base holds = turned.found_stretch c.args.self.now.side _ _ file (next_file file c.args.next.first base) (returns-clause-torn g c file base holds)
 
 pub returns-clause-ok : goal.returns-clause-ok
 returns-clause-ok g c file base holds =
