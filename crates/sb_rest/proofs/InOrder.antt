@@ -11,11 +11,10 @@ use Rattle.sb_model.specs.declared.message.SystemName.TheVariants.{ContentType}
 use Rattle.sb_machine.specs.Each.{Each}
 use Rattle.sb_machine.specs.Ordered.{IsActInOrder}
 use Rattle.sb_machine.specs.declared.call.Act.{Act}
-use Rattle.sb_machine.specs.declared.call.Act.TheVariants.{Receive}
-use Rattle.sb_machine.specs.declared.call.How.TheVariants.{Complete, Abandon}
+use Rattle.sb_machine.specs.declared.call.Act.TheVariants.{Receive, Renew}
+use Rattle.sb_machine.specs.declared.call.How.TheVariants.{Complete}
 use Rattle.sb_machine.specs.declared.call.Mode.{Mode}
-use Rattle.sb_machine.specs.declared.call.Path.{Path}
-use Rattle.sb_machine.specs.declared.call.Token.{Token}
+use Rattle.sb_machine.specs.declared.call.Which.TheVariants.{Id}
 use Rattle.sb_http.specs.Fields.{Field, same_word}
 use Rattle.sb_http.specs.Messages.{RequestMessage}
 use Rattle.sb_lines.specs.declared.texts.Nulls.TheVariants.{Absent}
@@ -31,6 +30,8 @@ use Rattle.sb_routes.specs.Routes.{route_of}
 use Rattle.sb_rest.specs.declared.access.Access.{Access}
 use Rattle.sb_rest.specs.declared.asked.Asked.{Asked}
 use Rattle.sb_rest.specs.declared.asked.Asked.TheVariants as asked
+use Rattle.sb_rest.specs.declared.asked.PathAct.{PathAct}
+use Rattle.sb_rest.specs.declared.asked.PathAct.TheVariants as act
 use Rattle.sb_rest.specs.declared.call.RestFault.{RestFault}
 use Rattle.sb_rest.specs.declared.call.RestFault.TheVariants.{Foreign, NoKey, BadMethod, Script}
 use Rattle.sb_rest.specs.declared.call.Wanted.{Wanted}
@@ -41,8 +42,11 @@ use Rattle.sb_rest.specs.Batches as batches
 use Rattle.sb_rest.specs.Headers as headers
 use Rattle.sb_rest.specs.Calls as calls
 use Rattle.sb_rest.specs.Callers.{is_foreign, has_key}
+use Rattle.sb_rest.specs.Dispositions.{disposition_in, how_of}
 use Rattle.sb_rest.specs.Lifetimes.{lifetime_in}
+use Rattle.sb_rest.specs.Repeats.{by_of}
 use Rattle.sb_rest.specs.Reserved.{is_reserved}
+use Rattle.sb_rest.specs.Timeouts.{timeout_in}
 use Rattle.sb_rest.specs.Values.{header_value}
 
 -- ---- what is said of a message
@@ -171,22 +175,25 @@ asked_holds_with query fields act holds =
     then_holds IsActInOrder IsWantedInOrder act (λ a. then_by (calls.beside query fields) (λ b. Ok (calls.in_time b.1 a b.0))) holds (λ a is.
     known_holds IsWantedInOrder (calls.beside query fields) (λ b. Ok (calls.in_time b.1 a b.0)) (λ b. is))
 
-taken_holds : (a : Address) (mode : Mode) (path : List ℕ) → Holds IsActInOrder (calls.taken a mode path)
-taken_holds a mode path = known_holds IsActInOrder (calls.address_in a path) (λ from. Ok (Receive from mode None)) (λ from. tt)
+act_holds : (a : PathAct) (path : List ℕ) → Holds IsActInOrder (calls.act_in a path)
+act_holds (act.Take a mode) path = known_holds IsActInOrder (calls.address_in a path) (λ from. Ok (Receive from mode None)) (λ from. tt)
+act_holds (act.Complete a) path = known_holds IsActInOrder (calls.locked_in a path) (λ l. Ok (calls.settled Complete l)) (λ l. tt)
+act_holds (act.Renew a) path = known_holds IsActInOrder (calls.locked_in a path) (λ l. Ok (Renew l.0 (Id l.1.0) l.1.1)) (λ l. tt)
 
-locked_holds : (a : Address) (path : List ℕ) (make : Path → List ℕ → Token → Act) → ((from : Path) (id : List ℕ) (token : Token) → IsActInOrder (make from id token)) → Holds IsActInOrder (calls.with_locked a path make)
-locked_holds a path make each =
-    known_holds IsActInOrder (calls.address_in a path) _ (λ from.
-    known_holds IsActInOrder (calls.text_in (calls.id_place a) path) _ (λ id.
-    known_holds IsActInOrder (calls.token_at (suc (calls.id_place a)) path) (λ token. Ok (make from id token)) (λ token. each from id token)))
+put_holds : (a : Address) (path query : List ℕ) (fields : List Field) → Holds IsWantedInOrder (calls.put a path query fields)
+unfolding calls.put
+put_holds a path query fields =
+    known_holds IsWantedInOrder (calls.locked_in a path) _ (λ l.
+    known_holds IsWantedInOrder (timeout_in query) _ (λ timeout.
+    known_holds IsWantedInOrder (disposition_in query) _ (λ disposition.
+    known_holds IsWantedInOrder (by_of fields) _ (λ by.
+    known_holds IsWantedInOrder (how_of disposition fields) (λ how. Ok (calls.in_time by (calls.settled how l) timeout)) (λ how. tt)))))
 
 wanted_holds : (a : Asked) (path query : List ℕ) (fields : List Field) (body : List ℕ) → Holds IsWantedInOrder (calls.wanted_by a path query fields body)
 unfolding calls.wanted_by
 wanted_holds asked.Send path query fields body = sent_holds path query fields body
-wanted_holds (asked.Take a mode) path query fields body = asked_holds_with query fields (calls.taken a mode path) (taken_holds a mode path)
-wanted_holds (asked.Abandon a) path query fields body = asked_holds_with query fields (calls.with_locked a path (calls.settled Abandon)) (locked_holds a path (calls.settled Abandon) (λ from id token. tt))
-wanted_holds (asked.Complete a) path query fields body = asked_holds_with query fields (calls.with_locked a path (calls.settled Complete)) (locked_holds a path (calls.settled Complete) (λ from id token. tt))
-wanted_holds (asked.Renew a) path query fields body = asked_holds_with query fields (calls.with_locked a path calls.renewed) (locked_holds a path calls.renewed (λ from id token. tt))
+wanted_holds (asked.Put a) path query fields body = put_holds a path query fields
+wanted_holds (asked.Do a) path query fields body = asked_holds_with query fields (calls.act_in a path) (act_holds a path)
 
 -- ---- requests
 

@@ -8,6 +8,7 @@ use Rattle.sb_routes.specs.declared.routes.Route.{Route}
 use Rattle.sb_routes.specs.declared.routes.Route.TheVariants as route
 use Rattle.sb_rest.specs.declared.asked.Asked.{Asked}
 use Rattle.sb_rest.specs.declared.asked.Asked.TheVariants as asked
+use Rattle.sb_rest.specs.declared.asked.PathAct.TheVariants as act
 use Rattle.sb_rest.specs.declared.call.RestFault.TheVariants.{Foreign, NoKey}
 use Rattle.sb_rest.specs.Calls.{methods_of, takes, routed, NoneIsForeign, NoneIsKeyless}
 use Rattle.sb_rest.specs.Callers.{has_key}
@@ -18,12 +19,12 @@ all_methods route.Messages method = by_post (bytes_eq method (codes "POST")) whe
   by_post true = refl
   by_post false = refl
 all_methods (route.Head a) method = by_both (bytes_eq method (codes "DELETE")) (bytes_eq method (codes "POST")) where
-  by_both : (d p : Bool) → is_some (if d then Some (asked.Take a Delete) else (if p then Some (asked.Take a Lock) else None)) ≡ (d || (p || false))
+  by_both : (d p : Bool) → is_some (if d then Some (asked.Do (act.Take a Delete)) else (if p then Some (asked.Do (act.Take a Lock)) else None)) ≡ (d || (p || false))
   by_both true p = refl
   by_both false true = refl
   by_both false false = refl
 all_methods (route.Locked a) method = by_all (bytes_eq method (codes "PUT")) (bytes_eq method (codes "DELETE")) (bytes_eq method (codes "POST")) where
-  by_all : (u d p : Bool) → is_some (if u then Some (asked.Abandon a) else (if d then Some (asked.Complete a) else (if p then Some (asked.Renew a) else None))) ≡ (d || (p || (u || false)))
+  by_all : (u d p : Bool) → is_some (if u then Some (asked.Put a) else (if d then Some (asked.Do (act.Complete a)) else (if p then Some (asked.Do (act.Renew a)) else None))) ≡ (d || (p || (u || false)))
   by_all true true p = refl
   by_all true false true = refl
   by_all true false false = refl

@@ -7,7 +7,7 @@ use Rattle.sb_machine.specs.declared.call.Act.{Act}
 use Rattle.sb_machine.specs.declared.call.Act.TheVariants.{Receive, Settle, Renew, Send}
 use Rattle.sb_machine.specs.declared.call.By.{By}
 use Rattle.sb_machine.specs.declared.call.How.{How}
-use Rattle.sb_machine.specs.declared.call.How.TheVariants.{Complete, Abandon}
+use Rattle.sb_machine.specs.declared.call.How.TheVariants.{Complete}
 use Rattle.sb_machine.specs.declared.call.Mode.{Mode}
 use Rattle.sb_machine.specs.declared.call.Mode.TheVariants.{Lock, Delete}
 use Rattle.sb_machine.specs.declared.call.Part.{Part}
@@ -28,12 +28,15 @@ use Rattle.sb_routes.specs.Paths.{as_text, segment, path_of, query_of}
 use Rattle.sb_routes.specs.Routes.{route_of}
 use Rattle.sb_rest.specs.declared.asked.Asked.{Asked}
 use Rattle.sb_rest.specs.declared.asked.Asked.TheVariants as asked
+use Rattle.sb_rest.specs.declared.asked.PathAct.{PathAct}
+use Rattle.sb_rest.specs.declared.asked.PathAct.TheVariants as act
 use Rattle.sb_rest.specs.declared.call.RestFault.{RestFault}
 use Rattle.sb_rest.specs.declared.call.RestFault.TheVariants.{Foreign, NoKey, NoRoute, BadMethod, Bad, Script, OutOfMemory}
 use Rattle.sb_rest.specs.declared.call.Wanted.{Wanted}
 use Rattle.sb_rest.specs.declared.access.Access.{Access}
 use Rattle.sb_rest.specs.Callers.{is_foreign, has_key}
 use Rattle.sb_rest.specs.Batches as batches
+use Rattle.sb_rest.specs.Dispositions.{disposition_in, how_of}
 use Rattle.sb_rest.specs.Headers.{message_in}
 use Rattle.sb_rest.specs.Repeats.{by_of}
 use Rattle.sb_rest.specs.Timeouts.{timeout_in}
@@ -46,13 +49,13 @@ if_post method a = if bytes_eq method (codes "POST") then Some a else None
 
 -- what the head of an entity is asked for, by the method
 abbrev pub at_head : Address → List ℕ → Option Asked
-at_head a method = if bytes_eq method (codes "DELETE") then Some (asked.Take a Delete) else if_post method (asked.Take a Lock)
+at_head a method = if bytes_eq method (codes "DELETE") then Some (asked.Do (act.Take a Delete)) else if_post method (asked.Do (act.Take a Lock))
 
 -- what a message under a lock is asked for, by the method
 abbrev pub at_locked : Address → List ℕ → Option Asked
 at_locked a method =
-    if bytes_eq method (codes "PUT") then Some (asked.Abandon a)
-    else (if bytes_eq method (codes "DELETE") then Some (asked.Complete a) else if_post method (asked.Renew a))
+    if bytes_eq method (codes "PUT") then Some (asked.Put a)
+    else (if bytes_eq method (codes "DELETE") then Some (asked.Do (act.Complete a)) else if_post method (asked.Do (act.Renew a)))
 
 -- the methods of a route
 abbrev pub methods_of : Route → List (List ℕ)
@@ -105,24 +108,34 @@ token_at n path = then_by (text_in n path) (λ text. or_key (codes "token") (tok
 
 -- ---- the acts
 
--- of a message under a lock: whose it is, its id and its token
-abbrev pub with_locked : Address → List ℕ → (Path → List ℕ → Token → Act) → Result Act (List ℕ)
-with_locked a path make =
+-- a message under a lock: whose it is, its id and its token
+abbrev pub locked_in : Address → List ℕ → Result (Path × List ℕ × Token) (List ℕ)
+locked_in a path =
     then_by (address_in a path) (λ from.
     then_by (text_in (id_place a) path) (λ id.
-    then_by (token_at (suc (id_place a)) path) (λ token. Ok (make from id token))))
+    then_by (token_at (suc (id_place a)) path) (λ token. Ok (from, id, token))))
 
 -- the settlement of a message that is held under a lock
-abbrev pub settled : How → Path → List ℕ → Token → Act
-settled how from id token = Settle from (Id id) token None how None
+abbrev pub settled : How → Path × List ℕ × Token → Act
+settled how l = Settle l.0 (Id l.1.0) l.1.1 None how None
 
--- the renewal of a message's lock
-abbrev pub renewed : Path → List ℕ → Token → Act
-renewed from id token = Renew from (Id id) token
+-- its completion
+abbrev pub completed : Address → List ℕ → Result Act (List ℕ)
+completed a path = then_by (locked_in a path) (λ l. Ok (settled Complete l))
+
+-- the renewal of its lock
+abbrev pub renewed : Address → List ℕ → Result Act (List ℕ)
+renewed a path = then_by (locked_in a path) (λ l. Ok (Renew l.0 (Id l.1.0) l.1.1))
 
 -- a receive of each mode
 abbrev pub taken : Address → Mode → List ℕ → Result Act (List ℕ)
 taken a mode path = then_by (address_in a path) (λ from. Ok (Receive from mode None))
+
+-- the act that path and method say whole
+abbrev pub act_in : PathAct → List ℕ → Result Act (List ℕ)
+act_in (act.Take a mode) path = taken a mode path
+act_in (act.Complete a) path = completed a path
+act_in (act.Renew a) path = renewed a path
 
 -- a call that may wait so many seconds
 abbrev pub in_time : Option By → Act → ℕ → Wanted
@@ -135,6 +148,15 @@ beside query fields = then_by (timeout_in query) (λ timeout. then_by (by_of fie
 -- the query is judged behind the path, and the number of the call behind that
 abbrev pub asked_with : List ℕ → List Field → Result Act (List ℕ) → Result Wanted (List ℕ)
 asked_with query fields act = then_by act (λ a. then_by (beside query fields) (λ b. Ok (in_time b.1 a b.0)))
+
+-- what the query says becomes of a message under a lock is judged behind how long it may wait, and BrokerProperties behind the number of the call
+unfoldable pub put : Address → List ℕ → List ℕ → List Field → Result Wanted (List ℕ)
+put a path query fields =
+    then_by (locked_in a path) (λ l.
+    then_by (timeout_in query) (λ timeout.
+    then_by (disposition_in query) (λ disposition.
+    then_by (by_of fields) (λ by.
+    then_by (how_of disposition fields) (λ how. Ok (in_time by (settled how l) timeout))))))
 
 -- those of a batch, or the one whose headers and body these are
 abbrev pub messages_in : List Field → List ℕ → Result (List Message) (List ℕ)
@@ -158,10 +180,8 @@ or_bad (Ok w) = Ok w
 -- the path, the query, the headers and the body together
 unfoldable pub wanted_by : Asked → List ℕ → List ℕ → List Field → List ℕ → Result Wanted (List ℕ)
 wanted_by asked.Send path query fields body = sent path query fields body
-wanted_by (asked.Take a mode) path query fields body = asked_with query fields (taken a mode path)
-wanted_by (asked.Abandon a) path query fields body = asked_with query fields (with_locked a path (settled Abandon))
-wanted_by (asked.Complete a) path query fields body = asked_with query fields (with_locked a path (settled Complete))
-wanted_by (asked.Renew a) path query fields body = asked_with query fields (with_locked a path renewed)
+wanted_by (asked.Put a) path query fields body = put a path query fields
+wanted_by (asked.Do a) path query fields body = asked_with query fields (act_in a path)
 
 -- the call of a route, unless its method is another
 abbrev pub on_asked : Route → Option Asked → RequestMessage → Result Wanted RestFault

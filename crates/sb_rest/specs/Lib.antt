@@ -1,5 +1,6 @@
--- REST, in the order to read it: Timeouts, Values, Lifetimes, Brokers, Reserved, Headers, Batches, Repeats, Foreign (the parts of a request); Lines,
--- Calls (which request asks for which call); Moments, Escapes, Shown, Responses (what answers it); Worked.
+-- REST, in the order to read it: Queries, Timeouts, Values, Lifetimes, Brokers, Reserved, Headers, Batches, Repeats, Dispositions, Callers (the parts of
+-- a request); Lines, Calls (which request asks for which call); Moments, Escapes, Shown, Responses (what answers it); Worked.
+pub mod Queries
 pub mod Timeouts
 pub mod Values
 pub mod Lifetimes
@@ -10,6 +11,7 @@ pub mod Headers
 pub mod Batches
 pub mod Lines
 pub mod Repeats
+pub mod Dispositions
 pub mod Calls
 pub mod Moments
 pub mod Escapes

@@ -1,20 +1,23 @@
 -- Requests that were worked out by hand, and what they ask for.
 use Rattle.std.specs.Prelude.{ℕ, List, [], ◌∷◌, codes, Some, None, Result, Ok}
-use Rattle.sb_machine.specs.declared.call.Act.TheVariants.{Receive, Send}
+use Rattle.sb_machine.specs.declared.call.Act.TheVariants.{Receive, Send, Settle}
+use Rattle.sb_machine.specs.declared.call.How.{How}
 use Rattle.sb_machine.specs.declared.call.Mode.TheVariants.{Lock}
 use Rattle.sb_machine.specs.declared.call.Part.TheVariants.{Main}
 use Rattle.sb_machine.specs.declared.call.Path.{Path}
 use Rattle.sb_machine.specs.declared.call.Token.{Token}
+use Rattle.sb_machine.specs.declared.call.Which.TheVariants.{Id}
 use Rattle.sb_machine.specs.declared.reply.CopyShown.{CopyShown}
 use Rattle.sb_machine.specs.declared.reply.Showing.TheVariants.{Locked}
 use Rattle.sb_model.specs.declared.message.Message.{Message}
+use Rattle.sb_routes.specs.declared.routes.Address.TheVariants.{Entity}
 use Rattle.sb_http.specs.Fields.{Field}
 use Rattle.sb_http.specs.Messages.{RequestMessage}
 use Rattle.sb_rest.specs.declared.access.Access.{Access}
 use Rattle.sb_rest.specs.declared.call.RestFault.{RestFault}
 use Rattle.sb_rest.specs.declared.call.Wanted.{Wanted}
 use Rattle.sb_rest.specs.declared.draft.Broker.{Broker}
-use Rattle.sb_rest.specs.Calls.{in_time}
+use Rattle.sb_rest.specs.Calls.{in_time, put}
 
 -- this request of HTTP/1.1 to the host h
 abbrev pub request : List ℕ → List ℕ → List Field → List ℕ → RequestMessage
@@ -51,6 +54,24 @@ takes timeout = Ok (in_time None (Receive q Lock None) timeout)
 abbrev pub takes_as : ℕ → Result Wanted RestFault
 takes_as timeout = Ok (in_time (Some (record { client = codes "c"; number = 7 })) (Receive q Lock None) timeout)
 
+-- ---- a message under a lock
+
+-- the first lock of the namespace whose salt is a1b2c3d4e5f60718
+abbrev pub first_token : Token
+first_token = record { salt = 11651590505119483672; lock = 1 }
+
+-- a PUT on the first message of q, with a query
+abbrev pub puts : List ℕ → List Field → Result Wanted (List ℕ)
+puts query fields = put (Entity Main) (codes "/q/messages/1/a1b2c3d4-e5f6-0718-0000-000000000001") query fields
+
+-- this becomes of it
+abbrev pub settles : How → Result Wanted (List ℕ)
+settles how = Ok (in_time None (Settle q (Id (codes "1")) first_token None how None) 60)
+
+-- why it is a dead letter, by BrokerProperties
+abbrev pub why : List ℕ → List Field
+why text = (codes "BrokerProperties", text) ∷ []
+
 -- ---- who may call
 
 -- all, but for web pages
@@ -70,10 +91,6 @@ abbrev pub showing : List ℕ → Field
 showing value = (codes "Authorization", value)
 
 -- ---- a response
-
--- under the first lock of the namespace whose salt is a1b2c3d4e5f60718
-abbrev pub first_token : Token
-first_token = record { salt = 11651590505119483672; lock = 1 }
 
 -- the first message of q, received a second after 1970 began
 abbrev pub first_copy : CopyShown

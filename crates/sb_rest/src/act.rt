@@ -3,43 +3,67 @@ ghost use Rattle.std.specs.Prelude.{◌≡◌};
 ghost use Rattle.sb_lines.specs.Faults.{Answers};
 ghost use Rattle.sb_rest.specs.Calls as calls;
 
+use crate::asked::PathAct;
 use crate::path::{address_in, id_place, text_in, token_at};
 use sb_lines::LineFault;
-use sb_machine::{Act, How, Mode, Which};
+use sb_machine::{Act, How, Mode, Path, Token, Which};
+use sb_model::Text;
 use sb_routes::Address;
 use std::alloc::Global;
 
-/// What becomes of a message under a lock.
-pub(crate) fn settled(
+/// The act that path and method say whole.
+pub(crate) fn act_in(alloc: Global, asked: PathAct, path: &[u8]) -> Result<Act, LineFault>
+    ensures { Answers result (calls.act_in asked path.now) }
+{
+    match asked {
+        PathAct::Take(address, mode) => taken(alloc, address, mode, path),
+        PathAct::Complete(address) => completed(alloc, address, path),
+        PathAct::Renew(address) => renewed(alloc, address, path),
+    }
+}
+
+/// Whose a message under a lock is, its id and its token.
+pub(crate) fn locked_in(
     alloc: Global,
     address: Address,
     path: &[u8],
-    how: How,
-) -> Result<Act, LineFault>
-    ensures { Answers result (calls.with_locked address path.now (calls.settled how)) }
+) -> Result<(Path, Text, Token), LineFault>
+    ensures { Answers result (calls.locked_in address path.now) }
 {
     let from = address_in(alloc, address, path)?;
     let place = id_place(address);
     let id = text_in(alloc, path, place)?;
     let token = token_at(alloc, path, place + 1)?;
-    Ok(Act::Settle {
+    Ok((from, id, token))
+}
+
+/// What becomes of a message under a lock.
+pub(crate) fn settled(how: How, from: Path, id: Text, token: Token) -> Act
+    ensures { result ≡ calls.settled how (from, id, token) }
+{
+    Act::Settle {
         from,
         which: Which::Id(id),
         token,
         session: None,
         how,
         txn: None,
-    })
+    }
 }
 
-/// That the lock of a message lives longer.
-pub(crate) fn renewed(alloc: Global, address: Address, path: &[u8]) -> Result<Act, LineFault>
-    ensures { Answers result (calls.with_locked address path.now calls.renewed) }
+// That a message under a lock is worked off.
+fn completed(alloc: Global, address: Address, path: &[u8]) -> Result<Act, LineFault>
+    ensures { Answers result (calls.completed address path.now) }
 {
-    let from = address_in(alloc, address, path)?;
-    let place = id_place(address);
-    let id = text_in(alloc, path, place)?;
-    let token = token_at(alloc, path, place + 1)?;
+    let (from, id, token) = locked_in(alloc, address, path)?;
+    Ok(settled(How::Complete, from, id, token))
+}
+
+// That the lock of a message lives longer.
+fn renewed(alloc: Global, address: Address, path: &[u8]) -> Result<Act, LineFault>
+    ensures { Answers result (calls.renewed address path.now) }
+{
+    let (from, id, token) = locked_in(alloc, address, path)?;
     Ok(Act::Renew {
         from,
         which: Which::Id(id),
@@ -47,13 +71,8 @@ pub(crate) fn renewed(alloc: Global, address: Address, path: &[u8]) -> Result<Ac
     })
 }
 
-/// That the first message is received.
-pub(crate) fn taken(
-    alloc: Global,
-    address: Address,
-    mode: Mode,
-    path: &[u8],
-) -> Result<Act, LineFault>
+// That the first message is received.
+fn taken(alloc: Global, address: Address, mode: Mode, path: &[u8]) -> Result<Act, LineFault>
     ensures { Answers result (calls.taken address mode path.now) }
 {
     let from = address_in(alloc, address, path)?;

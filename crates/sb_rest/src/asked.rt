@@ -9,9 +9,16 @@ use sb_routes::Address;
 #[derive(Clone, Copy, PartialEq, Eq, Drop)]
 pub enum Asked {
     Send,
+    /// To put a message where the query says.
+    Put(Address),
+    Do(PathAct),
+}
+
+/// An act that path and method say whole.
+#[derive(Clone, Copy, PartialEq, Eq, Drop)]
+pub enum PathAct {
     /// To receive the first message, under a lock or with deletion.
     Take(Address, Mode),
-    Abandon(Address),
     Complete(Address),
     Renew(Address),
 }
@@ -39,9 +46,9 @@ pub(crate) fn at_head(address: Address, method: &[u8]) -> Option<Asked>
     ensures { result ≡ calls.at_head address method.now }
 {
     if is(method, b"DELETE") {
-        return Some(Asked::Take(address, Mode::Delete));
+        return Some(Asked::Do(PathAct::Take(address, Mode::Delete)));
     }
-    if_post(method, Asked::Take(address, Mode::Lock))
+    if_post(method, Asked::Do(PathAct::Take(address, Mode::Lock)))
 }
 
 /// What a method asks for at a message under a lock.
@@ -49,10 +56,10 @@ pub(crate) fn at_locked(address: Address, method: &[u8]) -> Option<Asked>
     ensures { result ≡ calls.at_locked address method.now }
 {
     if is(method, b"PUT") {
-        return Some(Asked::Abandon(address));
+        return Some(Asked::Put(address));
     }
     if is(method, b"DELETE") {
-        return Some(Asked::Complete(address));
+        return Some(Asked::Do(PathAct::Complete(address)));
     }
-    if_post(method, Asked::Renew(address))
+    if_post(method, Asked::Do(PathAct::Renew(address)))
 }

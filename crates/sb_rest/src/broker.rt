@@ -67,7 +67,8 @@ pub(crate) fn broker_of(alloc: Global, value: &Value) -> Result<Broker, LineFaul
     })
 }
 
-fn object_in(alloc: Global, bytes: &[u8]) -> Result<Option<Value>, AllocError>
+/// The object that bytes spell.
+pub(crate) fn object_in(alloc: Global, bytes: &[u8]) -> Result<Option<Value>, AllocError>
     ensures { IfOk result (λ o. option_map view o ≡ brokers.object_in bytes.now) }
 {
     let Some(text) = text_of(bytes) else {

@@ -8,9 +8,10 @@ ghost use Rattle.sb_routes.specs.Paths.{path_of, query_of};
 ghost use Rattle.sb_rest.specs.Calls as calls;
 
 use crate::access::{Access, has_key, is_foreign};
-use crate::act::{renewed, settled, taken};
-use crate::asked::{Asked, at_head, at_locked, if_post, is};
+use crate::act::{act_in, locked_in, settled};
+use crate::asked::{Asked, PathAct, at_head, at_locked, if_post, is};
 use crate::batch::{is_batch, messages_in as batch_in};
+use crate::disposition::{disposition_in, how_of};
 use crate::header::message_in;
 use crate::path::name_in;
 use crate::repeat::by_in;
@@ -18,7 +19,7 @@ use crate::timeout::timeout_in;
 use httparse::spans::HeaderSpan;
 use sb_http::Request;
 use sb_lines::LineFault;
-use sb_machine::{Act, By, Call, How, Mode, Part, Path};
+use sb_machine::{Act, By, Call, Part, Path};
 use sb_model::{Message, Rows, Text};
 use sb_routes::{Address, Route, Routes, cut};
 use std::alloc::Global;
@@ -136,39 +137,24 @@ fn finish(
     }
 }
 
-fn take(
+fn done(
     alloc: Global,
-    address: Address,
-    mode: Mode,
+    asked: PathAct,
     path: &[u8],
     query: &[u8],
     text: &[u8],
     lines: &[HeaderSpan],
 ) -> Result<Wanted, LineFault>
     requires { All (IsHeaderWithin (length text.now)) lines.now }
-    ensures { Answers result (calls.asked_with query.now (map (header_bytes text.now) lines.now) (calls.taken address mode path.now)) }
+    ensures { Answers result (calls.asked_with query.now (map (header_bytes text.now) lines.now) (calls.act_in asked path.now)) }
 {
-    let act = taken(alloc, address, mode, path)?;
+    let act = act_in(alloc, asked, path)?;
     finish(alloc, act, query, text, lines)
 }
 
-fn settle(
-    alloc: Global,
-    address: Address,
-    how: How,
-    path: &[u8],
-    query: &[u8],
-    text: &[u8],
-    lines: &[HeaderSpan],
-) -> Result<Wanted, LineFault>
-    requires { All (IsHeaderWithin (length text.now)) lines.now }
-    ensures { Answers result (calls.asked_with query.now (map (header_bytes text.now) lines.now) (calls.with_locked address path.now (calls.settled how))) }
-{
-    let act = settled(alloc, address, path, how)?;
-    finish(alloc, act, query, text, lines)
-}
-
-fn renew(
+// A message under a lock goes where the query says.
+#[tactic(auto, unfolding(crate::specs::Calls::put))]
+fn put(
     alloc: Global,
     address: Address,
     path: &[u8],
@@ -177,10 +163,14 @@ fn renew(
     lines: &[HeaderSpan],
 ) -> Result<Wanted, LineFault>
     requires { All (IsHeaderWithin (length text.now)) lines.now }
-    ensures { Answers result (calls.asked_with query.now (map (header_bytes text.now) lines.now) (calls.with_locked address path.now calls.renewed)) }
+    ensures { Answers result (calls.put address path.now query.now (map (header_bytes text.now) lines.now)) }
 {
-    let act = renewed(alloc, address, path)?;
-    finish(alloc, act, query, text, lines)
+    let (from, id, token) = locked_in(alloc, address, path)?;
+    let timeout = timeout_in(alloc, query)?;
+    let disposition = disposition_in(alloc, query)?;
+    let by = by_in(alloc, text, lines)?;
+    let how = how_of(alloc, disposition, text, lines)?;
+    Ok(in_time(by, settled(how, from, id, token), timeout))
 }
 
 // A method and a path that go together, before the query, the headers and the body.
@@ -197,14 +187,8 @@ fn wanted_by(
     let (text, lines) = (request.text, request.lines);
     match asked {
         Asked::Send => sent(alloc, path, query, text, lines, request.body),
-        Asked::Take(address, mode) => take(alloc, address, mode, path, query, text, lines),
-        Asked::Abandon(address) => {
-            settle(alloc, address, How::Abandon, path, query, text, lines)
-        }
-        Asked::Complete(address) => {
-            settle(alloc, address, How::Complete, path, query, text, lines)
-        }
-        Asked::Renew(address) => renew(alloc, address, path, query, text, lines),
+        Asked::Put(address) => put(alloc, address, path, query, text, lines),
+        Asked::Do(act) => done(alloc, act, path, query, text, lines),
     }
 }
 
@@ -294,8 +278,9 @@ fn wanted_of(
 
 /// The call of a request, or why it is none: first that a page of another origin made it, then that it
 /// doesn't show the key, then that there is no such path, then that its method isn't one of it, then
-/// the first key at fault, by its place: the path (`path`, `token`), the query (`timeout`), the number
-/// of the call (`Repeat-Client`, `Repeat-Number`), the headers as they stand, the body.
+/// the first key at fault, by its place: the path (`path`, `token`), the query (`timeout`,
+/// `disposition`), the number of the call (`Repeat-Client`, `Repeat-Number`), the headers as they stand,
+/// the body.
 pub fn call_of(
     alloc: Global,
     routes: &Routes,

@@ -26,6 +26,7 @@ mod asked;
 mod batch;
 mod broker;
 mod call;
+mod disposition;
 mod draft;
 mod escape;
 mod field;
@@ -37,6 +38,7 @@ mod location;
 mod media;
 mod moment;
 mod path;
+mod query;
 mod repeat;
 mod reserved;
 mod response;
@@ -51,4 +53,6 @@ pub use form::wants_json;
 pub use laws::{escaped_is_ascii, foreign_is_no_call, keyless_is_no_call, methods_are_told};
 pub use media::has_media_type;
 pub use response::{fault_response, host_of, line_response, response_of};
-pub use worked::{worked_callers, worked_calls, worked_forms, worked_parts, worked_responses};
+pub use worked::{
+    worked_callers, worked_calls, worked_dispositions, worked_forms, worked_parts, worked_responses,
+};

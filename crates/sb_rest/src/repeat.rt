@@ -33,8 +33,8 @@ pub(crate) fn by_in(
     by_from(alloc, client, number)
 }
 
-// The value of the last line of this name.
-fn last_of<'a>(text: &'a [u8], lines: &[HeaderSpan], name: &[u8]) -> Option<&'a [u8]>
+/// The value of the last line of this name.
+pub(crate) fn last_of<'a>(text: &'a [u8], lines: &[HeaderSpan], name: &[u8]) -> Option<&'a [u8]>
     requires { All (IsHeaderWithin (length text.now)) lines.now }
     ensures { option_map (λ v. v.now) result ≡ repeats.last_of name.now (map (header_bytes text.now) lines.now) }
 {

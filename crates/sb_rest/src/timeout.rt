@@ -1,25 +1,19 @@
 // How long a request may wait.
-ghost use Rattle.std.specs.Prelude.{◌≡◌, IfOk, codes, bytes_eq};
-ghost use Rattle.sb_lines.specs.Faults.{Answers, or_key};
+ghost use Rattle.std.specs.Prelude.{◌≡◌, option_map};
+ghost use Rattle.sb_lines.specs.Faults.{Answers};
 ghost use Rattle.sb_rest.specs.Timeouts as timeouts;
 
-use form_urlencoded::{decode, raw_pairs};
+use crate::query::value_of;
+use form_urlencoded::decode;
 use sb_http::number;
 use sb_lines::{LineFault, bad};
-use std::alloc::{AllocError, Global};
+use std::alloc::Global;
 
 /// The longest timeout, in s.
 const MAX_TIMEOUT: u64 = 3_600;
 
 /// The timeout where none is given, in s.
 const DEFAULT_TIMEOUT: u64 = 60;
-
-fn is_timeout(alloc: Global, name: &[u8]) -> Result<bool, AllocError>
-    ensures { IfOk result (λ b. b ≡ bytes_eq (timeouts.decoded name.now) (codes "timeout")) }
-{
-    let text = decode(alloc, name)?;
-    Ok(&*text == "timeout")
-}
 
 fn seconds_in(text: &[u8]) -> Option<u64>
     ensures { result ≡ timeouts.seconds_in text.now }
@@ -30,9 +24,12 @@ fn seconds_in(text: &[u8]) -> Option<u64>
     }
 }
 
-fn seconds_of(alloc: Global, value: &[u8]) -> Result<u64, LineFault>
-    ensures { Answers result (or_key (codes "timeout") (timeouts.seconds_in (timeouts.decoded value.now))) }
+fn timeout_from(alloc: Global, given: Option<&[u8]>) -> Result<u64, LineFault>
+    ensures { Answers result (timeouts.timeout_from (option_map (λ v. v.now) given.entry)) }
 {
+    let Some(value) = given else {
+        return Ok(DEFAULT_TIMEOUT);
+    };
     let text = decode(alloc, value)?;
     match seconds_in((&*text).as_bytes()) {
         Some(seconds) => Ok(seconds),
@@ -44,10 +41,6 @@ fn seconds_of(alloc: Global, value: &[u8]) -> Result<u64, LineFault>
 pub(crate) fn timeout_in(alloc: Global, query: &[u8]) -> Result<u64, LineFault>
     ensures { Answers result (timeouts.timeout_in query.now) }
 {
-    for (name, value) in raw_pairs(query) {
-        if is_timeout(alloc, name)? {
-            return seconds_of(alloc, value);
-        }
-    }
-    Ok(DEFAULT_TIMEOUT)
+    let given = value_of(alloc, query, "timeout")?;
+    timeout_from(alloc, given)
 }

@@ -4,14 +4,18 @@ ghost use Rattle.serde_json.specs.Data.{string};
 ghost use Rattle.serde_json.specs.Read.{read};
 ghost use Rattle.sb_machine.specs.declared.reply.Refusal.TheVariants.{BadCall, Stopped};
 ghost use Rattle.sb_model.specs.declared.message.PropertyValue.TheVariants.{Int, Text};
+ghost use Rattle.sb_machine.specs.declared.call.How.TheVariants as how;
 ghost use Rattle.sb_machine.specs.declared.call.Part.TheVariants.{Main};
 ghost use Rattle.sb_routes.specs.declared.routes.Address.TheVariants.{Entity};
 ghost use Rattle.sb_routes.specs.declared.routes.Route.TheVariants.{Messages, Locked};
 ghost use Rattle.sb_rest.specs.declared.call.RestFault.TheVariants.{Foreign, NoKey, NoRoute, BadMethod, Bad, Script};
 ghost use Rattle.sb_rest.specs.Batches as batches;
 ghost use Rattle.sb_rest.specs.Brokers.{broker_in};
-ghost use Rattle.sb_rest.specs.Calls.{call_of};
+ghost use Rattle.sb_rest.specs.Calls.{call_of, at_locked};
 ghost use Rattle.sb_rest.specs.Callers.{is_foreign, has_key, is_known, shows};
+ghost use Rattle.sb_rest.specs.declared.asked.Asked.TheVariants.{Put};
+ghost use Rattle.sb_rest.specs.Dispositions.{how_of};
+ghost use Rattle.sb_rest.specs.declared.disposition.Disposition.TheVariants.{DeadLetter};
 ghost use Rattle.sb_rest.specs.Escapes.{ascii_json};
 ghost use Rattle.sb_rest.specs.Forms.{fits_head, is_json_asked, lists_json, unasked};
 ghost use Rattle.sb_rest.specs.Lifetimes.{span_in};
@@ -19,7 +23,7 @@ ghost use Rattle.sb_rest.specs.Values.{header_value};
 ghost use Rattle.sb_rest.specs.Repeats as repeats;
 ghost use Rattle.sb_rest.specs.Responses.{refusal_text, method_response, key_response};
 ghost use Rattle.sb_rest.specs.Shown.{broker_text, location_text, property_fields};
-ghost use Rattle.sb_rest.specs.Worked.{request, sends, takes, takes_as, living, text_alone, q, unlocked, hosted, keyed, showing, first_token, first_copy, with_umlaut, smile};
+ghost use Rattle.sb_rest.specs.Worked.{request, sends, takes, takes_as, living, text_alone, q, unlocked, hosted, keyed, showing, puts, settles, why, first_token, first_copy, with_umlaut, smile};
 
 /// The definitions say of these requests what was worked out by hand.
 pub fn worked_calls()
@@ -93,6 +97,24 @@ pub fn worked_parts()
     ensures batch { batches.messages_in (codes "[{\"Body\":\"a\"},{}]") ≡ Ok (text_alone (codes "a") ∷ text_alone [] ∷ []) }
     ensures no_array { batches.messages_in (codes "{}") ≡ Err (codes "Body") }
     ensures batch_type { batches.is_batch_type (codes "Application/vnd.microsoft.servicebus.json ; charset=utf-8") ≡ true }
+{}
+
+/// The same of what becomes of a message under a lock.
+pub fn worked_dispositions()
+    ensures method { at_locked (Entity Main) (codes "PUT") ≡ Some (Put (Entity Main)) }
+    ensures abandon { puts [] (why (codes "7")) ≡ settles how.Abandon }
+    ensures defer { puts (codes "a=b&disposition=defer&disposition=x") (why (codes "7")) ≡ settles how.Defer }
+    ensures dead_letter { puts (codes "disposition=dead-letter") (why (codes "{\"DeadLetterReason\":\"r\"}")) ≡ settles (how.DeadLetter (Some (codes "r")) None) }
+    ensures another { puts (codes "disposition=drop") [] ≡ Err (codes "disposition") }
+    ensures before_number { puts (codes "disposition=abandon") ((codes "Repeat-Number", codes "1") ∷ []) ≡ Err (codes "disposition") }
+    ensures behind_timeout { puts (codes "disposition=drop&timeout=x") [] ≡ Err (codes "timeout") }
+    ensures behind_number { puts (codes "disposition=dead-letter") ((codes "Repeat-Number", codes "1") ∷ why (codes "7")) ≡ Err (codes "Repeat-Client") }
+    ensures both { how_of DeadLetter (why (codes "{\"DeadLetterErrorDescription\":\"d\",\"DeadLetterReason\":\"r\"}")) ≡ Ok (how.DeadLetter (Some (codes "r")) (Some (codes "d"))) }
+    ensures neither { how_of DeadLetter [] ≡ Ok (how.DeadLetter None None) }
+    ensures absent { how_of DeadLetter (why (codes "{\"DeadLetterReason\":\"\",\"DeadLetterErrorDescription\":null}")) ≡ Ok (how.DeadLetter None None) }
+    ensures no_reason { how_of DeadLetter (why (codes "{\"DeadLetterErrorDescription\":7,\"DeadLetterReason\":7}")) ≡ Err (codes "DeadLetterReason") }
+    ensures no_description { how_of DeadLetter (why (codes "{\"DeadLetterErrorDescription\":[]}")) ≡ Err (codes "DeadLetterErrorDescription") }
+    ensures no_object { how_of DeadLetter (why (codes "\"r\"")) ≡ Err (codes "BrokerProperties") }
 {}
 
 /// The same of the parts of responses.
