@@ -11,7 +11,7 @@ use Rattle.sb_model.specs.declared.message.SystemName.TheVariants.{ContentType}
 use Rattle.sb_machine.specs.Each.{Each}
 use Rattle.sb_machine.specs.Ordered.{IsActInOrder}
 use Rattle.sb_machine.specs.declared.call.Act.{Act}
-use Rattle.sb_machine.specs.declared.call.Act.TheVariants.{Receive, Renew}
+use Rattle.sb_machine.specs.declared.call.Act.TheVariants.{Cancel, Receive, ReceiveDeferred, Renew}
 use Rattle.sb_machine.specs.declared.call.How.TheVariants.{Complete}
 use Rattle.sb_machine.specs.declared.call.Mode.{Mode}
 use Rattle.sb_machine.specs.declared.call.Which.TheVariants.{Id}
@@ -177,8 +177,10 @@ asked_holds_with query fields act holds =
 
 act_holds : (a : PathAct) (path : List ℕ) → Holds IsActInOrder (calls.act_in a path)
 act_holds (act.Take a mode) path = known_holds IsActInOrder (calls.address_in a path) (λ from. Ok (Receive from mode None)) (λ from. tt)
+act_holds (act.TakeDeferred a mode) path = known_holds IsActInOrder (calls.numbered_in a path) (λ x. Ok (ReceiveDeferred x.0 x.1 mode None)) (λ x. tt)
 act_holds (act.Complete a) path = known_holds IsActInOrder (calls.locked_in a path) (λ l. Ok (calls.settled Complete l)) (λ l. tt)
-act_holds (act.Renew a) path = known_holds IsActInOrder (calls.locked_in a path) (λ l. Ok (Renew l.0 (Id l.1.0) l.1.1)) (λ l. tt)
+act_holds (act.Renew a) path = known_holds IsActInOrder (calls.locked_in a path) (λ l. Ok (Renew l.0 (Id l.1) l.2)) (λ l. tt)
+act_holds (act.Cancel a) path = known_holds IsActInOrder (calls.numbered_in a path) (λ x. Ok (Cancel x.0 x.1)) (λ x. tt)
 
 put_holds : (a : Address) (path query : List ℕ) (fields : List Field) → Holds IsWantedInOrder (calls.put a path query fields)
 unfolding calls.put
@@ -217,7 +219,9 @@ route_holds : (o : Option Route) (m : RequestMessage) → AreInOrder (calls.on_r
 route_holds None m = tt
 route_holds (Some route.Messages) m = asked_holds route.Messages (calls.if_post m.head.method asked.Send) m
 route_holds (Some (route.Head a)) m = asked_holds (route.Head a) (calls.at_head a m.head.method) m
+route_holds (Some (route.Deferred a)) m = asked_holds (route.Deferred a) (calls.at_deferred a m.head.method) m
 route_holds (Some (route.Locked a)) m = asked_holds (route.Locked a) (calls.at_locked a m.head.method) m
+route_holds (Some (route.Scheduled a)) m = asked_holds (route.Scheduled a) (calls.at_scheduled a m.head.method) m
 route_holds (Some route.Script) m = script_holds (bytes_eq m.head.method (codes "POST"))
 
 calls_hold : (foreign keyed : Bool) (m : RequestMessage) → AreInOrder (if foreign then Err Foreign else (if keyed then calls.routed m else Err NoKey))

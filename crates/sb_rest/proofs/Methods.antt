@@ -23,6 +23,11 @@ all_methods (route.Head a) method = by_both (bytes_eq method (codes "DELETE")) (
   by_both true p = refl
   by_both false true = refl
   by_both false false = refl
+all_methods (route.Deferred a) method = by_both (bytes_eq method (codes "DELETE")) (bytes_eq method (codes "POST")) where
+  by_both : (d p : Bool) → is_some (if d then Some (asked.Do (act.TakeDeferred a Delete)) else (if p then Some (asked.Do (act.TakeDeferred a Lock)) else None)) ≡ (d || (p || false))
+  by_both true p = refl
+  by_both false true = refl
+  by_both false false = refl
 all_methods (route.Locked a) method = by_all (bytes_eq method (codes "PUT")) (bytes_eq method (codes "DELETE")) (bytes_eq method (codes "POST")) where
   by_all : (u d p : Bool) → is_some (if u then Some (asked.Put a) else (if d then Some (asked.Do (act.Complete a)) else (if p then Some (asked.Do (act.Renew a)) else None))) ≡ (d || (p || (u || false)))
   by_all true true p = refl
@@ -31,6 +36,10 @@ all_methods (route.Locked a) method = by_all (bytes_eq method (codes "PUT")) (by
   by_all false true p = refl
   by_all false false true = refl
   by_all false false false = refl
+all_methods (route.Scheduled a) method = by_delete (bytes_eq method (codes "DELETE")) where
+  by_delete : (d : Bool) → is_some (if d then Some (asked.Do (act.Cancel a)) else None) ≡ (d || false)
+  by_delete true = refl
+  by_delete false = refl
 all_methods route.Script method = by_post (bytes_eq method (codes "POST")) where
   by_post : (p : Bool) → p ≡ (p || false)
   by_post true = refl

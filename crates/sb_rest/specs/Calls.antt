@@ -4,7 +4,7 @@ use Rattle.std.specs.List.{list_any}
 use Rattle.std.specs.Str.{str_to_ascii_lowercase}
 use Rattle.percent_encoding.specs.Percent.{percent_decode}
 use Rattle.sb_machine.specs.declared.call.Act.{Act}
-use Rattle.sb_machine.specs.declared.call.Act.TheVariants.{Receive, Settle, Renew, Send}
+use Rattle.sb_machine.specs.declared.call.Act.TheVariants.{Cancel, Receive, ReceiveDeferred, Settle, Renew, Send}
 use Rattle.sb_machine.specs.declared.call.By.{By}
 use Rattle.sb_machine.specs.declared.call.How.{How}
 use Rattle.sb_machine.specs.declared.call.How.TheVariants.{Complete}
@@ -38,7 +38,7 @@ use Rattle.sb_rest.specs.Callers.{is_foreign, has_key}
 use Rattle.sb_rest.specs.Batches as batches
 use Rattle.sb_rest.specs.Dispositions.{disposition_in, how_of}
 use Rattle.sb_rest.specs.Headers.{message_in}
-use Rattle.sb_rest.specs.Repeats.{by_of}
+use Rattle.sb_rest.specs.Repeats.{by_of, number_in}
 use Rattle.sb_rest.specs.Timeouts.{timeout_in}
 
 -- ---- methods
@@ -51,24 +51,36 @@ if_post method a = if bytes_eq method (codes "POST") then Some a else None
 abbrev pub at_head : Address → List ℕ → Option Asked
 at_head a method = if bytes_eq method (codes "DELETE") then Some (asked.Do (act.Take a Delete)) else if_post method (asked.Do (act.Take a Lock))
 
+-- what a deferred message is asked for, by the method
+abbrev pub at_deferred : Address → List ℕ → Option Asked
+at_deferred a method = if bytes_eq method (codes "DELETE") then Some (asked.Do (act.TakeDeferred a Delete)) else if_post method (asked.Do (act.TakeDeferred a Lock))
+
 -- what a message under a lock is asked for, by the method
 abbrev pub at_locked : Address → List ℕ → Option Asked
 at_locked a method =
     if bytes_eq method (codes "PUT") then Some (asked.Put a)
     else (if bytes_eq method (codes "DELETE") then Some (asked.Do (act.Complete a)) else if_post method (asked.Do (act.Renew a)))
 
+-- what a scheduled message is asked for, by the method
+abbrev pub at_scheduled : Address → List ℕ → Option Asked
+at_scheduled a method = if bytes_eq method (codes "DELETE") then Some (asked.Do (act.Cancel a)) else None
+
 -- the methods of a route
 abbrev pub methods_of : Route → List (List ℕ)
 methods_of route.Messages = codes "POST" ∷ []
 methods_of (route.Head a) = codes "DELETE" ∷ codes "POST" ∷ []
+methods_of (route.Deferred a) = codes "DELETE" ∷ codes "POST" ∷ []
 methods_of (route.Locked a) = codes "DELETE" ∷ codes "POST" ∷ codes "PUT" ∷ []
+methods_of (route.Scheduled a) = codes "DELETE" ∷ []
 methods_of route.Script = codes "POST" ∷ []
 
 -- whether a route takes this method
 abbrev pub takes : Route → List ℕ → Bool
 takes route.Messages method = is_some (if_post method asked.Send)
 takes (route.Head a) method = is_some (at_head a method)
+takes (route.Deferred a) method = is_some (at_deferred a method)
 takes (route.Locked a) method = is_some (at_locked a method)
+takes (route.Scheduled a) method = is_some (at_scheduled a method)
 takes route.Script method = bytes_eq method (codes "POST")
 
 -- those are all
@@ -97,10 +109,14 @@ behind_part Main n = n
 behind_part Dead n = suc n
 behind_part Transfer n = suc (suc n)
 
--- how many slashes stand before the id of a message
+-- how many slashes stand before the id or the number of a message
 abbrev pub id_place : Address → ℕ
 id_place (Entity part) = behind_part part 3
 id_place (Subscription part) = behind_part part 5
+
+-- the sequence number in a path, in decimal digits
+abbrev pub number_at : ℕ → List ℕ → Result ℕ (List ℕ)
+number_at n path = then_by (text_in n path) (λ text. or_key (codes "seq") (number_in text))
 
 -- the lock token in a path
 abbrev pub token_at : ℕ → List ℕ → Result Token (List ℕ)
@@ -117,7 +133,7 @@ locked_in a path =
 
 -- the settlement of a message that is held under a lock
 abbrev pub settled : How → Path × List ℕ × Token → Act
-settled how l = Settle l.0 (Id l.1.0) l.1.1 None how None
+settled how l = Settle l.0 (Id l.1) l.2 None how None
 
 -- its completion
 abbrev pub completed : Address → List ℕ → Result Act (List ℕ)
@@ -125,7 +141,19 @@ completed a path = then_by (locked_in a path) (λ l. Ok (settled Complete l))
 
 -- the renewal of its lock
 abbrev pub renewed : Address → List ℕ → Result Act (List ℕ)
-renewed a path = then_by (locked_in a path) (λ l. Ok (Renew l.0 (Id l.1.0) l.1.1))
+renewed a path = then_by (locked_in a path) (λ l. Ok (Renew l.0 (Id l.1) l.2))
+
+-- a message that its number names: whose it is, and the number
+abbrev pub numbered_in : Address → List ℕ → Result (Path × ℕ) (List ℕ)
+numbered_in a path = then_by (address_in a path) (λ from. then_by (number_at (id_place a) path) (λ number. Ok (from, number)))
+
+-- a receive of a deferred message
+abbrev pub taken_deferred : Address → Mode → List ℕ → Result Act (List ℕ)
+taken_deferred a mode path = then_by (numbered_in a path) (λ x. Ok (ReceiveDeferred x.0 x.1 mode None))
+
+-- taking a scheduled message back
+abbrev pub cancelled : Address → List ℕ → Result Act (List ℕ)
+cancelled a path = then_by (numbered_in a path) (λ x. Ok (Cancel x.0 x.1))
 
 -- a receive of each mode
 abbrev pub taken : Address → Mode → List ℕ → Result Act (List ℕ)
@@ -134,8 +162,10 @@ taken a mode path = then_by (address_in a path) (λ from. Ok (Receive from mode 
 -- the act that path and method say whole
 abbrev pub act_in : PathAct → List ℕ → Result Act (List ℕ)
 act_in (act.Take a mode) path = taken a mode path
+act_in (act.TakeDeferred a mode) path = taken_deferred a mode path
 act_in (act.Complete a) path = completed a path
 act_in (act.Renew a) path = renewed a path
+act_in (act.Cancel a) path = cancelled a path
 
 -- a call that may wait so many seconds
 abbrev pub in_time : Option By → Act → ℕ → Wanted
@@ -197,7 +227,9 @@ abbrev pub on_route : Option Route → RequestMessage → Result Wanted RestFaul
 on_route None m = Err NoRoute
 on_route (Some route.Messages) m = on_asked route.Messages (if_post m.head.method asked.Send) m
 on_route (Some (route.Head a)) m = on_asked (route.Head a) (at_head a m.head.method) m
+on_route (Some (route.Deferred a)) m = on_asked (route.Deferred a) (at_deferred a m.head.method) m
 on_route (Some (route.Locked a)) m = on_asked (route.Locked a) (at_locked a m.head.method) m
+on_route (Some (route.Scheduled a)) m = on_asked (route.Scheduled a) (at_scheduled a m.head.method) m
 on_route (Some route.Script) m = on_script m.head.method
 
 -- by its path, then its method, then the first key at fault

@@ -34,7 +34,7 @@ last_of name fields = last_from name None fields
 abbrev pub client_in : List ℕ → Option (List ℕ)
 client_in value = if is_between 1 50 (length value) then as_text value else None
 
--- a number of a call, in decimal digits
+-- a number of a call, or of a message, in decimal digits
 abbrev pub number_in : List ℕ → Option ℕ
 number_in value = if are_digits value && is_number (number_of value) then Some (number_of value) else None
 

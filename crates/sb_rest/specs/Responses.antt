@@ -1,18 +1,22 @@
 -- What answers a call over HTTP.
-use Rattle.std.specs.Prelude.{◌≡◌, ℕ, Bool, true, false, not, ◌&&◌, if◌then◌else◌, List, [], ◌∷◌, ◌++◌, codes, Option, Some, None, find, Result, Ok, Err}
+use Rattle.std.specs.Prelude.{◌≡◌, ℕ, Bool, true, false, not, ◌&&◌, if◌then◌else◌, List, [], ◌∷◌, ◌++◌, codes, is_some, Option, Some, None, find, Result, Ok, Err}
+use Rattle.std.specs.Fmt.{decimal}
 use Rattle.serde_json.specs.Written.{compact_text}
 use Rattle.sb_machine.specs.declared.call.Act.{Act}
-use Rattle.sb_machine.specs.declared.call.Act.TheVariants.{Send, Receive, Settle, Renew}
+use Rattle.sb_machine.specs.declared.call.Act.TheVariants.{Send, Cancel, Receive, ReceiveDeferred, Settle, Renew}
 use Rattle.sb_machine.specs.declared.call.Mode.{Mode}
 use Rattle.sb_machine.specs.declared.call.Mode.TheVariants.{Lock, Delete}
 use Rattle.sb_machine.specs.declared.call.Path.{Path}
 use Rattle.sb_machine.specs.declared.reply.Answered.{Answered}
 use Rattle.sb_machine.specs.declared.reply.Answered.TheVariants.{New, Kept}
 use Rattle.sb_machine.specs.declared.reply.CopyShown.{CopyShown}
+use Rattle.sb_machine.specs.declared.reply.Receipt.{Receipt}
+use Rattle.sb_machine.specs.declared.reply.Receipt.TheVariants.{Number, Duplicate}
 use Rattle.sb_machine.specs.declared.reply.Refusal.{Refusal}
 use Rattle.sb_machine.specs.declared.reply.Refusal.TheVariants as refusal
 use Rattle.sb_machine.specs.declared.reply.Reply.{Reply}
-use Rattle.sb_machine.specs.declared.reply.Reply.TheVariants.{Done, Sent, Message, Empty, Renewed}
+use Rattle.sb_machine.specs.declared.reply.Reply.TheVariants.{Done, Sent, Message, Empty, Expired, Renewed}
+use Rattle.sb_model.specs.declared.message.Message as message
 use Rattle.sb_http.specs.declared.response.Status.{Status}
 use Rattle.sb_http.specs.declared.response.Status.TheVariants as status
 use Rattle.sb_http.specs.Fields.{Field, same_word}
@@ -43,6 +47,8 @@ refusal_status refusal.EntityNotFound = status.Gone
 refusal_status (refusal.TooLarge size) = status.Forbidden
 refusal_status (refusal.QuotaExceeded copies adds) = status.Forbidden
 refusal_status refusal.LockLost = status.NotFound
+refusal_status refusal.NotDeferred = status.NotFound
+refusal_status refusal.NotScheduled = status.NotFound
 refusal_status (refusal.TxnPending txn) = status.Conflict
 refusal_status (refusal.StaleNumber kept) = status.Conflict
 refusal_status refusal.NumberReused = status.Conflict
@@ -95,12 +101,36 @@ fault_response OutOfMemory = refusal_response refusal.OutOfMemory
 
 -- ---- replies; one that no call of a route is answered is an error of the server's own
 
--- the status of a send
-abbrev pub sent_status : Reply → Status
-sent_status (Sent receipts) = status.Created
-sent_status _ = status.InternalServerError
+-- BrokerProperties with a sequence number alone
+abbrev pub number_text : ℕ → List ℕ
+number_text n = codes "{\"SequenceNumber\":" ++ decimal n ++ codes "}"
 
--- the status of a settlement
+-- the header field of a message's number; a duplicate has none
+abbrev pub receipt_fields : Receipt → List Field
+receipt_fields (Number n) = (codes "BrokerProperties", number_text n) ∷ []
+receipt_fields Duplicate = []
+
+-- the same of the first of several
+abbrev pub first_fields : List Receipt → List Field
+first_fields [] = []
+first_fields (receipt ∷ receipts) = receipt_fields receipt
+
+-- this is one message, with a moment for which it waits
+abbrev pub is_one_scheduled : List message.Message → Bool
+is_one_scheduled [] = false
+is_one_scheduled (m ∷ []) = is_some m.schedule
+is_one_scheduled (m ∷ n ∷ ms) = false
+
+-- of one scheduled message its number is told, by which it is cancelled
+abbrev pub sent_fields : Bool → List Receipt → List Field
+sent_fields is_scheduled receipts = if is_scheduled then first_fields receipts else []
+
+-- the response to a send
+abbrev pub sent_response : List message.Message → Reply → ResponseMessage
+sent_response messages (Sent receipts) = record { status = status.Created; fields = sent_fields (is_one_scheduled messages) receipts; body = []; ends = false }
+sent_response messages _ = bare status.InternalServerError
+
+-- the status of a settlement, and of a cancel
 abbrev pub settled_status : Reply → Status
 settled_status Done = status.Ok
 settled_status _ = status.InternalServerError
@@ -140,12 +170,15 @@ pub record GivesMessage (from : Path) (mode : Mode) (host : List ℕ) (json : Bo
 abbrev pub GivesTaken : Path → Mode → List ℕ → Bool → Reply → ResponseMessage → Type 0
 GivesTaken from mode host json (Message c) r = GivesMessage from mode host json c r
 GivesTaken from mode host json Empty r = r ≡ bare status.NoContent
+GivesTaken from mode host json (Expired n) r = r ≡ bare status.NoContent
 GivesTaken from mode host json _ r = r ≡ bare status.InternalServerError
 
 -- this is the response to a call that was accepted
 abbrev pub GivesReply : Act → List ℕ → Bool → Reply → ResponseMessage → Type 0
-GivesReply (Send to messages txn) host json reply r = r ≡ bare (sent_status reply)
+GivesReply (Send to messages txn) host json reply r = r ≡ sent_response messages reply
+GivesReply (Cancel from number) host json reply r = r ≡ bare (settled_status reply)
 GivesReply (Receive from mode session) host json reply r = GivesTaken from mode host json reply r
+GivesReply (ReceiveDeferred from number mode session) host json reply r = GivesTaken from mode host json reply r
 GivesReply (Settle from which token session how txn) host json reply r = r ≡ bare (settled_status reply)
 GivesReply (Renew from which token) host json reply r = r ≡ bare (renewed_status reply)
 GivesReply _ host json reply r = r ≡ bare status.InternalServerError

@@ -1,7 +1,8 @@
 -- Requests that were worked out by hand, and what they ask for.
 use Rattle.std.specs.Prelude.{ℕ, List, [], ◌∷◌, codes, Some, None, Result, Ok}
-use Rattle.sb_machine.specs.declared.call.Act.TheVariants.{Receive, Send, Settle}
+use Rattle.sb_machine.specs.declared.call.Act.TheVariants.{Cancel, Receive, ReceiveDeferred, Send, Settle}
 use Rattle.sb_machine.specs.declared.call.How.{How}
+use Rattle.sb_machine.specs.declared.call.Mode.{Mode}
 use Rattle.sb_machine.specs.declared.call.Mode.TheVariants.{Lock}
 use Rattle.sb_machine.specs.declared.call.Part.TheVariants.{Main}
 use Rattle.sb_machine.specs.declared.call.Path.{Path}
@@ -31,6 +32,10 @@ q = record { name = codes "q"; subscription = None; part = Main }
 abbrev pub text_alone : List ℕ → Message
 text_alone body = record { body = body; sys = []; props = []; ttl = None; schedule = None }
 
+-- one that waits for the fifth second of 1970
+abbrev pub waiting : Message
+waiting = record { body = codes "hi"; sys = []; props = []; ttl = None; schedule = Some 5000 }
+
 -- a time to live of so many s and no more
 abbrev pub living : ℕ → Broker
 living ttl = record { texts = []; ttl = Some ttl; schedule = None }
@@ -53,6 +58,16 @@ takes timeout = Ok (in_time None (Receive q Lock None) timeout)
 -- the same as call 7 of c
 abbrev pub takes_as : ℕ → Result Wanted RestFault
 takes_as timeout = Ok (in_time (Some (record { client = codes "c"; number = 7 })) (Receive q Lock None) timeout)
+
+-- ---- a message by its number
+
+-- a receive of this deferred message
+abbrev pub takes_deferred : ℕ → Mode → ℕ → Result Wanted RestFault
+takes_deferred number mode timeout = Ok (in_time None (ReceiveDeferred q number mode None) timeout)
+
+-- this scheduled message is taken back
+abbrev pub cancels : ℕ → Result Wanted RestFault
+cancels number = Ok (in_time None (Cancel q number) 60)
 
 -- ---- a message under a lock
 

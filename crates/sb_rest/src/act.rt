@@ -4,7 +4,7 @@ ghost use Rattle.sb_lines.specs.Faults.{Answers};
 ghost use Rattle.sb_rest.specs.Calls as calls;
 
 use crate::asked::PathAct;
-use crate::path::{address_in, id_place, text_in, token_at};
+use crate::path::{address_in, id_place, number_at, text_in, token_at};
 use sb_lines::LineFault;
 use sb_machine::{Act, How, Mode, Path, Token, Which};
 use sb_model::Text;
@@ -17,8 +17,10 @@ pub(crate) fn act_in(alloc: Global, asked: PathAct, path: &[u8]) -> Result<Act, 
 {
     match asked {
         PathAct::Take(address, mode) => taken(alloc, address, mode, path),
+        PathAct::TakeDeferred(address, mode) => taken_deferred(alloc, address, mode, path),
         PathAct::Complete(address) => completed(alloc, address, path),
         PathAct::Renew(address) => renewed(alloc, address, path),
+        PathAct::Cancel(address) => cancelled(alloc, address, path),
     }
 }
 
@@ -81,4 +83,39 @@ fn taken(alloc: Global, address: Address, mode: Mode, path: &[u8]) -> Result<Act
         mode,
         session: None,
     })
+}
+
+// Whose a message that its number names is, and the number.
+fn numbered_in(alloc: Global, address: Address, path: &[u8]) -> Result<(Path, u64), LineFault>
+    ensures { Answers result (calls.numbered_in address path.now) }
+{
+    let from = address_in(alloc, address, path)?;
+    let number = number_at(alloc, path, id_place(address))?;
+    Ok((from, number))
+}
+
+// That a deferred message is received.
+fn taken_deferred(
+    alloc: Global,
+    address: Address,
+    mode: Mode,
+    path: &[u8],
+) -> Result<Act, LineFault>
+    ensures { Answers result (calls.taken_deferred address mode path.now) }
+{
+    let (from, number) = numbered_in(alloc, address, path)?;
+    Ok(Act::ReceiveDeferred {
+        from,
+        number,
+        mode,
+        session: None,
+    })
+}
+
+// That a scheduled message is taken back.
+fn cancelled(alloc: Global, address: Address, path: &[u8]) -> Result<Act, LineFault>
+    ensures { Answers result (calls.cancelled address path.now) }
+{
+    let (from, number) = numbered_in(alloc, address, path)?;
+    Ok(Act::Cancel { from, number })
 }

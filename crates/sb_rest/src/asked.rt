@@ -19,8 +19,12 @@ pub enum Asked {
 pub enum PathAct {
     /// To receive the first message, under a lock or with deletion.
     Take(Address, Mode),
+    /// To receive a deferred message, likewise.
+    TakeDeferred(Address, Mode),
     Complete(Address),
     Renew(Address),
+    /// To take a scheduled message back.
+    Cancel(Address),
 }
 
 /// Whether these are the same bytes.
@@ -51,6 +55,19 @@ pub(crate) fn at_head(address: Address, method: &[u8]) -> Option<Asked>
     if_post(method, Asked::Do(PathAct::Take(address, Mode::Lock)))
 }
 
+/// What a method asks for at a deferred message.
+pub(crate) fn at_deferred(address: Address, method: &[u8]) -> Option<Asked>
+    ensures { result ≡ calls.at_deferred address method.now }
+{
+    if is(method, b"DELETE") {
+        return Some(Asked::Do(PathAct::TakeDeferred(address, Mode::Delete)));
+    }
+    if_post(
+        method,
+        Asked::Do(PathAct::TakeDeferred(address, Mode::Lock)),
+    )
+}
+
 /// What a method asks for at a message under a lock.
 pub(crate) fn at_locked(address: Address, method: &[u8]) -> Option<Asked>
     ensures { result ≡ calls.at_locked address method.now }
@@ -62,4 +79,15 @@ pub(crate) fn at_locked(address: Address, method: &[u8]) -> Option<Asked>
         return Some(Asked::Do(PathAct::Complete(address)));
     }
     if_post(method, Asked::Do(PathAct::Renew(address)))
+}
+
+/// What a method asks for at a scheduled message.
+pub(crate) fn at_scheduled(address: Address, method: &[u8]) -> Option<Asked>
+    ensures { result ≡ calls.at_scheduled address method.now }
+{
+    if is(method, b"DELETE") {
+        Some(Asked::Do(PathAct::Cancel(address)))
+    } else {
+        None
+    }
 }

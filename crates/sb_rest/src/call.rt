@@ -9,7 +9,7 @@ ghost use Rattle.sb_rest.specs.Calls as calls;
 
 use crate::access::{Access, has_key, is_foreign};
 use crate::act::{act_in, locked_in, settled};
-use crate::asked::{Asked, PathAct, at_head, at_locked, if_post, is};
+use crate::asked::{Asked, PathAct, at_deferred, at_head, at_locked, at_scheduled, if_post, is};
 use crate::batch::{is_batch, messages_in as batch_in};
 use crate::disposition::{disposition_in, how_of};
 use crate::header::message_in;
@@ -240,7 +240,9 @@ fn on_route(
     let asked = match route {
         Route::Messages => if_post(request.method, Asked::Send),
         Route::Head(address) => at_head(address, request.method),
+        Route::Deferred(address) => at_deferred(address, request.method),
         Route::Locked(address) => at_locked(address, request.method),
+        Route::Scheduled(address) => at_scheduled(address, request.method),
         Route::Script => return on_script(request.method),
     };
     on_asked(alloc, route, asked, path, query, request)
@@ -278,7 +280,7 @@ fn wanted_of(
 
 /// The call of a request, or why it is none: first that a page of another origin made it, then that it
 /// doesn't show the key, then that there is no such path, then that its method isn't one of it, then
-/// the first key at fault, by its place: the path (`path`, `token`), the query (`timeout`,
+/// the first key at fault, by its place: the path (`path`, `token`, `seq`), the query (`timeout`,
 /// `disposition`), the number of the call (`Repeat-Client`, `Repeat-Number`), the headers as they stand,
 /// the body.
 pub fn call_of(

@@ -54,5 +54,6 @@ pub use laws::{escaped_is_ascii, foreign_is_no_call, keyless_is_no_call, methods
 pub use media::has_media_type;
 pub use response::{fault_response, host_of, line_response, response_of};
 pub use worked::{
-    worked_callers, worked_calls, worked_dispositions, worked_forms, worked_parts, worked_responses,
+    worked_callers, worked_calls, worked_dispositions, worked_forms, worked_numbers, worked_parts,
+    worked_responses,
 };

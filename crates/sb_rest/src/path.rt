@@ -3,6 +3,7 @@ ghost use Rattle.std.specs.Prelude.{◌≡◌};
 ghost use Rattle.sb_lines.specs.Faults.{Answers};
 ghost use Rattle.sb_rest.specs.Calls as calls;
 
+use crate::repeat::decimal_in;
 use percent_encoding::percent_decode;
 use sb_lines::{LineFault, bad, token_of};
 use sb_machine::{Part, Path, Token};
@@ -57,7 +58,7 @@ pub(crate) fn address_in(alloc: Global, address: Address, path: &[u8]) -> Result
     }
 }
 
-/// How many slashes stand before the id of a message.
+/// How many slashes stand before the id or the number of a message.
 pub(crate) fn id_place(address: Address) -> usize
     ensures { result ≡ calls.id_place address }
 {
@@ -68,6 +69,17 @@ pub(crate) fn id_place(address: Address) -> usize
         Address::Subscription(Part::Main) => 5,
         Address::Subscription(Part::Dead) => 6,
         Address::Subscription(Part::Transfer) => 7,
+    }
+}
+
+/// The sequence number that a segment is, in decimal digits.
+pub(crate) fn number_at(alloc: Global, path: &[u8], n: usize) -> Result<u64, LineFault>
+    ensures { Answers result (calls.number_at n path.now) }
+{
+    let text = text_in(alloc, path, n)?;
+    match decimal_in(text.as_bytes()) {
+        Some(number) => Ok(number),
+        None => bad(alloc, "seq"),
     }
 }
 

@@ -15,7 +15,7 @@ use std::alloc::Global;
 /// The most bytes of a client's name.
 const MAX_CLIENT: usize = 50;
 
-/// The greatest number of a call, 2^63 - 1.
+/// The greatest number of a call or a message, 2^63 - 1.
 const MAX_NUMBER: u64 = 9_223_372_036_854_775_807;
 
 /// The client and the number that a request gives its call, if it gives them; one without the other is
@@ -82,7 +82,8 @@ fn client_in(alloc: Global, value: &[u8]) -> Result<Text, LineFault>
     Ok(Text::of(alloc, text)?)
 }
 
-fn decimal_in(value: &[u8]) -> Option<u64>
+/// The number of a call or a message.
+pub(crate) fn decimal_in(value: &[u8]) -> Option<u64>
     ensures { result ≡ repeats.number_in value.now }
 {
     match number(value) {

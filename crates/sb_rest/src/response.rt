@@ -1,5 +1,5 @@
 // Answers as responses.
-ghost use Rattle.std.specs.Prelude.{◌≡◌, false, IfOk, All, map, length, codes, string_bytes};
+ghost use Rattle.std.specs.Prelude.{◌≡◌, ◌++◌, false, IfOk, OnOk, All, map, length, codes, string_bytes};
 ghost use Rattle.httparse.specs.Spans.{IsHeaderWithin, header_bytes};
 ghost use Rattle.serde_json.specs.Written.{compact_text};
 ghost use Rattle.sb_lines.specs.Refusals.{plain, refusal_data};
@@ -16,7 +16,8 @@ use crate::shown::json_line;
 use httparse::spans::HeaderSpan;
 use sb_http::{Header, Request, Response, Status, is_word};
 use sb_lines::{message_text, refusal_value};
-use sb_machine::{Act, Answer, Answered, Call, CopyShown, Mode, Path, Refusal, Reply};
+use sb_machine::{Act, Answer, Answered, Call, CopyShown, Mode, Path, Receipt, Refusal, Reply};
+use sb_model::Message;
 use sb_routes::Route;
 use std::alloc::{AllocError, Global};
 
@@ -43,7 +44,7 @@ fn refusal_status(refusal: &Refusal) -> Status
         | Refusal::SessionRequired => Status::BadRequest,
         Refusal::EntityNotFound => Status::Gone,
         Refusal::TooLarge { .. } | Refusal::QuotaExceeded { .. } => Status::Forbidden,
-        Refusal::LockLost => Status::NotFound,
+        Refusal::LockLost | Refusal::NotDeferred | Refusal::NotScheduled => Status::NotFound,
         Refusal::TxnPending { .. }
         | Refusal::StaleNumber { .. }
         | Refusal::NumberReused
@@ -106,7 +107,9 @@ fn allowed(route: Route) -> &'static [u8]
     match route {
         Route::Messages => b"POST",
         Route::Head(_) => b"DELETE, POST",
+        Route::Deferred(_) => b"DELETE, POST",
         Route::Locked(_) => b"DELETE, POST, PUT",
+        Route::Scheduled(_) => b"DELETE",
         Route::Script => b"POST",
     }
 }
@@ -155,12 +158,81 @@ pub fn fault_response(alloc: Global, fault: RestFault) -> Result<Response, Alloc
 
 // ---- replies
 
-fn sent_status(reply: &Reply) -> Status
-    ensures { result ≡ responses.sent_status reply.now }
+// BrokerProperties with a sequence number alone.
+fn number_text(alloc: Global, number: u64) -> Result<Vec<u8>, AllocError>
+    ensures { IfOk result (λ v. v.items ≡ responses.number_text number) }
+{
+    let digits = number.to_string(alloc)?;
+    let mut out = Vec::new(alloc);
+    out.extend_from_slice(b"{\"SequenceNumber\":")?;
+    out.extend_from_slice(digits.as_bytes())?;
+    out.extend_from_slice(b"}")?;
+    Ok(out)
+}
+
+fn push_receipt(
+    alloc: Global,
+    headers: &mut Vec<Header>,
+    receipt: Receipt,
+) -> Result<(), AllocError>
+    ensures { OnOk result (map field_in headers.new.items ≡ map field_in headers.old.items ++ responses.receipt_fields receipt) }
+{
+    match receipt {
+        Receipt::Number(number) => {
+            let text = number_text(alloc, number)?;
+            push_field(alloc, headers, b"BrokerProperties", &text)
+        }
+        Receipt::Duplicate => Ok(()),
+    }
+}
+
+fn push_first(
+    alloc: Global,
+    headers: &mut Vec<Header>,
+    receipts: &[Receipt],
+) -> Result<(), AllocError>
+    ensures { OnOk result (map field_in headers.new.items ≡ map field_in headers.old.items ++ responses.first_fields receipts.now) }
+{
+    match receipts {
+        [receipt, ..] => push_receipt(alloc, headers, *receipt),
+        [] => Ok(()),
+    }
+}
+
+fn is_one_scheduled(messages: &[Message]) -> bool
+    ensures { result ≡ responses.is_one_scheduled messages.now }
+{
+    match messages {
+        [message] => message.schedule.is_some(),
+        _ => false,
+    }
+}
+
+fn sent_fields(
+    alloc: Global,
+    is_scheduled: bool,
+    receipts: &[Receipt],
+) -> Result<Vec<Header>, AllocError>
+    ensures { IfOk result (λ v. map field_in v.items ≡ responses.sent_fields is_scheduled receipts.now) }
+{
+    let mut headers = Vec::new(alloc);
+    if is_scheduled {
+        push_first(alloc, &mut headers, receipts)?;
+    }
+    Ok(headers)
+}
+
+fn sent_response(alloc: Global, messages: &[Message], reply: &Reply) -> Result<Response, AllocError>
+    ensures { IfOk result (λ r. said_in r ≡ responses.sent_response messages.now reply.now) }
 {
     match reply {
-        Reply::Sent(_) => Status::Created,
-        _ => Status::InternalServerError,
+        Reply::Sent(receipts) => Ok(Response {
+            status: Status::Created,
+            headers: sent_fields(alloc, is_one_scheduled(messages), receipts.as_slice())?,
+            body: Vec::new(alloc),
+            closes: false,
+        }),
+        _ => Ok(bare(alloc, Status::InternalServerError)),
     }
 }
 
@@ -285,7 +357,7 @@ fn taken_response(
 {
     match reply {
         Reply::Message(copy) => message_response(alloc, from, mode, host, json, copy),
-        Reply::Empty => Ok(bare(alloc, Status::NoContent)),
+        Reply::Empty | Reply::Expired { .. } => Ok(bare(alloc, Status::NoContent)),
         _ => Ok(bare(alloc, Status::InternalServerError)),
     }
 }
@@ -300,9 +372,11 @@ fn reply_response(
     ensures { IfOk result (λ r. responses.GivesReply act.now host.now json reply.now (said_in r)) }
 {
     match act {
-        Act::Send { .. } => Ok(bare(alloc, sent_status(reply))),
-        Act::Receive { from, mode, .. } => taken_response(alloc, from, *mode, host, json, reply),
-        Act::Settle { .. } => Ok(bare(alloc, settled_status(reply))),
+        Act::Send { messages, .. } => sent_response(alloc, messages.as_slice(), reply),
+        Act::Receive { from, mode, .. } | Act::ReceiveDeferred { from, mode, .. } => {
+            taken_response(alloc, from, *mode, host, json, reply)
+        }
+        Act::Settle { .. } | Act::Cancel { .. } => Ok(bare(alloc, settled_status(reply))),
         Act::Renew { .. } => Ok(bare(alloc, renewed_status(reply))),
         _ => Ok(bare(alloc, Status::InternalServerError)),
     }
@@ -328,7 +402,8 @@ fn kept_response(
 /// The response to a call that is answered so, with the host that its request names (`host_of`), and
 /// whether that asks for messages as JSON (`wants_json`). A message that is received has its texts
 /// and properties as fields, or is all in the body as JSON where that is asked for, or where an
-/// ordinary client could not take the head (64 lines of fields, 16,384 bytes). A reply that no call of a route is answered is an error
+/// ordinary client could not take the head (64 lines of fields, 16,384 bytes). The send of one
+/// scheduled message is answered with its number. A reply that no call of a route is answered is an error
 /// of the server's own. It fails for want of memory alone.
 pub fn response_of(
     alloc: Global,

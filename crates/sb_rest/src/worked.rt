@@ -2,16 +2,20 @@
 ghost use Rattle.std.specs.Prelude.{◌≡◌, ◌∷◌, [], codes, true, false, replicate, Err, None, Ok, Some, pos, neg_ℤ};
 ghost use Rattle.serde_json.specs.Data.{string};
 ghost use Rattle.serde_json.specs.Read.{read};
-ghost use Rattle.sb_machine.specs.declared.reply.Refusal.TheVariants.{BadCall, Stopped};
+ghost use Rattle.sb_machine.specs.declared.reply.Refusal.TheVariants.{BadCall, NotDeferred, NotScheduled, Stopped};
 ghost use Rattle.sb_model.specs.declared.message.PropertyValue.TheVariants.{Int, Text};
 ghost use Rattle.sb_machine.specs.declared.call.How.TheVariants as how;
+ghost use Rattle.sb_machine.specs.declared.call.Mode.TheVariants as mode;
 ghost use Rattle.sb_machine.specs.declared.call.Part.TheVariants.{Main};
+ghost use Rattle.sb_machine.specs.declared.reply.Receipt.TheVariants.{Number, Duplicate};
+ghost use Rattle.sb_machine.specs.declared.reply.Reply.TheVariants.{Sent};
 ghost use Rattle.sb_routes.specs.declared.routes.Address.TheVariants.{Entity};
-ghost use Rattle.sb_routes.specs.declared.routes.Route.TheVariants.{Messages, Locked};
+ghost use Rattle.sb_routes.specs.declared.routes.Route.TheVariants.{Messages, Deferred, Locked, Scheduled};
+ghost use Rattle.sb_http.specs.declared.response.Status.TheVariants as status;
 ghost use Rattle.sb_rest.specs.declared.call.RestFault.TheVariants.{Foreign, NoKey, NoRoute, BadMethod, Bad, Script};
 ghost use Rattle.sb_rest.specs.Batches as batches;
 ghost use Rattle.sb_rest.specs.Brokers.{broker_in};
-ghost use Rattle.sb_rest.specs.Calls.{call_of, at_locked};
+ghost use Rattle.sb_rest.specs.Calls.{call_of, at_locked, number_at};
 ghost use Rattle.sb_rest.specs.Callers.{is_foreign, has_key, is_known, shows};
 ghost use Rattle.sb_rest.specs.declared.asked.Asked.TheVariants.{Put};
 ghost use Rattle.sb_rest.specs.Dispositions.{how_of};
@@ -21,9 +25,9 @@ ghost use Rattle.sb_rest.specs.Forms.{fits_head, is_json_asked, lists_json, unas
 ghost use Rattle.sb_rest.specs.Lifetimes.{span_in};
 ghost use Rattle.sb_rest.specs.Values.{header_value};
 ghost use Rattle.sb_rest.specs.Repeats as repeats;
-ghost use Rattle.sb_rest.specs.Responses.{refusal_text, method_response, key_response};
+ghost use Rattle.sb_rest.specs.Responses.{refusal_status, refusal_text, method_response, key_response, sent_response};
 ghost use Rattle.sb_rest.specs.Shown.{broker_text, location_text, property_fields};
-ghost use Rattle.sb_rest.specs.Worked.{request, sends, takes, takes_as, living, text_alone, q, unlocked, hosted, keyed, showing, puts, settles, why, first_token, first_copy, with_umlaut, smile};
+ghost use Rattle.sb_rest.specs.Worked.{request, sends, takes, takes_as, living, text_alone, q, unlocked, hosted, keyed, showing, waiting, takes_deferred, cancels, puts, settles, why, first_token, first_copy, with_umlaut, smile};
 
 /// The definitions say of these requests what was worked out by hand.
 pub fn worked_calls()
@@ -108,13 +112,30 @@ pub fn worked_dispositions()
     ensures another { puts (codes "disposition=drop") [] ≡ Err (codes "disposition") }
     ensures before_number { puts (codes "disposition=abandon") ((codes "Repeat-Number", codes "1") ∷ []) ≡ Err (codes "disposition") }
     ensures behind_timeout { puts (codes "disposition=drop&timeout=x") [] ≡ Err (codes "timeout") }
-    ensures behind_number { puts (codes "disposition=dead-letter") ((codes "Repeat-Number", codes "1") ∷ why (codes "7")) ≡ Err (codes "Repeat-Client") }
+    ensures behind_number { puts (codes "disposition=dead-letter") ((codes "Repeat-Number", codes "1") ∷ why (codes "7")) ≡ Err (codes "Repeat-Number") }
     ensures both { how_of DeadLetter (why (codes "{\"DeadLetterErrorDescription\":\"d\",\"DeadLetterReason\":\"r\"}")) ≡ Ok (how.DeadLetter (Some (codes "r")) (Some (codes "d"))) }
     ensures neither { how_of DeadLetter [] ≡ Ok (how.DeadLetter None None) }
     ensures absent { how_of DeadLetter (why (codes "{\"DeadLetterReason\":\"\",\"DeadLetterErrorDescription\":null}")) ≡ Ok (how.DeadLetter None None) }
     ensures no_reason { how_of DeadLetter (why (codes "{\"DeadLetterErrorDescription\":7,\"DeadLetterReason\":7}")) ≡ Err (codes "DeadLetterReason") }
     ensures no_description { how_of DeadLetter (why (codes "{\"DeadLetterErrorDescription\":[]}")) ≡ Err (codes "DeadLetterErrorDescription") }
     ensures no_object { how_of DeadLetter (why (codes "\"r\"")) ≡ Err (codes "BrokerProperties") }
+{}
+
+/// The same of messages that are named by their numbers.
+pub fn worked_numbers()
+    ensures deferred { call_of unlocked (request (codes "POST") (codes "/q/messages/7?timeout=0") [] []) ≡ takes_deferred 7 mode.Lock 0 }
+    ensures deleted { call_of unlocked (request (codes "DELETE") (codes "/Q/messages/7") [] []) ≡ takes_deferred 7 mode.Delete 60 }
+    ensures cancelled { call_of unlocked (request (codes "DELETE") (codes "/q/scheduled/7") [] []) ≡ cancels 7 }
+    ensures no_number { call_of unlocked (request (codes "POST") (codes "/q/messages/m") [] []) ≡ Err (Bad (codes "seq")) }
+    ensures number_first { call_of unlocked (request (codes "DELETE") (codes "/q/scheduled/0?timeout=x") [] []) ≡ Err (Bad (codes "seq")) }
+    ensures then_timeout { call_of unlocked (request (codes "DELETE") (codes "/q/scheduled/1?timeout=x") [] []) ≡ Err (Bad (codes "timeout")) }
+    ensures method { call_of unlocked (request (codes "PUT") (codes "/q/messages/7") [] []) ≡ Err (BadMethod (Deferred (Entity Main))) }
+    ensures another_method { call_of unlocked (request (codes "POST") (codes "/q/scheduled/7") [] []) ≡ Err (BadMethod (Scheduled (Entity Main))) }
+    ensures greatest { number_at 1 (codes "/9223372036854775807") ≡ Ok 9223372036854775807 }
+    ensures above { number_at 1 (codes "/9223372036854775808") ≡ Err (codes "seq") }
+    ensures escaped { number_at 1 (codes "/%30%37/x") ≡ Ok 7 }
+    ensures signed { number_at 1 (codes "/+7") ≡ Err (codes "seq") }
+    ensures no_text { number_at 1 (codes "/%FF") ≡ Err (codes "path") }
 {}
 
 /// The same of the parts of responses.
@@ -127,6 +148,14 @@ pub fn worked_responses()
     ensures property { property_fields (record { name = codes "a"; value = Text (codes "x") }) ≡ (codes "a", codes "\"x\"") ∷ [] }
     ensures key { key_response.fields ≡ (codes "WWW-Authenticate", codes "Bearer") ∷ [] }
     ensures allow { (method_response (Locked (Entity Main))).fields ≡ (codes "Allow", codes "DELETE, POST, PUT") ∷ [] }
+    ensures allow_deferred { (method_response (Deferred (Entity Main))).fields ≡ (codes "Allow", codes "DELETE, POST") ∷ [] }
+    ensures allow_scheduled { (method_response (Scheduled (Entity Main))).fields ≡ (codes "Allow", codes "DELETE") ∷ [] }
+    ensures sent { sent_response (waiting ∷ []) (Sent (Number 7 ∷ [])) ≡ record { status = status.Created; fields = (codes "BrokerProperties", codes "{\"SequenceNumber\":7}") ∷ []; body = []; ends = false } }
+    ensures sent_at_once { (sent_response (text_alone (codes "hi") ∷ []) (Sent (Number 7 ∷ []))).fields ≡ [] }
+    ensures sent_twice { (sent_response (waiting ∷ []) (Sent (Duplicate ∷ []))).fields ≡ [] }
+    ensures sent_two { (sent_response (waiting ∷ waiting ∷ []) (Sent (Number 7 ∷ Number 8 ∷ []))).fields ≡ [] }
+    ensures not_deferred { refusal_status NotDeferred ≡ status.NotFound }
+    ensures not_scheduled { refusal_status NotScheduled ≡ status.NotFound }
     ensures umlaut { ascii_json with_umlaut ≡ codes "f\\u00fcr" }
     ensures pair { ascii_json smile ≡ codes "\\ud83d\\ude00" }
     ensures delete { ascii_json (126 ∷ 127 ∷ []) ≡ codes "~\\u007f" }

@@ -1,5 +1,5 @@
 -- The routes, and the one that a path has.
-use Rattle.std.specs.Prelude.{ℕ, List, [], ◌∷◌, codes, fold, Option, option_map, option_and_then, Result, Ok, Err}
+use Rattle.std.specs.Prelude.{ℕ, List, [], ◌∷◌, ◌++◌, codes, fold, Option, option_map, option_and_then, Result, Ok, Err}
 use Rattle.matchit.specs.Rows.{RowsOf}
 use Rattle.matchit.specs.Order.{placed}
 use Rattle.matchit.specs.Route.{Scan, parse_route}
@@ -7,35 +7,37 @@ use Rattle.matchit.specs.Router.{RouteOf, route_from}
 use Rattle.matchit.specs.Seek.{first}
 use Rattle.matchit.specs.declared.error.InsertError.{InsertError}
 use Rattle.sb_machine.specs.declared.call.Part.TheVariants.{Main, Dead, Transfer}
+use Rattle.sb_routes.specs.declared.routes.Address.{Address}
 use Rattle.sb_routes.specs.declared.routes.Address.TheVariants.{Entity, Subscription}
 use Rattle.sb_routes.specs.declared.routes.Route.{Route}
-use Rattle.sb_routes.specs.declared.routes.Route.TheVariants.{Messages, Head, Locked, Script}
+use Rattle.sb_routes.specs.declared.routes.Route.TheVariants.{Messages, Head, Deferred, Locked, Scheduled, Script}
 use Rattle.sb_routes.specs.Paths.{looked_up, as_text}
 
 -- ---- the table
 
--- of queues and topics
-unfoldable pub entities : List (List ℕ × Route)
-entities =
-    (codes "/{name}/messages", Messages)
-    ∷ (codes "/{name}/messages/head", Head (Entity Main))
-    ∷ (codes "/{name}/messages/{id}/{token}", Locked (Entity Main))
-    ∷ (codes "/{name}/$deadletterqueue/messages/head", Head (Entity Dead))
-    ∷ (codes "/{name}/$deadletterqueue/messages/{id}/{token}", Locked (Entity Dead))
-    ∷ (codes "/{name}/$transfer/$deadletterqueue/messages/head", Head (Entity Transfer))
-    ∷ (codes "/{name}/$transfer/$deadletterqueue/messages/{id}/{token}", Locked (Entity Transfer))
+-- of an address, whose paths begin so
+unfoldable pub of_address : List ℕ → Address → List (List ℕ × Route)
+of_address front a =
+    (front ++ codes "/messages/head", Head a)
+    ∷ (front ++ codes "/messages/{seq}", Deferred a)
+    ∷ (front ++ codes "/messages/{id}/{token}", Locked a)
+    ∷ (front ++ codes "/scheduled/{seq}", Scheduled a)
     ∷ []
 
--- of subscriptions
-unfoldable pub subscriptions : List (List ℕ × Route)
-subscriptions =
-    (codes "/{topic}/subscriptions/{name}/messages/head", Head (Subscription Main))
-    ∷ (codes "/{topic}/subscriptions/{name}/messages/{id}/{token}", Locked (Subscription Main))
-    ∷ (codes "/{topic}/subscriptions/{name}/$deadletterqueue/messages/head", Head (Subscription Dead))
-    ∷ (codes "/{topic}/subscriptions/{name}/$deadletterqueue/messages/{id}/{token}", Locked (Subscription Dead))
-    ∷ (codes "/{topic}/subscriptions/{name}/$transfer/$deadletterqueue/messages/head", Head (Subscription Transfer))
-    ∷ (codes "/{topic}/subscriptions/{name}/$transfer/$deadletterqueue/messages/{id}/{token}", Locked (Subscription Transfer))
+-- how the paths of each address begin: of queues and topics, and of subscriptions
+unfoldable pub addresses : List (List ℕ × Address)
+addresses =
+    (codes "/{name}", Entity Main)
+    ∷ (codes "/{name}/$deadletterqueue", Entity Dead)
+    ∷ (codes "/{name}/$transfer/$deadletterqueue", Entity Transfer)
+    ∷ (codes "/{topic}/subscriptions/{name}", Subscription Main)
+    ∷ (codes "/{topic}/subscriptions/{name}/$deadletterqueue", Subscription Dead)
+    ∷ (codes "/{topic}/subscriptions/{name}/$transfer/$deadletterqueue", Subscription Transfer)
     ∷ []
+
+-- where is sent to; and of script lines: a shell takes a dollar sign for itself
+unfoldable pub others : List (List ℕ × Route)
+others = (codes "/{name}/messages", Messages) ∷ (codes "/$script", Script) ∷ (codes "/script", Script) ∷ []
 
 -- ---- a router
 
@@ -60,13 +62,13 @@ with_row rows row = with_route row.0 row.1 rows
 abbrev pub with_rows : List (List ℕ × Route) → Table → Table
 with_rows new rows = fold with_row rows new
 
--- of script lines: a shell takes a dollar sign for itself
-unfoldable pub scripts : List (List ℕ × Route)
-scripts = (codes "/$script", Script) ∷ (codes "/script", Script) ∷ []
+-- the routes of an address
+abbrev pub with_address : Table → List ℕ × Address → Table
+with_address rows a = with_rows (of_address a.0 a.1) rows
 
 -- all routes
 unfoldable pub table : Table
-table = with_rows scripts (with_rows subscriptions (with_rows entities []))
+table = with_rows others (fold with_address [] addresses)
 
 -- ---- a path
 

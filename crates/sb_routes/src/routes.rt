@@ -1,7 +1,7 @@
 // The routes, and the one that a path has.
-ghost use Rattle.std.specs.Prelude.{◌≡◌, [], OnOk, IfOk, option_map};
+ghost use Rattle.std.specs.Prelude.{◌≡◌, [], ◌++◌, fold, OnOk, IfOk, option_map};
 ghost use Rattle.matchit.specs.Seek.{first};
-ghost use Rattle.sb_routes.specs.Routes.{with_route, with_rows, entities, subscriptions, scripts, table, route_at, route_of};
+ghost use Rattle.sb_routes.specs.Routes.{with_route, with_rows, with_address, of_address, addresses, others, table, route_at, route_of};
 
 use crate::path::{looked, text_of};
 use matchit::Router;
@@ -24,8 +24,12 @@ pub enum Route {
     Messages,
     /// The first message.
     Head(Address),
+    /// A deferred message, by its number.
+    Deferred(Address),
     /// A message under a lock.
     Locked(Address),
+    /// A scheduled message, by its number.
+    Scheduled(Address),
     /// Where script lines go.
     Script,
 }
@@ -56,88 +60,87 @@ fn found(router: &Router<Route>, path: &str) -> Option<Route>
     }
 }
 
-// The routes of queues and topics.
-#[tactic(auto, unfolding(crate::specs::Routes::entities))]
-fn add_entities(router: &mut Router<Route>) -> Result<(), AllocError>
-    ensures { OnOk result (router.new ≡ with_rows entities router.old) }
+// A route of an address, whose paths begin so.
+fn add_at(
+    alloc: Global,
+    router: &mut Router<Route>,
+    front: &str,
+    end: &str,
+    route: Route,
+) -> Result<(), AllocError>
+    ensures { OnOk result (router.new ≡ with_route (front.now ++ end.now) route router.old) }
+{
+    let mut text = String::from_str(alloc, front)?;
+    text.push_str(end)?;
+    add(router, text.as_str(), route)
+}
+
+// The routes of an address, whose paths begin so.
+#[tactic(auto, unfolding(crate::specs::Routes::of_address))]
+fn add_address(
+    alloc: Global,
+    router: &mut Router<Route>,
+    front: &str,
+    address: Address,
+) -> Result<(), AllocError>
+    ensures { OnOk result (router.new ≡ with_rows (of_address front.now address) router.old) }
+{
+    add_at(alloc, router, front, "/messages/head", Route::Head(address))?;
+    add_at(
+        alloc,
+        router,
+        front,
+        "/messages/{seq}",
+        Route::Deferred(address),
+    )?;
+    add_at(
+        alloc,
+        router,
+        front,
+        "/messages/{id}/{token}",
+        Route::Locked(address),
+    )?;
+    add_at(
+        alloc,
+        router,
+        front,
+        "/scheduled/{seq}",
+        Route::Scheduled(address),
+    )?;
+    Ok(())
+}
+
+// The routes of queues, topics and subscriptions.
+#[tactic(auto, unfolding(crate::specs::Routes::addresses))]
+fn add_addresses(alloc: Global, router: &mut Router<Route>) -> Result<(), AllocError>
+    ensures { OnOk result (router.new ≡ fold with_address router.old addresses) }
+{
+    let queue = "/{name}";
+    let dead = "/{name}/$deadletterqueue";
+    let transfer = "/{name}/$transfer/$deadletterqueue";
+    add_address(alloc, router, queue, Address::Entity(Part::Main))?;
+    add_address(alloc, router, dead, Address::Entity(Part::Dead))?;
+    add_address(alloc, router, transfer, Address::Entity(Part::Transfer))?;
+    let queue = "/{topic}/subscriptions/{name}";
+    let dead = "/{topic}/subscriptions/{name}/$deadletterqueue";
+    let transfer = "/{topic}/subscriptions/{name}/$transfer/$deadletterqueue";
+    add_address(alloc, router, queue, Address::Subscription(Part::Main))?;
+    add_address(alloc, router, dead, Address::Subscription(Part::Dead))?;
+    add_address(
+        alloc,
+        router,
+        transfer,
+        Address::Subscription(Part::Transfer),
+    )?;
+    Ok(())
+}
+
+// The routes of sends and of script lines.
+#[tactic(auto, unfolding(crate::specs::Routes::others))]
+fn add_others(router: &mut Router<Route>) -> Result<(), AllocError>
+    ensures { OnOk result (router.new ≡ with_rows others router.old) }
 {
     add(router, "/{name}/messages", Route::Messages)?;
-    add(
-        router,
-        "/{name}/messages/head",
-        Route::Head(Address::Entity(Part::Main)),
-    )?;
-    add(
-        router,
-        "/{name}/messages/{id}/{token}",
-        Route::Locked(Address::Entity(Part::Main)),
-    )?;
-    add(
-        router,
-        "/{name}/$deadletterqueue/messages/head",
-        Route::Head(Address::Entity(Part::Dead)),
-    )?;
-    add(
-        router,
-        "/{name}/$deadletterqueue/messages/{id}/{token}",
-        Route::Locked(Address::Entity(Part::Dead)),
-    )?;
-    add(
-        router,
-        "/{name}/$transfer/$deadletterqueue/messages/head",
-        Route::Head(Address::Entity(Part::Transfer)),
-    )?;
-    add(
-        router,
-        "/{name}/$transfer/$deadletterqueue/messages/{id}/{token}",
-        Route::Locked(Address::Entity(Part::Transfer)),
-    )?;
-    Ok(())
-}
-
-// The routes of subscriptions.
-#[tactic(auto, unfolding(crate::specs::Routes::subscriptions))]
-fn add_subscriptions(router: &mut Router<Route>) -> Result<(), AllocError>
-    ensures { OnOk result (router.new ≡ with_rows subscriptions router.old) }
-{
-    add(
-        router,
-        "/{topic}/subscriptions/{name}/messages/head",
-        Route::Head(Address::Subscription(Part::Main)),
-    )?;
-    add(
-        router,
-        "/{topic}/subscriptions/{name}/messages/{id}/{token}",
-        Route::Locked(Address::Subscription(Part::Main)),
-    )?;
-    add(
-        router,
-        "/{topic}/subscriptions/{name}/$deadletterqueue/messages/head",
-        Route::Head(Address::Subscription(Part::Dead)),
-    )?;
-    add(
-        router,
-        "/{topic}/subscriptions/{name}/$deadletterqueue/messages/{id}/{token}",
-        Route::Locked(Address::Subscription(Part::Dead)),
-    )?;
-    add(
-        router,
-        "/{topic}/subscriptions/{name}/$transfer/$deadletterqueue/messages/head",
-        Route::Head(Address::Subscription(Part::Transfer)),
-    )?;
-    add(
-        router,
-        "/{topic}/subscriptions/{name}/$transfer/$deadletterqueue/messages/{id}/{token}",
-        Route::Locked(Address::Subscription(Part::Transfer)),
-    )?;
-    Ok(())
-}
-
-// The routes of script lines.
-#[tactic(auto, unfolding(crate::specs::Routes::scripts))]
-fn add_scripts(router: &mut Router<Route>) -> Result<(), AllocError>
-    ensures { OnOk result (router.new ≡ with_rows scripts router.old) }
-{
     add(router, "/$script", Route::Script)?;
     add(router, "/script", Route::Script)?;
     Ok(())
@@ -148,9 +151,8 @@ impl Routes {
     #[tactic(auto, unfolding(crate::specs::Routes::table))]
     pub fn new(alloc: Global) -> Result<Self, AllocError> {
         let mut router = Router::new(alloc);
-        add_entities(&mut router)?;
-        add_subscriptions(&mut router)?;
-        add_scripts(&mut router)?;
+        add_addresses(alloc, &mut router)?;
+        add_others(&mut router)?;
         Ok(Routes { router })
     }
 

@@ -2,7 +2,7 @@
 ghost use Rattle.std.specs.Prelude.{◌≡◌, codes, Some, None};
 ghost use Rattle.sb_machine.specs.declared.call.Part.TheVariants.{Main};
 ghost use Rattle.sb_routes.specs.declared.routes.Address.TheVariants.{Entity};
-ghost use Rattle.sb_routes.specs.declared.routes.Route.TheVariants.{Messages, Head, Script};
+ghost use Rattle.sb_routes.specs.declared.routes.Route.TheVariants.{Messages, Head, Deferred, Locked, Scheduled, Script};
 ghost use Rattle.sb_routes.specs.Routes.{route_of};
 ghost use Rattle.sb_routes.specs.Paths.{path_of, query_of, segment};
 
@@ -10,6 +10,10 @@ ghost use Rattle.sb_routes.specs.Paths.{path_of, query_of, segment};
 pub fn worked_routes()
     ensures send { route_of (codes "/Q/messages") ≡ Some Messages }
     ensures head { route_of (codes "/q/messages/head") ≡ Some (Head (Entity Main)) }
+    ensures deferred { route_of (codes "/q/messages/7") ≡ Some (Deferred (Entity Main)) }
+    ensures locked { route_of (codes "/q/messages/7/x") ≡ Some (Locked (Entity Main)) }
+    ensures scheduled { route_of (codes "/Q/Scheduled/7") ≡ Some (Scheduled (Entity Main)) }
+    ensures no_number { route_of (codes "/q/scheduled") ≡ None }
     ensures script { route_of (codes "/$script") ≡ Some Script }
     ensures plain_script { route_of (codes "/Script") ≡ Some Script }
     ensures none { route_of (codes "/x/y/z") ≡ None }

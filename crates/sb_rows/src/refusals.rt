@@ -54,6 +54,8 @@ fn refusal_named(alloc: Global, name: &str) -> Result<Refusal> {
         },
         "SessionRequired" => Refusal::SessionRequired,
         "LockLost" => Refusal::LockLost,
+        "NotDeferred" => Refusal::NotDeferred,
+        "NotScheduled" => Refusal::NotScheduled,
         "TxnPending" => Refusal::TxnPending { txn: 7 },
         "Exhausted" => Refusal::Exhausted,
         "DiskFault" => Refusal::DiskFault,

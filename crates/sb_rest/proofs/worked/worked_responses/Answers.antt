@@ -68,3 +68,7 @@ returns-clause-proxy c = refl
 
 pub returns-clause-allow : goal.returns-clause-allow
 returns-clause-allow c = refl
+
+pub returns-clause-sent : goal.returns-clause-sent
+unfolding digits
+returns-clause-sent c = refl

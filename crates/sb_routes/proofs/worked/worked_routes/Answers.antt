@@ -2,23 +2,23 @@ use Rattle.std.proofs.Common.{refl}
 use Rattle.std.specs.Str.{is_utf8, chars}
 use Rattle.matchit.proofs.OnLiterals.{matchit_on_literals}
 use Rattle.sb_routes.specs.Paths.{undollared, segment}
-use Rattle.sb_routes.specs.Routes.{table, with_route, entities, subscriptions, scripts}
+use Rattle.sb_routes.specs.Routes.{table, with_route, addresses, of_address, others}
 use Rattle.sb_routes.proofs.worked.worked_routes.Goals as goal
 
 pub returns-clause-send : goal.returns-clause-send
-unfolding matchit_on_literals undollared table with_route entities subscriptions scripts is_utf8 chars lib.Utf8.encode
+unfolding matchit_on_literals undollared table with_route addresses of_address others is_utf8 chars lib.Utf8.encode
 returns-clause-send c = refl
 
 pub returns-clause-head : goal.returns-clause-head
-unfolding matchit_on_literals undollared table with_route entities subscriptions scripts is_utf8 chars lib.Utf8.encode
+unfolding matchit_on_literals undollared table with_route addresses of_address others is_utf8 chars lib.Utf8.encode
 returns-clause-head c = refl
 
 pub returns-clause-script : goal.returns-clause-script
-unfolding matchit_on_literals undollared table with_route entities subscriptions scripts is_utf8 chars lib.Utf8.encode
+unfolding matchit_on_literals undollared table with_route addresses of_address others is_utf8 chars lib.Utf8.encode
 returns-clause-script c = refl
 
 pub returns-clause-none : goal.returns-clause-none
-unfolding matchit_on_literals undollared table with_route entities subscriptions scripts is_utf8 chars lib.Utf8.encode
+unfolding matchit_on_literals undollared table with_route addresses of_address others is_utf8 chars lib.Utf8.encode
 returns-clause-none c = refl
 
 pub returns-clause-path : goal.returns-clause-path
@@ -32,5 +32,21 @@ unfolding segment
 returns-clause-name c = refl
 
 pub returns-clause-plain_script : goal.returns-clause-plain_script
-unfolding matchit_on_literals undollared table with_route entities subscriptions scripts is_utf8 chars lib.Utf8.encode
+unfolding matchit_on_literals undollared table with_route addresses of_address others is_utf8 chars lib.Utf8.encode
 returns-clause-plain_script c = refl
+
+pub returns-clause-deferred : goal.returns-clause-deferred
+unfolding matchit_on_literals undollared table with_route addresses of_address others is_utf8 chars lib.Utf8.encode
+returns-clause-deferred c = refl
+
+pub returns-clause-locked : goal.returns-clause-locked
+unfolding matchit_on_literals undollared table with_route addresses of_address others is_utf8 chars lib.Utf8.encode
+returns-clause-locked c = refl
+
+pub returns-clause-scheduled : goal.returns-clause-scheduled
+unfolding matchit_on_literals undollared table with_route addresses of_address others is_utf8 chars lib.Utf8.encode
+returns-clause-scheduled c = refl
+
+pub returns-clause-no_number : goal.returns-clause-no_number
+unfolding matchit_on_literals undollared table with_route addresses of_address others is_utf8 chars lib.Utf8.encode
+returns-clause-no_number c = refl
