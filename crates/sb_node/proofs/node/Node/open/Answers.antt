@@ -1,11 +1,10 @@
 use Rattle.std.proofs.Common.{◌∙◌, refl, sym, ap, subst}
 use Rattle.sb_journal.specs.declared.found.Side.{Side}
-use Rattle.sb_journal.specs.Choosing.{turned}
-use Rattle.sb_journal.specs.Disks.{Disks, disks_of, opened_on, AreHonest, KeepFound, KeepsOn}
-use Rattle.sb_journal.specs.Opened.{judged_file}
-use Rattle.sb_journal.specs.Unopened.{unopened_disks, unopened_side}
+use Rattle.sb_journal.specs.Disks.{Disks, disks_of, opened_on, AreHonest, KeepFound}
+use Rattle.sb_journal.specs.Opened.{Stands, judged_file}
+use Rattle.sb_journal.specs.Unopened.{unopened_disks}
 use Rattle.sb_journal.specs.Journals.{journal_disks, fault_disks}
-use Rattle.sb_journal.proofs.Pairs.{still_honest, fault_on, opening_stays_pair, opening_finishes_pair, kept_aside}
+use Rattle.sb_journal.proofs.Pairs.{still_honest, fault_on, opening_stays_pair, opening_finishes_pair}
 use Rattle.sb_engine.specs.Engines.{engine_state}
 use Rattle.sb_node.specs.Recovery.{reaches, IsReplayed}
 use Rattle.sb_node.proofs.Crashes.{kept_leads}
@@ -60,12 +59,11 @@ returns-in-Ok-finish-clause-any_moment g c honest =
     let honest_1 = still_honest was mid c.in-Ok.ensures.honesty honest in
     opening_finishes_pair c.args.salt _ was mid (journal_disks c.in-Ok-finish.journal) c.in-Ok.ensures.salt (c.in-Ok.ensures.synced honest) (c.in-Ok-finish.ensures.any_moment _ _ honest_1 (c.in-Ok.ensures.stands honest ∙ c.in-Ok.ensures.ok.stands honest))
 
-pub returns-in-Ok-finish-clause-aside : goal.returns-in-Ok-finish-clause-aside
-returns-in-Ok-finish-clause-aside g c honest =
-    let was = disks_of g.D.Disk c.args.disk_a c.args.disk_b in
-    let later = journal_disks c.in-Ok-finish.journal in
-    subst (λ (s : Side). KeepsOn c.args.salt (turned s) was later) (sym c.in-Ok-finish.ensures.side)
-    (kept_aside c.args.salt (unopened_side c.in-Ok.read.0) was later (c.in-Ok.ensures.counts honest) (returns-in-Ok-finish-clause-any_moment g c honest))
+pub returns-in-Ok-finish-clause-counts : goal.returns-in-Ok-finish-clause-counts
+returns-in-Ok-finish-clause-counts g c honest =
+    let is = c.in-Ok.ensures.ok in
+    let file = judged_file c.in-Ok.read.1 is.base is.payloads in
+    (file, is.stands honest ∙ ap (λ (s : Side). Stands s file) (c.in-Ok.ensures.side ∙ sym c.in-Ok-finish.ensures.side))
 
 pub returns-in-Err-finish-clause-any_moment : goal.returns-in-Err-finish-clause-any_moment
 returns-in-Err-finish-clause-any_moment g c honest =
