@@ -33,7 +33,6 @@ starts salt = record {
   queued = tt;
   clients = tt;
   few_clients = omega arith;
-  shown = tt;
   kept = tt;
 }
 
