@@ -6,8 +6,9 @@
 //! descriptions stand here too.
 //!
 //! [`one_base`] says that a state that has a spelling (`specs/Base`) has one of its own, which begins
-//! no other, and that bytes are read as a state exactly where they spell it. A copy of a message is a
-//! piece, with a writer and a reader: [`CopyPiece`].
+//! no other, and that bytes are read as a state exactly where they spell it. Of what a base
+//! lists these are pieces with a writer and a reader: copies, accepted ids, rules, descriptions, heads of
+//! entities, sessions and transactions.
 //!
 //! ```text
 //! CopyPiece::put(&copy, &mut out)?;               // its bytes stand behind those of `out`
@@ -18,11 +19,20 @@
 mod coded;
 mod copies;
 mod counted;
+mod entities;
 mod laws;
 mod parts;
+mod rules;
+mod sessions;
+mod texts;
+mod transactions;
 mod worked;
 
 pub use copies::CopyPiece;
+pub use entities::{AboutPiece, AcceptedPiece, HeadPiece};
 pub use laws::{consistent_is_written, one_base};
 pub use parts::{EntityHead, Parts, PlacedLeaf, PlacedSession};
+pub use rules::RulePiece;
+pub use sessions::SessionPiece;
+pub use transactions::TransactionPiece;
 pub use worked::worked_bases;

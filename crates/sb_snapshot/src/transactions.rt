@@ -1,0 +1,125 @@
+// Open transactions, each with what it has queued.
+ghost use Rattle.std.specs.Prelude.{◌≡◌, OnOk};
+ghost use Rattle.std.specs.Option.{option_copied};
+ghost use Rattle.sb_codec.specs.Forms.{Form, Puts};
+ghost use Rattle.sb_codec.specs.Messages.{any_next};
+ghost use Rattle.sb_codec.specs.Readers.{Gives};
+ghost use Rattle.sb_snapshot.specs.Transactions as transactions;
+
+use sb_codec::{
+    HowPiece, Item, Listed, MessagePiece, Number64, Opt, PathPiece, Piece, TokenPiece, Unread,
+    put_fields, take_fields,
+};
+use sb_machine::{How, Operation, Path, Token, Transaction};
+use std::alloc::{AllocError, Global};
+
+// The fields of a settlement.
+fn put_settlement(
+    from: &Path,
+    number: &u64,
+    token: &Token,
+    session: &Option<Token>,
+    how: &How,
+    out: &mut Vec<u8>,
+) -> Result<(), AllocError>
+    requires { transactions.settle.form.Asks (from.now, (number.now, (token.now, (session.now, how.now)))) }
+    ensures puts { Puts (transactions.settle.form.spell (from.now, (number.now, (token.now, (session.now, how.now))))) out.old out.new result }
+    ensures fits { OnOk result (transactions.settle.form.Fits (from.now, (number.now, (token.now, (session.now, how.now))))) }
+{
+    put_fields!(out, from => PathPiece, number => Number64, token => TokenPiece, session => Opt<TokenPiece>, how => HowPiece)
+}
+
+/// What a transaction has queued.
+pub(crate) struct OperationPiece;
+
+impl Piece for OperationPiece {
+    type Value = Operation;
+
+    ghost form = { transactions.operation };
+
+    #[tactic(auto, unfolding(crate::specs::Transactions::operation))]
+    fn put(value: &Operation, out: &mut Vec<u8>) -> Result<(), AllocError> {
+        match value {
+            Operation::Send { to, messages } => {
+                out.push(0)?;
+                put_fields!(out, to => PathPiece, messages => Listed<MessagePiece>)
+            }
+            Operation::Settle {
+                from,
+                number,
+                token,
+                session,
+                how,
+            } => {
+                out.push(1)?;
+                put_settlement(from, number, token, session, how, out)
+            }
+        }
+    }
+
+    #[tactic(auto, unfolding(crate::specs::Transactions::operation, sb_codec::specs::Forms::chosen_at))]
+    fn take(alloc: Global, bytes: &[u8]) -> Result<(Operation, &[u8]), Unread> {
+        let [code, rest @ ..] = bytes else {
+            return Err(Unread::NoSpelling);
+        };
+        match *code {
+            0 =>
+                take_fields!(alloc, rest, Operation::Send { to: PathPiece, messages: Listed<MessagePiece> }),
+            1 => take_fields!(alloc, rest, Operation::Settle {
+                from: PathPiece,
+                number: Number64,
+                token: TokenPiece,
+                session: Opt<TokenPiece>,
+                how: HowPiece
+            }),
+            _ => Err(Unread::NoSpelling),
+        }
+    }
+}
+
+impl Item for OperationPiece {
+    ghost follows = { any_next };
+
+    fn follows(_last: Option<&Operation>, _next: &Operation) -> bool {
+        true
+    }
+}
+
+/// An open transaction.
+pub struct TransactionPiece;
+
+impl Piece for TransactionPiece {
+    type Value = Transaction;
+
+    ghost form = { transactions.transaction };
+
+    #[tactic(auto, unfolding(crate::specs::Transactions::transaction))]
+    fn put(value: &Transaction, out: &mut Vec<u8>) -> Result<(), AllocError> {
+        put_fields!(out,
+            &value.number => Number64,
+            &value.entity => Number64,
+            &value.deadline => Number64,
+            &value.operations => Listed<OperationPiece>)
+    }
+
+    #[tactic(auto, unfolding(crate::specs::Transactions::transaction))]
+    fn take(alloc: Global, bytes: &[u8]) -> Result<(Transaction, &[u8]), Unread> {
+        take_fields!(alloc, bytes, Transaction {
+            number: Number64,
+            entity: Number64,
+            deadline: Number64,
+            operations: Listed<OperationPiece>
+        })
+    }
+}
+
+impl Item for TransactionPiece {
+    ghost follows = { transactions.is_next_transaction };
+
+    fn follows(last: Option<&Transaction>, next: &Transaction) -> bool {
+        match last {
+            None => true,
+            Some(last) => last.number < next.number,
+        }
+    }
+}
