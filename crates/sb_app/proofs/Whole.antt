@@ -12,7 +12,14 @@ use Rattle.sb_laws.proofs.Orders.{answers_legally, consistent_is_orderly}
 use Rattle.sb_laws.proofs.Outcomes.{answers_no_fault}
 use Rattle.sb_node.specs.declared.node.Node.{Node}
 use Rattle.sb_journal.proofs.Holding.{aside_kept}
-use Rattle.sb_journal.specs.Disks.{Disks, disks_of, AreHonest, KeepsOn, KeepsOne}
+use Rattle.sb_journal.proofs.Pairs.{kept_aside, opened_counts}
+use Rattle.sb_journal.specs.Choosing.{sided, turned}
+use Rattle.sb_journal.specs.Disks.{Disks, disks_of, opened_on, AreHonest, KeepFound, KeepsAside, KeepsOn}
+use Rattle.sb_journal.specs.Framing.{framing}
+use Rattle.sb_journal.specs.Journals.{journal_side}
+use Rattle.sb_journal.specs.Opened.{Opened, Stands, Damage, opened_alone, placed}
+use Rattle.sb_journal.specs.Text.{File}
+use Rattle.sb_journal.specs.declared.found.Side.{Side}
 use Rattle.sb_node.specs.Recovery.{Recovers, recovers, recovered_on}
 use Rattle.sb_node.proofs.Keeping.{kept_recovers as last_recovers}
 use Rattle.sb_node.specs.Nodes.{node_aside, node_disk_a, node_disk_b, node_state, node_journal, node_last, node_disks, IsKept, IsDurable}
@@ -111,9 +118,19 @@ whole_run clock days Safe salt was now ready start state refused status opening 
       moments = moments_of Safe salt start (script_lines run.input) was.disks ready now.disks opening run.moments;
     }
 
+-- of two that count it is one
+placed_once : (side at : Side) (r : Opened) (file : File) → placed side r ≡ Stands at file → side ≡ at
+placed_once side at (Stands s g) file e = cc
+placed_once side at (Damage s place) file e = absurd cc
+
 -- the disk that doesn't count, from the opening on until the disks come back
-pub closed_aside : {D : Type 0} {B : Disk D} (first last : Node D B) (a b : D) (salt : ℕ) (was : Disks) → node_aside last ≡ node_aside first → a ≡ node_disk_a last → b ≡ node_disk_b last → KeepsOn salt (node_aside first).side was (node_disks first) → KeepsOne salt was (disks_of B a b)
-closed_aside {D} {B} first last a b salt was same is_a is_b kept =
+pub closed_aside : {D : Type 0} {B : Disk D} (first last : Node D B) (a b : D) (salt : ℕ) (was : Disks) → node_aside last ≡ node_aside first → a ≡ node_disk_a last → b ≡ node_disk_b last
+    → (file : File) × (opened_on was salt ≡ Stands (journal_side (node_journal first)) file) → KeepFound salt was (node_disks first) → KeepsAside salt was (disks_of B a b)
+closed_aside {D} {B} first last a b salt was same is_a is_b stands kept side counts =
     let there : disks_of B a b ≡ node_disks last = λ i. disks_of B (is_a i) (is_b i) in
-    let side = (node_aside first).side in
-    (side, subst (λ (d : Disks). KeepsOn salt side was d) (sym there) (aside_kept (node_journal first) (node_journal last) salt was same kept))
+    let x = was.a.held.seen in
+    let y = was.b.held.seen in
+    let is : side ≡ journal_side (node_journal first) = placed_once side (journal_side (node_journal first)) (opened_alone salt (framing (sided side x y))) stands.0 (sym (opened_counts salt x y side counts) ∙ stands.1) in
+    let was_kept = subst (λ (s : Side). KeepsOn salt (turned s) was (node_disks first)) is (kept_aside salt side was (node_disks first) counts kept) in
+    let is_kept = subst (λ (s : Side). KeepsOn salt (turned s) was (node_disks last)) (sym is) (aside_kept (node_journal first) (node_journal last) salt was same was_kept) in
+    subst (λ (d : Disks). KeepsOn salt (turned side) was d) (sym there) is_kept

@@ -2,7 +2,7 @@
 ghost use Rattle.std.specs.Prelude.{◌≡◌, ◌≢◌, ◌⊎◌, ℕ, Bool, None, Some, Option, Err, IfErr};
 ghost use Rattle.sb_outside.specs.Causes.{RoseByOne};
 ghost use Rattle.sb_machine.specs.Consistent.{IsConsistent};
-ghost use Rattle.sb_journal.specs.Disks.{disks_of, AreHonest, KeepsOne, HaveFailed, AreQuiet, SameHonesty};
+ghost use Rattle.sb_journal.specs.Disks.{disks_of, AreHonest, KeepsAside, HaveFailed, AreQuiet, SameHonesty};
 ghost use Rattle.sb_node.specs.Nodes.{node_state, node_stopped, node_aside, node_disks, IsKept};
 ghost use Rattle.sb_words.specs.declared.command.WordsFault.TheVariants.{BadWords};
 ghost use Rattle.sb_app.specs.Outside.{outside_of};
@@ -51,7 +51,7 @@ pub fn carry_out<D: Disk, C: Clock, S: Source, K: Sink, N: Link>(
     ensures usage_alone { result.0 ≡ 2 → (result.1 ≡ disk_a) × (result.2 ≡ disk_b) × (input.new ≡ input.old) }
     ensures unread { IfErr named (λ _. input.new ≡ input.old) }
     ensures client_alone { (task : Option Task) (days : ℕ) → IsNamed task days named → task ≡ Some Client → (result.1 ≡ disk_a) × (result.2 ≡ disk_b) }
-    ensures aside { AreHonest (disks_of D.Disk disk_a disk_b) → KeepsOne salt (disks_of D.Disk disk_a disk_b) (disks_of D.Disk result.1 result.2) }
+    ensures aside { AreHonest (disks_of D.Disk disk_a disk_b) → KeepsAside salt (disks_of D.Disk disk_a disk_b) (disks_of D.Disk result.1 result.2) }
     ensures link { (task : Option Task) (days : ℕ) → IsNamed task days named → task ≢ Some Client → link.new ≡ link.old }
 {
     let Named { task, max_jump } = match named {
@@ -88,7 +88,7 @@ fn run_over<D: Disk, C: Clock, S: Source, K: Sink>(
     output: &mut K,
 ) -> (u8, D, D)
     ensures done { IsCarriedOut (C.reads clock.now) max_jump (Some Run) salt (outside_of D.Disk S.Source K.Sink disk_a disk_b input.old output.old) (outside_of D.Disk S.Source K.Sink result.1 result.2 input.new output.new) result.0 }
-    ensures aside { AreHonest (disks_of D.Disk disk_a disk_b) → KeepsOne salt (disks_of D.Disk disk_a disk_b) (disks_of D.Disk result.1 result.2) }
+    ensures aside { AreHonest (disks_of D.Disk disk_a disk_b) → KeepsAside salt (disks_of D.Disk disk_a disk_b) (disks_of D.Disk result.1 result.2) }
 {
     let mut node = match open_node(alloc, disk_a, disk_b, salt, output) {
         Ok(node) => node,
@@ -111,7 +111,7 @@ fn check_over<D: Disk, C: Clock, S: Source, K: Sink>(
     output: &mut K,
 ) -> (u8, D, D)
     ensures done { IsCarriedOut (C.reads clock.now) max_jump (Some Check) salt (outside_of D.Disk S.Source K.Sink disk_a disk_b input.now output.old) (outside_of D.Disk S.Source K.Sink result.1 result.2 input.now output.new) result.0 }
-    ensures aside { AreHonest (disks_of D.Disk disk_a disk_b) → KeepsOne salt (disks_of D.Disk disk_a disk_b) (disks_of D.Disk result.1 result.2) }
+    ensures aside { AreHonest (disks_of D.Disk disk_a disk_b) → KeepsAside salt (disks_of D.Disk disk_a disk_b) (disks_of D.Disk result.1 result.2) }
 {
     let node = match open_node(alloc, disk_a, disk_b, salt, output) {
         Ok(node) => node,

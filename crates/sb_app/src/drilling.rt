@@ -1,6 +1,6 @@
 // A drill: calls that a seed draws on the namespace of two disks, and the counts of what came of them.
 ghost use Rattle.std.specs.Prelude.{◌≡◌, ◌<◌, ◌+◌, ◌-◌, ◌^◌, ◌++◌, ℕ, List, [], None, Some, Err, IfOk, IfErr, IfSome, string_bytes};
-ghost use Rattle.sb_journal.specs.Disks.{disks_of, AreHonest, KeepsOne, OneFault};
+ghost use Rattle.sb_journal.specs.Disks.{disks_of, AreHonest, KeepsAside, OneFault};
 ghost use Rattle.sb_machine.specs.Answers.{moment_of};
 ghost use Rattle.sb_machine.specs.Consistent.{IsConsistent};
 ghost use Rattle.sb_machine.specs.Ordered.{IsActInOrder};
@@ -68,7 +68,7 @@ pub fn drill_over<D: Disk, C: Clock, S: Source, K: Sink>(
     output: &mut K,
 ) -> (u8, D, D)
     ensures done { IsCarriedOut (C.reads clock.now) max_jump (Some (Drill count seed)) salt (outside_of D.Disk S.Source K.Sink disk_a disk_b input.now output.old) (outside_of D.Disk S.Source K.Sink result.1 result.2 input.now output.new) result.0 }
-    ensures aside { AreHonest (disks_of D.Disk disk_a disk_b) → KeepsOne salt (disks_of D.Disk disk_a disk_b) (disks_of D.Disk result.1 result.2) }
+    ensures aside { AreHonest (disks_of D.Disk disk_a disk_b) → KeepsAside salt (disks_of D.Disk disk_a disk_b) (disks_of D.Disk result.1 result.2) }
 {
     let mut node = match open_node(alloc, disk_a, disk_b, salt, output) {
         Ok(node) => node,

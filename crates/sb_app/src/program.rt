@@ -1,6 +1,6 @@
 // The program over whatever disks, streams, clock, doors and link it is handed.
 ghost use Rattle.std.specs.Prelude.{◌≡◌, ◌≢◌, [], map, None, Some, IfSome, IsSome};
-ghost use Rattle.sb_journal.specs.Disks.{disks_of, AreHonest, KeepsOne};
+ghost use Rattle.sb_journal.specs.Disks.{disks_of, AreHonest, KeepsAside};
 ghost use Rattle.sb_words.specs.Words.{command_in, connections_in, max_jump_in};
 ghost use Rattle.sb_words.specs.declared.command.Command.TheVariants.{Client, Serve};
 ghost use Rattle.sb_server.specs.Serves.{Working};
@@ -44,7 +44,7 @@ pub fn top_alone<D: Disk, C: Clock, S: Source, K: Sink, N: Link>(
     ensures done { IsCall (C.reads clock.now) (max_jump_in (map (λ w. w.now) words.now)) (task_in (map (λ w. w.now) words.now)) salt (outside_of D.Disk S.Source K.Sink disk_a disk_b input.old output.old) (outside_of D.Disk S.Source K.Sink result.1 result.2 input.new output.new) (exchanges_of [] N.Link link.old) (exchanges_of [] N.Link link.new) result.0 }
     ensures usage_alone { result.0 ≡ 2 → (result.1 ≡ disk_a) × (result.2 ≡ disk_b) × (input.new ≡ input.old) }
     ensures client_alone { command_in (map (λ w. w.now) words.now) ≡ Some Client → (result.1 ≡ disk_a) × (result.2 ≡ disk_b) }
-    ensures aside { AreHonest (disks_of D.Disk disk_a disk_b) → KeepsOne salt (disks_of D.Disk disk_a disk_b) (disks_of D.Disk result.1 result.2) }
+    ensures aside { AreHonest (disks_of D.Disk disk_a disk_b) → KeepsAside salt (disks_of D.Disk disk_a disk_b) (disks_of D.Disk result.1 result.2) }
     ensures link { command_in (map (λ w. w.now) words.now) ≢ Some Client → link.new ≡ link.old }
 {
     let named = named_task(alloc, words);
@@ -106,7 +106,7 @@ where
     ensures usage_alone { result.0 ≡ 2 → (result.1 ≡ Some (disk_a, disk_b)) × (input.new ≡ input.old) }
     ensures client_alone { command_in (map (λ w. w.now) words.now) ≡ Some Client → result.1 ≡ Some (disk_a, disk_b) }
     ensures back { IsSome result.1 }
-    ensures aside { AreHonest (disks_of D.Disk disk_a disk_b) → command_in (map (λ w. w.now) words.now) ≢ Some Serve → IfSome result.1 (λ disks. KeepsOne salt (disks_of D.Disk disk_a disk_b) (disks_of D.Disk disks.0 disks.1)) }
+    ensures aside { AreHonest (disks_of D.Disk disk_a disk_b) → command_in (map (λ w. w.now) words.now) ≢ Some Serve → IfSome result.1 (λ disks. KeepsAside salt (disks_of D.Disk disk_a disk_b) (disks_of D.Disk disks.0 disks.1)) }
     ensures link { command_in (map (λ w. w.now) words.now) ≢ Some Client → link.new ≡ link.old }
     ensures input { command_in (map (λ w. w.now) words.now) ≡ Some Serve → input.new ≡ input.old }
     ensures doors { command_in (map (λ w. w.now) words.now) ≢ Some Serve → doors.new ≡ doors.old }

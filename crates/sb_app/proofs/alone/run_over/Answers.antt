@@ -1,4 +1,5 @@
 use Rattle.std.proofs.Common.{Some, sym, subst}
+use Rattle.sb_journal.proofs.Pairs.{kept_aside}
 use Rattle.sb_journal.specs.Disks.{disks_of}
 use Rattle.sb_node.specs.Nodes.{node_state, node_disk_a, node_disks, IsKept}
 use Rattle.sb_app.specs.Outside.{output_of, outside_of}
@@ -7,7 +8,6 @@ use Rattle.sb_app.specs.Tops.{IsCarriedOut}
 use Rattle.sb_app.specs.declared.task.Task.TheVariants.{Run}
 use Rattle.sb_app.proofs.Whole.{closed_aside, kept_recovers, kept_durable}
 use Rattle.sb_app.proofs.Carried.{not_opened, IsEnded, run_over}
-use Rattle.sb_journal.specs.declared.found.Side.TheVariants.{B}
 use Rattle.sb_app.proofs.alone.run_over.Goals as goal
 
 pub returns-in-Err-clause-done : goal.returns-in-Err-clause-done
@@ -48,8 +48,10 @@ returns-clause-done g c =
     (subst (λ b. IsCarriedOut (g.C.Clock.reads c.args.clock.now) c.args.max_jump (Some Run) c.args.salt was (outside_of g.D.Disk g.S.Source g.K.Sink (node_disk_a last) b input output) status) (sym c.close-disk_a.ensures.disk_b) over)
 
 pub returns-in-Err-clause-aside : goal.returns-in-Err-clause-aside
-returns-in-Err-clause-aside g c honest = let fails = c.in-Err.ensures.failed in (B, (fails.1.keeps honest).1)
+returns-in-Err-clause-aside g c honest side counts =
+    let fails = c.in-Err.ensures.failed in
+    kept_aside c.args.salt side (disks_of g.D.Disk c.args.disk_a c.args.disk_b) (disks_of g.D.Disk c.in-Err.failed.1 c.in-Err.failed.2) counts (fails.1.keeps honest)
 
 pub returns-clause-aside : goal.returns-clause-aside
 returns-clause-aside g c honest =
-    closed_aside c.in-Ok.node c.run_status-status.new.node c.close-disk_a.result.0 c.close-disk_a.result.1 c.args.salt (disks_of g.D.Disk c.args.disk_a c.args.disk_b) c.run_status-status.ensures.aside c.close-disk_a.ensures.disk_a c.close-disk_a.ensures.disk_b (c.in-Ok.ensures.aside honest)
+    closed_aside c.in-Ok.node c.run_status-status.new.node c.close-disk_a.result.0 c.close-disk_a.result.1 c.args.salt (disks_of g.D.Disk c.args.disk_a c.args.disk_b) c.run_status-status.ensures.aside c.close-disk_a.ensures.disk_a c.close-disk_a.ensures.disk_b (c.in-Ok.ensures.counts honest) (c.in-Ok.ensures.opened.opens honest)
