@@ -23,7 +23,6 @@ mod acts;
 mod deliver;
 mod engine;
 mod find;
-mod limits;
 mod plan;
 mod summary;
 mod time;

@@ -5,11 +5,9 @@ ghost use Rattle.sb_engine.specs.Engines.{is_changing};
 pub mod calls;
 pub mod draft;
 pub mod drafting;
-pub mod fields;
 pub mod numbers;
 pub mod planning;
 pub mod quota;
-pub mod sizes;
 
 use sb_machine::{Answered, Changes, Kept};
 use std::marker::Model;

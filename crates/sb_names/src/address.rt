@@ -5,7 +5,7 @@ ghost use Rattle.sb_names.specs.Addresses as addresses;
 
 use crate::name::{is_name, is_short_name};
 use sb_machine::{Part, Path};
-use sb_model::Text;
+use sb_model::{Name, Text};
 use std::alloc::{AllocError, Global};
 
 /// Whether an address is made of names.
@@ -17,6 +17,33 @@ pub fn is_address(path: &Path) -> bool
         None => true,
     };
     is_name(path.name.as_str()) && is_subscription
+}
+
+/// Whether a part is the main one, neither dead letters nor transfers.
+pub fn is_main(part: Part) -> bool
+    ensures { result ≡ names.is_main part }
+{
+    match part {
+        Part::Main => true,
+        Part::Dead | Part::Transfer => false,
+    }
+}
+
+fn is_same_option(a: &Option<Name>, b: &Option<Name>) -> bool
+    ensures { result ≡ names.is_same_option a.now b.now }
+{
+    match (a, b) {
+        (None, None) => true,
+        (Some(a), Some(b)) => a.as_str() == b.as_str(),
+        _ => false,
+    }
+}
+
+/// Whether two addresses name one entity, whatever the parts.
+pub fn is_same_entity(a: &Path, b: &Path) -> bool
+    ensures { result ≡ names.is_same_entity a.now b.now }
+{
+    a.name.as_str() == b.name.as_str() && is_same_option(&a.subscription, &b.subscription)
 }
 
 // The text up to the first slash.

@@ -1,13 +1,12 @@
 // What a description may hold for each kind of entity.
 ghost use Rattle.std.specs.Prelude.{◌≡◌, option_map, MatchResult, Some, None};
 ghost use Rattle.sb_machine.specs.Descriptions as descriptions;
-ghost use Rattle.sb_machine.specs.Fields as fields;
 
+use crate::limits::MAX_TTL;
 use crate::name::is_name;
+use crate::ranges::{is_between, is_between_or_none};
 use sb_machine::{Description, EntityKind};
 use sb_model::Name;
-
-const MAX_TTL: u64 = 922_337_203_685;
 
 fn has_copies(kind: EntityKind) -> bool
     ensures { result ≡ descriptions.has_copies kind }
@@ -33,21 +32,6 @@ fn has_rules(kind: EntityKind) -> bool
     match kind {
         EntityKind::Subscription => true,
         EntityKind::Queue | EntityKind::Topic => false,
-    }
-}
-
-fn is_between(low: u64, high: u64, n: u64) -> bool
-    ensures { result ≡ fields.is_between low high n }
-{
-    low <= n && n <= high
-}
-
-fn is_between_or_none(low: u64, high: u64, n: Option<u64>) -> bool
-    ensures { result ≡ fields.is_between_or_none low high n }
-{
-    match n {
-        Some(n) => is_between(low, high, n),
-        None => true,
     }
 }
 

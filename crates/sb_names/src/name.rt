@@ -40,19 +40,22 @@ fn is_name_within(most: usize, name: &[u8]) -> bool
     1 <= name.len() && name.len() <= most && are_name_bytes(name)
 }
 
-pub(crate) fn is_name(name: &str) -> bool
+/// Whether a queue or a topic may be named so.
+pub fn is_name(name: &str) -> bool
     ensures { result ≡ names.is_name name.now }
 {
     is_name_within(260, name.as_bytes())
 }
 
-pub(crate) fn is_short_name(name: &str) -> bool
+/// Whether a subscription may be named so.
+pub fn is_short_name(name: &str) -> bool
     ensures { result ≡ names.is_short_name name.now }
 {
     is_name_within(50, name.as_bytes())
 }
 
-fn is_rule_name(name: &str) -> bool
+/// Whether a rule may be named so.
+pub fn is_rule_name(name: &str) -> bool
     ensures { result ≡ names.is_rule_name name.now }
 {
     name == "$default" || is_short_name(name)

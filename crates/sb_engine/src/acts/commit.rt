@@ -14,12 +14,12 @@ ghost use Rattle.sb_engine.specs.Plans.{PlansRow};
 
 use crate::deliver::committing::act_all;
 use crate::deliver::sending::Sending;
-use crate::deliver::settling::goes_with;
 use crate::find::leases::leased;
 use crate::plan::draft::Draft;
 use crate::plan::quota::judge_quota;
 use sb_entities::{EntityStore, SpaceStore};
 use sb_machine::{Change, Changes, Operation, Refusal, Reply, Which};
+use sb_names::goes_with;
 use sb_txn::OpenTransaction;
 use std::alloc::Global;
 

@@ -16,12 +16,13 @@ ghost use Rattle.sb_engine.specs.Plans.{PlansRow};
 use crate::Draft;
 use crate::deliver::handing::handed_out;
 use crate::deliver::release::{expired, is_expired};
-use crate::find::claims::{Claim, is_main};
+use crate::find::claims::Claim;
 use crate::find::holding::claimed_at_address;
 use crate::plan::drafting::planned;
 use sb_entities::{EntityStore, SpaceStore};
 use sb_fanout::Lasts;
 use sb_machine::{Changes, Mode, Part, Path, Refusal, Reply, StoredCopy, Token};
+use sb_names::is_main;
 use std::alloc::{AllocError, Global};
 
 fn deferred_copy<'a>(

@@ -13,12 +13,11 @@ ghost use Rattle.sb_engine.specs.Rules.{rule_of, read_in, created_in, deleted_in
 use crate::Draft;
 use crate::acts::create::subscription_path;
 use crate::find::reading::{read_action, read_filter};
-use crate::limits::MAX_PROPERTY_BYTES;
-use crate::plan::sizes::conditions_size;
 use sb_entities::SpaceStore;
 use sb_machine::{Change, Effect, FilterText, Listed, Refusal, Reply, Rule, RuleFilter};
 use sb_model::{Name, Text};
-use sb_names::{NameKind, check_name};
+use sb_names::limits::MAX_PROPERTY_BYTES;
+use sb_names::{NameKind, check_name, conditions_size};
 use sb_sqltext::ParseFault;
 use std::alloc::Global;
 

@@ -19,17 +19,15 @@ ghost use Rattle.sb_engine.specs.Sendings.{IsThere, IsThereIn};
 
 use crate::deliver::queueing::{has_room_in, queueing};
 use crate::deliver::sending::{Sending, send_all};
-use crate::find::claims::is_main;
 use crate::find::via::is_via;
 use crate::plan::draft::Draft;
 use crate::plan::drafting::planned;
 use crate::plan::quota::judge_quota;
-use crate::plan::sizes::large_size;
 use sb_entities::{EntityStore, SpaceStore};
 use sb_fanout::has_session;
 use sb_machine::{Changes, Operation, Path, Refusal, Reply};
 use sb_model::{Message, Rows};
-use sb_names::is_address;
+use sb_names::{is_address, is_main, large_size};
 use sb_txn::OpenTransaction;
 use std::alloc::{AllocError, Global};
 

@@ -14,11 +14,11 @@ use crate::Draft;
 use crate::acts::session_state::copied;
 use crate::deliver::release::in_part;
 use crate::find::holding::{Held, held_at_address};
-use crate::limits::MAX_STATE;
 use crate::plan::drafting::planned;
 use sb_entities::{EntityStore, SpaceStore};
 use sb_machine::{LeafChange, Part, Path, Refusal, Reply, Token};
 use sb_model::Rows;
+use sb_names::limits::MAX_STATE;
 use std::alloc::{AllocError, Global};
 
 fn size_of(state: &Option<Rows<u8>>) -> usize

@@ -16,7 +16,7 @@ ghost use Rattle.sb_engine.specs.Plans.{PlansRow};
 
 use crate::Draft;
 use crate::deliver::queueing::{has_room_in, is_on, open_in, queueing};
-use crate::deliver::settling::{goes_with, settled};
+use crate::deliver::settling::settled;
 use crate::find::claims::{check_session, claim_by};
 use crate::find::heads::receivable_at_address;
 use crate::find::leases::leased;
@@ -24,6 +24,7 @@ use crate::plan::drafting::planned;
 use sb_entities::{EntityStore, SpaceStore};
 use sb_fanout::Lasts;
 use sb_machine::{Changes, How, Operation, Part, Path, Refusal, Reply, StoredCopy, Token, Which};
+use sb_names::goes_with;
 use sb_txn::OpenTransaction;
 use std::alloc::{AllocError, Global};
 

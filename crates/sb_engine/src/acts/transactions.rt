@@ -9,10 +9,10 @@ ghost use Rattle.sb_machine.specs.declared.reply.Reply.TheVariants.{Begun};
 ghost use Rattle.sb_engine.specs.Plans.{PlansRow};
 
 use crate::Draft;
-use crate::limits::{MAX_TRANSACTIONS, TXN_LIFE};
 use sb_entities::SpaceStore;
 use sb_machine::{Change, Path, Refusal, Reply};
 use sb_names::is_address;
+use sb_names::limits::{MAX_TRANSACTIONS, TXN_LIFE};
 use std::alloc::Global;
 
 // A transaction is opened on an entity. Memory is wanting where its number would pass 2^64 - 1,

@@ -11,13 +11,13 @@ ghost use Rattle.sb_engine.specs.Commits.{Acts, AsFound};
 ghost use Rattle.sb_engine.specs.Sendings.{IsUnderWay, space_at, told};
 
 use crate::deliver::sending::{Sending, copy_of, send_all};
-use crate::deliver::settling::{goes_with, settled};
+use crate::deliver::settling::settled;
 use crate::find::leases::leased;
-use crate::find::via::is_same_entity;
 use sb_entities::{EntityStore, SpaceStore};
 use sb_fanout::hand_on;
 use sb_machine::{How, Operation, Part, Path, Token, Which};
 use sb_model::Message;
+use sb_names::{goes_with, is_same_entity};
 use std::alloc::{AllocError, Global};
 
 // A message is handed on from the transaction's entity.

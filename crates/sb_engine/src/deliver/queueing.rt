@@ -9,9 +9,9 @@ ghost use Rattle.sb_machine.specs.declared.reply.Refusal.TheVariants.{TxnNotFoun
 ghost use Rattle.sb_entities.specs.Stores.{entity_in, space_in};
 ghost use Rattle.sb_engine.specs.Heads.{Allows, Forbids};
 
-use crate::limits::{MAX_OPERATIONS, TXN_LIFE};
 use sb_entities::{EntityStore, SpaceStore};
 use sb_machine::{Change, Operation, Refusal};
+use sb_names::limits::{MAX_OPERATIONS, TXN_LIFE};
 use sb_txn::OpenTransaction;
 
 /// The open transaction of this number, where one is named.

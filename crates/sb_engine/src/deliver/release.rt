@@ -12,8 +12,6 @@ ghost use Rattle.sb_fanout.specs.Lasts.{Given, given_in};
 ghost use Rattle.sb_entities.specs.Stores.{entity_in, space_in};
 ghost use Rattle.sb_engine.specs.Growing.{IsGrown};
 
-use crate::find::claims::is_main;
-use crate::limits::MAX_COUNT;
 use sb_copies::was_deferred;
 use sb_entities::{EntityStore, SpaceStore};
 use sb_fanout::{Lasts, bury, for_reason};
@@ -21,6 +19,8 @@ use sb_machine::{
     Cause, Change, Changes, DeadReason, LeafChange, LeafKey, Part, Standing, StoredCopy,
 };
 use sb_model::Message;
+use sb_names::is_main;
+use sb_names::limits::MAX_COUNT;
 use std::alloc::{AllocError, Global};
 
 /// A change in a part of an entity.

@@ -11,22 +11,11 @@ ghost use Rattle.sb_engine.specs.Drafts.{copies_nothing};
 ghost use Rattle.sb_engine.specs.Growing.{IsGrown};
 
 use crate::deliver::release::{dead_lettered, push_in, released};
-use crate::find::claims::is_main;
 use sb_entities::{EntityStore, SpaceStore};
 use sb_fanout::{Lasts, with_reason};
 use sb_machine::{Cause, Changes, How, LeafChange, Part, Standing, StoredCopy};
 use sb_model::{Message, Text};
 use std::alloc::{AllocError, Global};
-
-/// Only what stands in a main part may be dead-lettered.
-pub fn goes_with(how: &How, part: Part) -> bool
-    ensures { result ≡ spec.goes_with how.now part }
-{
-    match how {
-        How::Complete | How::Abandon | How::Defer => true,
-        How::DeadLetter { .. } => is_main(part),
-    }
-}
 
 fn message_of(copy: &StoredCopy) -> Result<Message, AllocError>
     ensures { IfOk result (λ m. m ≡ copy.now.message) }

@@ -3,13 +3,13 @@ ghost use Rattle.std.specs.Prelude.{◌≡◌, ◌&&◌, MatchResult};
 ghost use Rattle.std.specs.Option.{option_map};
 ghost use Rattle.sb_machine.specs.Claims as spec;
 ghost use Rattle.sb_machine.specs.Leases as leases;
-ghost use Rattle.sb_machine.specs.Names as names;
 ghost use Rattle.sb_entities.specs.Stores.{entity_in, leaf_in, space_in};
 ghost use Rattle.sb_engine.specs.Heads.{Passes, Refuses, Allows, Forbids, claim_in};
 
 use sb_entities::{EntityStore, PartStore, SpaceStore};
 use sb_machine::{Part, Refusal, Session, Token};
 use sb_model::Text;
+use sb_names::is_main;
 
 /// The session that a receiver holds, and the lock that holds it.
 #[derive(Clone, Copy)]
@@ -19,12 +19,6 @@ pub struct Claim<'a> {
     pub lock: u64,
     /// Up to when the lock lives, in ms since 1970.
     pub until: u64,
-}
-
-pub fn is_main(part: Part) -> bool
-    ensures { result ≡ names.is_main part }
-{
-    matches!(part, Part::Main)
 }
 
 /// Whether the messages of this part belong to sessions.

@@ -5,9 +5,9 @@ ghost use Rattle.sb_machine.specs.Repeats as repeats;
 ghost use Rattle.sb_machine.specs.Repeats.{Outcome};
 ghost use Rattle.sb_engine.specs.Calls.{Follows};
 
-use crate::limits::MAX_CLIENTS;
-use crate::plan::fields::takes_number;
 use sb_machine::{Act, By, Call, Kept, Refusal, Reply};
+use sb_names::limits::MAX_CLIENTS;
+use sb_names::takes_number;
 use sb_repeats::{Clients, is_same_act};
 
 /// Who asks, where the act takes a number.

@@ -5,9 +5,9 @@ ghost use Rattle.sb_machine.specs.Changes as machine;
 ghost use Rattle.sb_machine.specs.Namespace as namespace;
 ghost use Rattle.sb_engine.specs.Numbers as numbers;
 
-use crate::limits::MAX_NUMBER;
 use sb_entities::SpaceStore;
 use sb_machine::{Change, Changes, LeafChange};
+use sb_names::limits::MAX_NUMBER;
 use std::collections::VecDeque;
 
 /// What is numbered.

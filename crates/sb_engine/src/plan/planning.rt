@@ -13,11 +13,11 @@ ghost use Rattle.sb_engine.specs.Small.{is_small};
 use crate::Draft;
 use crate::acts::plan_act;
 use crate::find::via::is_via;
-use crate::plan::fields::bad_field;
 use crate::plan::numbers::is_numbered;
 use sb_entities::SpaceStore;
 use sb_machine::{Act, By, Refusal};
 use sb_model::Text;
+use sb_names::bad_field;
 use std::alloc::Global;
 
 fn is_via_in(space: &SpaceStore, act: &Act) -> bool

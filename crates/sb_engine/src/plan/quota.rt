@@ -7,9 +7,9 @@ ghost use Rattle.sb_machine.specs.Rows.{within_quota};
 ghost use Rattle.sb_engine.specs.Quotas as quotas;
 ghost use Rattle.sb_engine.specs.Quotas.{AreCounted, Judges, JudgesCounts};
 
-use crate::limits::MAX_COPIES;
 use sb_entities::SpaceStore;
 use sb_machine::{Change, Changes, LeafChange, Refusal};
+use sb_names::limits::MAX_COPIES;
 use std::alloc::AllocError;
 use std::collections::VecDeque;
 

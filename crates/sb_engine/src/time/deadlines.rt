@@ -2,9 +2,9 @@
 ghost use Rattle.std.specs.Prelude.{◌≡◌};
 ghost use Rattle.sb_engine.specs.Deadlines as spec;
 
-use crate::find::claims::is_main;
 use sb_copies::{expiry, standing_due};
 use sb_machine::{Part, Session, StoredCopy};
+use sb_names::is_main;
 
 pub fn copy_deadline(part: Part, copy: &StoredCopy) -> Option<u64>
     ensures { result ≡ spec.standing_deadline part (spec.in_range (spec.copy_expiry copy.now)) copy.now.standing }

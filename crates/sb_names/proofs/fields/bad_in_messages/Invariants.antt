@@ -1,6 +1,6 @@
 use Rattle.std.proofs.Common.{◌≡◌, drop}
 use Rattle.sb_machine.specs.Fields.{bad_in_messages}
-use Rattle.sb_engine.proofs.plan.fields.bad_in_messages.Given as goal
+use Rattle.sb_names.proofs.fields.bad_in_messages.Given as goal
 
 -- no message so far is at fault
 abbrev pub invariant-loop-message : goal.invariant-loop-message

@@ -1,6 +1,6 @@
 use Rattle.std.proofs.Common.{rules}
 use Rattle.std.proofs.lemmas.Str.{chars_from_encodes}
-use Rattle.sb_engine.proofs.plan.fields.characters.Goals as goal
+use Rattle.sb_names.proofs.ranges.characters.Goals as goal
 
 pub returns : goal.returns
 returns c = search (rules, chars_from_encodes)

@@ -1,6 +1,6 @@
 use Rattle.std.proofs.Common.{◌≡◌, drop}
 use Rattle.sb_machine.specs.Fields.{bad_in_texts}
-use Rattle.sb_engine.proofs.plan.fields.bad_in_texts.Given as goal
+use Rattle.sb_names.proofs.fields.bad_in_texts.Given as goal
 
 -- no text so far is at fault
 abbrev pub invariant-loop-own : goal.invariant-loop-own

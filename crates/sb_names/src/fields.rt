@@ -3,53 +3,16 @@ ghost use Rattle.std.specs.Prelude.{◌≡◌, ◌&&◌, ◌||◌, not, length, 
 ghost use Rattle.std.specs.List.{list_all, list_any};
 ghost use Rattle.std.specs.Str.{chars};
 ghost use Rattle.sb_machine.specs.Fields as fields;
-ghost use Rattle.sb_machine.specs.Names as names;
 ghost use Rattle.sb_model.specs.Effects as effects;
 
+use crate::address::is_main;
 use crate::limits::{
     MAX_CLIENT, MAX_ID, MAX_MESSAGES, MAX_NUMBER, MAX_PEEKED, MAX_REASON, MAX_TTL,
     MAX_USER_PROPERTIES,
 };
-use sb_machine::{Act, By, FilterText, How, Part, Path, Which};
-use sb_model::{Message, Property, Rows, SystemName, SystemText, Text};
-
-// ---- numbers and texts
-
-fn is_between(low: u64, high: u64, n: u64) -> bool
-    ensures { result ≡ fields.is_between low high n }
-{
-    low <= n && n <= high
-}
-
-fn is_between_or_none(low: u64, high: u64, n: Option<u64>) -> bool
-    ensures { result ≡ fields.is_between_or_none low high n }
-{
-    match n {
-        Some(n) => is_between(low, high, n),
-        None => true,
-    }
-}
-
-fn is_number(n: u64) -> bool
-    ensures { result ≡ fields.is_number n }
-{
-    is_between(1, MAX_NUMBER, n)
-}
-
-fn characters(text: &str) -> usize
-    ensures { result ≡ length (chars text.now) }
-{
-    text.chars().count()
-}
-
-fn is_short(most: usize, text: &Option<Text>) -> bool
-    ensures { result ≡ fields.is_short most text.now }
-{
-    match text {
-        Some(text) => characters(text.as_str()) <= most,
-        None => true,
-    }
-}
+use crate::ranges::{characters, is_between, is_between_or_none, is_number, is_short};
+use sb_machine::{Act, By, FilterText, How, Path, Which};
+use sb_model::{Message, Property, SystemName, SystemText, Text};
 
 // The key where the test fails.
 fn unless(passes: bool, key: &'static str) -> Option<&'static str>
@@ -90,7 +53,8 @@ fn is_good_text(own: &SystemText) -> bool
     is_within(text_limit(own.name), characters(own.text.as_str()))
 }
 
-fn bad_in_texts(sys: &[SystemText]) -> Option<&'static str>
+/// The name of the first system text that is longer than it may be.
+pub fn bad_in_texts(sys: &[SystemText]) -> Option<&'static str>
     ensures { option_map (λ k. k.now) result ≡ fields.bad_in_texts sys.now }
 {
     for own in sys {
@@ -213,7 +177,8 @@ fn bad_in_which(which: &Which) -> Option<&'static str>
     }
 }
 
-fn bad_in_how(how: &How) -> Option<&'static str>
+/// The first field of a settlement's manner that is out of its range: `reason`, then `description`.
+pub fn bad_in_how(how: &How) -> Option<&'static str>
     ensures { option_map (λ k. k.now) result ≡ fields.bad_in_how how.now }
 {
     match how {
@@ -241,15 +206,6 @@ fn bad_in_settle(which: &Which, txn: Option<u64>, how: &How) -> Option<&'static 
         return Some("txn");
     }
     bad_in_how(how)
-}
-
-fn is_main(part: Part) -> bool
-    ensures { result ≡ names.is_main part }
-{
-    match part {
-        Part::Main => true,
-        Part::Dead | Part::Transfer => false,
-    }
 }
 
 fn bad_in_entity(path: &Path) -> Option<&'static str>

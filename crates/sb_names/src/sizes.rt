@@ -20,7 +20,8 @@ fn sum(a: u64, b: u64) -> Result<u64, AllocError>
     }
 }
 
-fn value_size(value: &PropertyValue) -> u64
+/// How large the value of a property counts, in bytes: a text as it is long, another as 8.
+pub fn value_size(value: &PropertyValue) -> u64
     ensures { result ≡ effects.value_size value.now }
 {
     match value {
@@ -29,7 +30,8 @@ fn value_size(value: &PropertyValue) -> u64
     }
 }
 
-fn property_size(property: &Property) -> Result<u64, AllocError>
+/// How large a property is with its name, in bytes.
+pub fn property_size(property: &Property) -> Result<u64, AllocError>
     ensures { IfOk result (λ size. size ≡ effects.property_size property.now) }
 {
     sum(
@@ -38,7 +40,8 @@ fn property_size(property: &Property) -> Result<u64, AllocError>
     )
 }
 
-fn properties_size(props: &[Property]) -> Result<u64, AllocError>
+/// How large user properties are together, in bytes.
+pub fn properties_size(props: &[Property]) -> Result<u64, AllocError>
     ensures { IfOk result (λ size. size ≡ sum_by effects.property_size props.now) }
 {
     let mut size = 0_u64;
@@ -48,7 +51,8 @@ fn properties_size(props: &[Property]) -> Result<u64, AllocError>
     Ok(size)
 }
 
-fn texts_size(sys: &[SystemText]) -> Result<u64, AllocError>
+/// How large system texts are together, in bytes.
+pub fn texts_size(sys: &[SystemText]) -> Result<u64, AllocError>
     ensures { IfOk result (λ size. size ≡ sum_by effects.text_size sys.now) }
 {
     let mut size = 0_u64;
@@ -79,7 +83,8 @@ fn body_size(message: &Message) -> u64
     message.body.len() as u64
 }
 
-fn message_properties_size(message: &Message) -> Result<u64, AllocError>
+/// How large the properties of a message are together, in bytes.
+pub fn property_bytes(message: &Message) -> Result<u64, AllocError>
     ensures { IfOk result (λ size. size ≡ effects.property_bytes message.now) }
 {
     sum(
@@ -91,7 +96,7 @@ fn message_properties_size(message: &Message) -> Result<u64, AllocError>
 fn message_size(message: &Message) -> Result<u64, AllocError>
     ensures { IfOk result (λ size. size ≡ length message.now.body + effects.property_bytes message.now) }
 {
-    sum(body_size(message), message_properties_size(message)?)
+    sum(body_size(message), property_bytes(message)?)
 }
 
 fn all_sizes(sent: &[Message]) -> Result<u64, AllocError>
@@ -115,7 +120,7 @@ fn large_in(message: &Message) -> Result<Option<u64>, AllocError>
 {
     match above(MAX_BODY, body_size(message)) {
         Some(size) => Ok(Some(size)),
-        None => Ok(above(MAX_PROPERTY_BYTES, message_properties_size(message)?)),
+        None => Ok(above(MAX_PROPERTY_BYTES, property_bytes(message)?)),
     }
 }
 
