@@ -36,7 +36,8 @@ pub fn end_under(rows: &[Session], lock: u64) -> Option<u64>
     }
 }
 
-fn least_of(rows: &[Session]) -> u64
+/// When the first of their locks ends.
+pub fn least_of(rows: &[Session]) -> u64
     ensures { result ≡ spec.least_end rows.now }
 {
     let mut least = NEVER;

@@ -5,9 +5,9 @@ ghost use Rattle.sb_machine.specs.Keyed.{changed};
 ghost use Rattle.sb_machine.specs.Leases.{is_living_holder};
 ghost use Rattle.sb_machine.specs.Leaves.{has_id, is_held_under, opened, prolonged_holder, remembered};
 ghost use Rattle.sb_sessions.specs.Ends.{least_end};
-ghost use Rattle.sb_sessions.specs.Sessions.{seating};
+ghost use Rattle.sb_sessions.specs.Sessions.{seating, AreSorted};
 
-use crate::ends::{NEVER, end_under, least_moved, least_opened};
+use crate::ends::{NEVER, end_under, least_moved, least_of, least_opened};
 use crate::rows;
 use sb_machine::{Session, Token};
 use sb_model::{Rows, Text};
@@ -45,6 +45,21 @@ impl Sessions {
             sessions: Vec::new(alloc),
             spare: 0,
             least: NEVER,
+        }
+    }
+
+    /// These, in rising ids; takes no memory.
+    pub fn from_rows(sessions: Rows<Session>) -> Sessions
+        requires { AreSorted sessions }
+        ensures sessions { result.sessions ≡ sessions }
+        ensures spare { result.spare ≡ 0 }
+    {
+        let sessions = sessions.into_vec();
+        let least = least_of(&sessions);
+        Sessions {
+            sessions,
+            spare: 0,
+            least,
         }
     }
 
