@@ -281,3 +281,9 @@ told_again key k r rows found = at (k == key) refl where
       let there : list_any (is_at k) rows ≡ true = subst (λ (n : ℕ). list_any (is_at n) rows ≡ true) same (any_found (is_at key) r rows (sym found)) in
       rw is there
   at false is = rw is refl
+
+-- what is left to tell, once the first is told
+pub told_one : (a b c : Bool) → ((a || b) || c) ≡ (b || (a || c))
+told_one true true c = refl
+told_one true false c = refl
+told_one false b c = refl

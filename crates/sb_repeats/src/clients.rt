@@ -11,6 +11,7 @@ ghost use Rattle.sb_machine.specs.Repeats.{kept_for};
 ghost use Rattle.sb_repeats.specs.Clients.{is_first, of_client};
 
 use sb_machine::Kept;
+use sb_model::Rows;
 use std::alloc::{AllocError, Global};
 use std::marker::Model;
 use std::mem;
@@ -46,6 +47,18 @@ impl Clients {
         }
     }
 
+    /// These, in the order of their names; takes no memory.
+    pub fn from_rows(clients: Rows<Kept>) -> Clients
+        requires { IsSorted is_first clients }
+        ensures clients { result.clients ≡ clients }
+        ensures spare { result.spare ≡ 0 }
+    {
+        Clients {
+            clients: clients.into_vec(),
+            spare: 0,
+        }
+    }
+
     /// How many slots are promised.
     pub fn spare(&self) -> usize
         ensures { result ≡ self.now.spare }
@@ -64,6 +77,12 @@ impl Clients {
             self.spare = count;
         }
         Ok(())
+    }
+
+    pub fn as_slice(&self) -> &[Kept]
+        ensures { result.now ≡ self.now.clients }
+    {
+        self.clients.as_slice()
     }
 
     pub fn size(&self) -> usize

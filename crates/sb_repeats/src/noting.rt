@@ -1,5 +1,5 @@
 // An id noted in its place, and those that are past their window forgotten.
-ghost use Rattle.std.specs.Prelude.{◌≡◌, ℕ, ◌+◌, ◌≤◌, ◌<◌, ◌==◌, ◌||◌, drop, filter, IsTrue, Some};
+ghost use Rattle.std.specs.Prelude.{◌≡◌, ℕ, ◌+◌, ◌≤◌, ◌<◌, ◌^◌, ◌==◌, ◌||◌, drop, filter, length, IfOk, IsTrue, Some};
 ghost use Rattle.std.specs.List.{list_any};
 ghost use Rattle.std.specs.VecDeque.{deque_len, deque_capacity};
 ghost use Rattle.sb_index.specs.Rows.{is_at};
@@ -12,6 +12,7 @@ use crate::known::{is_known, is_recent_at, key_of, place_of};
 use sb_index::{Index, Row};
 use sb_machine::AcceptedId;
 use sb_model::Text;
+use std::alloc::{AllocError, Global};
 use std::collections::VecDeque;
 
 /// Notes an id under a window, or none where there is no window.
@@ -87,6 +88,39 @@ fn tell(known: &mut Index, key: u128)
         marked: false,
         due: u64::MAX,
     });
+}
+
+// ---- those that are there already
+
+/// An index with the rows of these.
+pub(crate) fn index_of(alloc: Global, ids: &[AcceptedId]) -> Result<Index, AllocError>
+    ensures tells { IfOk result (λ k. windows.Tells k.rows ids.now) }
+    ensures moments { IfOk result (λ k. windows.AreMoments ids.now) }
+{
+    let mut known = Index::new(alloc);
+    known.reserve(ids.len())?;
+    tell_each(&mut known, ids);
+    Ok(known)
+}
+
+#[tactic(auto, using(crate::proofs::Keys::told_one))]
+fn tell_each(known: &mut Index, ids: &[AcceptedId])
+    requires nodes { length ids.now ≤ known.old.spare }
+    ensures told { (k : ℕ) → list_any (is_at k) known.new.rows ≡ (list_any (windows.has_key k) ids.now || list_any (is_at k) known.old.rows) }
+    ensures moments { windows.AreMoments ids.now }
+{
+    for accepted in ids {
+        tell_one(known, accepted);
+    }
+}
+
+fn tell_one(known: &mut Index, accepted: &AcceptedId)
+    requires nodes { 1 ≤ known.old.spare }
+    ensures told { (k : ℕ) → list_any (is_at k) known.new.rows ≡ (windows.has_key k accepted.now || list_any (is_at k) known.old.rows) }
+    ensures moment { accepted.now.moment < 2 ^ 64 }
+    ensures nodes { known.old.spare ≤ known.new.spare + 1 }
+{
+    tell(known, key_of(accepted.id.as_str(), accepted.moment));
 }
 
 // ---- what is past

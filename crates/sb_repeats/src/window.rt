@@ -1,12 +1,14 @@
 // The ids that an entity accepted, with their moments.
-ghost use Rattle.std.specs.Prelude.{◌≡◌, ◌-◌, ◌≤◌, max, [], OnOk, OnErr};
+ghost use Rattle.std.specs.Prelude.{◌≡◌, ◌-◌, ◌≤◌, ◌++◌, max, [], OnOk, OnErr, IfOk};
 ghost use Rattle.sb_machine.specs.Changes as spec;
+ghost use Rattle.sb_machine.specs.Each.{IsSorted};
+ghost use Rattle.sb_repeats.specs.Windows.{comes_first};
 
 use crate::known::is_known;
-use crate::noting::note_under;
+use crate::noting::{index_of, note_under};
 use sb_index::Index;
 use sb_machine::AcceptedId;
-use sb_model::Text;
+use sb_model::{Rows, Text};
 use std::alloc::{AllocError, Global};
 use std::collections::VecDeque;
 use std::marker::Model;
@@ -45,6 +47,20 @@ impl Window {
         }
     }
 
+    /// These, in the order of their moments, of one moment in that of the ids.
+    pub fn from_rows(alloc: Global, ids: Rows<AcceptedId>) -> Result<Window, AllocError>
+        requires { IsSorted comes_first ids }
+        ensures ids { IfOk result (λ w. w.ids ≡ ids) }
+        ensures spare { IfOk result (λ w. w.spare ≡ 0) }
+    {
+        let known = index_of(alloc, ids.as_slice())?;
+        Ok(Window {
+            ids: VecDeque::from_vec(ids.into_vec()),
+            known,
+            spare: 0,
+        })
+    }
+
     /// How many slots are promised.
     pub fn spare(&self) -> usize
         ensures { result ≡ self.now.spare }
@@ -73,6 +89,13 @@ impl Window {
         ensures spare { self.new.spare ≡ self.old.spare - 1 }
     {
         self.spare = self.spare.saturating_sub(1);
+    }
+
+    /// All of them: those of the first slice, and then those of the second.
+    pub fn as_slices(&self) -> (&[AcceptedId], &[AcceptedId])
+        ensures { result.0.now ++ result.1.now ≡ self.now.ids }
+    {
+        self.ids.as_slices()
     }
 
     /// Whether the id was accepted less than so many seconds before `moment`, in ms since 1970.
