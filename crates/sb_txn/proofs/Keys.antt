@@ -47,6 +47,12 @@ noted_there k key rows there = at (k == key) refl where
 pub noted_new : (k : ℕ) (x : Row) (rows : List Row) → list_any (is_at k) (with_row x rows) ≡ ((k == x.key) || list_any (is_at k) rows)
 noted_new k x rows = any_insert (is_at k) rows (prefix_len (is_below x.key) rows) x
 
+-- what is left to note, once the first is noted
+pub noted_one : (a b c : Bool) → ((a || b) || c) ≡ (b || (a || c))
+noted_one true true c = refl
+noted_one true false c = refl
+noted_one false b c = refl
+
 -- ---- one less
 
 pub noted_without : (k key : ℕ) (rows : List Row) → list_any (is_at k) (without key rows) ≡ (not (k == key) && list_any (is_at k) rows)

@@ -1,4 +1,5 @@
 mod First
+mod Given
 mod Keys
 mod Kept
 mod Numbered

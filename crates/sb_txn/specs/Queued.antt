@@ -6,6 +6,7 @@ use Rattle.sb_index.specs.declared.row.Row.{Row}
 use Rattle.sb_machine.specs.Each.{Each, Pairs}
 use Rattle.sb_machine.specs.declared.state.Operation.{Operation}
 use Rattle.sb_machine.specs.declared.state.Operation.TheVariants.{Send, Settle}
+use Rattle.sb_machine.specs.declared.state.Transaction.{Transaction}
 use Rattle.sb_txn.specs.Txns.{Opened}
 
 -- numbers of 64 bits, each below those of all behind it
@@ -28,8 +29,12 @@ is_keyed number key (Send to messages) = false
 is_keyed number key (Settle from copy token session how) = key == key_of token.lock number
 
 -- a transaction in which one of this key is queued
+abbrev pub is_keyed_in : ℕ → Transaction → Bool
+is_keyed_in key x = list_any (is_keyed x.number key) x.operations
+
+-- the same, with its room
 abbrev pub has_keyed : ℕ → Opened → Bool
-has_keyed key r = list_any (is_keyed r.transaction.number key) r.transaction.operations
+has_keyed key r = is_keyed_in key r.transaction
 
 -- and it is on this entity
 abbrev pub has_keyed_on : ℕ → ℕ → Opened → Bool

@@ -20,6 +20,10 @@ pub record Table : Type 0 where
 abbrev pub transactions_of : List Opened → List Transaction
 transactions_of rows = map (λ r. r.transaction) rows
 
+-- a transaction with no slots for more
+abbrev pub full : Transaction → Opened
+full x = record { transaction = x; spare = 0 }
+
 -- whether this is the transaction of a number
 abbrev pub has_txn : ℕ → Opened → Bool
 has_txn n r = is_transaction n r.transaction

@@ -1,6 +1,6 @@
 // One open transaction, with room for its operations.
 ghost use Rattle.std.specs.Prelude.{◌≡◌, ◌+◌, ◌≤◌, OnOk, OnErr};
-ghost use Rattle.sb_txn.specs.Txns.{Opened, begun, with_less_room, with_queued, with_room};
+ghost use Rattle.sb_txn.specs.Txns.{Opened, begun, full, with_less_room, with_queued, with_room};
 
 use sb_machine::{Operation, Transaction};
 use sb_model::Rows;
@@ -75,6 +75,19 @@ impl OpenTransaction {
             entity,
             deadline,
             operations: Vec::new(alloc),
+            spare: 0,
+        }
+    }
+
+    // With the list of its operations as it is.
+    pub(crate) fn of(transaction: Transaction) -> OpenTransaction
+        ensures { result ≡ full transaction }
+    {
+        OpenTransaction {
+            number: transaction.number,
+            entity: transaction.entity,
+            deadline: transaction.deadline,
+            operations: transaction.operations.into_vec(),
             spare: 0,
         }
     }

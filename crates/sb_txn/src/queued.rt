@@ -1,12 +1,14 @@
 // The locks whose settlements are queued, in an index: by lock, and of one lock by transaction.
-ghost use Rattle.std.specs.Prelude.{◌≡◌, ◌≤◌, ◌+◌, ℕ, ◌==◌, ◌&&◌, ◌||◌, not};
+ghost use Rattle.std.specs.Prelude.{◌≡◌, ◌≤◌, ◌<◌, ◌+◌, ◌^◌, ℕ, ◌==◌, ◌&&◌, ◌||◌, length, not, IfOk, OnOk};
 ghost use Rattle.std.specs.List.{list_any};
 ghost use Rattle.sb_index.specs.Rows.{is_at};
+ghost use Rattle.sb_machine.specs.Each.{Each};
 ghost use Rattle.sb_txn.specs.Queued as spec;
 
 use crate::OpenTransaction;
 use sb_index::{Index, Row};
-use sb_machine::Operation;
+use sb_machine::{Operation, Transaction};
+use std::alloc::{AllocError, Global};
 
 // How far the keys of one lock stand from those of the next.
 const LOCK_STRIDE: u128 = 1 << 64;
@@ -22,6 +24,49 @@ pub fn note(index: &mut Index, number: u64, operation: &Operation)
         Operation::Send { .. } => {}
         Operation::Settle { token, .. } => mark(index, key_of(token.lock, number)),
     }
+}
+
+/// These are queued in the transaction of this number.
+#[tactic(auto, using(crate::proofs::Keys::noted_one))]
+fn note_each(index: &mut Index, number: u64, operations: &[Operation])
+    requires room { length operations.now ≤ index.old.spare }
+    ensures keys { (k : ℕ) → list_any (is_at k) index.new.rows ≡ (list_any (spec.is_keyed number k) operations.now || list_any (is_at k) index.old.rows) }
+{
+    for operation in operations {
+        note(index, number, operation);
+    }
+}
+
+/// A transaction is open, with what is queued in it.
+fn note_open(index: &mut Index, transaction: &Transaction) -> Result<(), AllocError>
+    ensures keys { OnOk result ((k : ℕ) → list_any (is_at k) index.new.rows ≡ (spec.is_keyed_in k transaction.now || list_any (is_at k) index.old.rows)) }
+    ensures number { OnOk result (transaction.now.number < 2 ^ 64) }
+{
+    index.reserve(transaction.operations.len())?;
+    note_each(index, transaction.number, transaction.operations.as_slice());
+    Ok(())
+}
+
+/// All of these are open.
+#[tactic(auto, using(crate::proofs::Keys::noted_one))]
+fn note_all(index: &mut Index, transactions: &[Transaction]) -> Result<(), AllocError>
+    ensures keys { OnOk result ((k : ℕ) → list_any (is_at k) index.new.rows ≡ (list_any (spec.is_keyed_in k) transactions.now || list_any (is_at k) index.old.rows)) }
+    ensures numbers { OnOk result (Each (λ x. x.number < 2 ^ 64) transactions.now) }
+{
+    for transaction in transactions {
+        note_open(index, transaction)?;
+    }
+    Ok(())
+}
+
+/// An index with the keys of all that is queued in these.
+pub fn index_of(alloc: Global, transactions: &[Transaction]) -> Result<Index, AllocError>
+    ensures keys { IfOk result (λ i. (k : ℕ) → list_any (is_at k) i.rows ≡ list_any (spec.is_keyed_in k) transactions.now) }
+    ensures numbers { IfOk result (λ i. Each (λ x. x.number < 2 ^ 64) transactions.now) }
+{
+    let mut index = Index::new(alloc);
+    note_all(&mut index, transactions)?;
+    Ok(index)
 }
 
 /// A transaction is open no more.

@@ -1,6 +1,6 @@
 // Open transactions as rows: where one stands, and what changes there, with the index of the locks
 // that are queued in them.
-ghost use Rattle.std.specs.Prelude.{◌≡◌, ◌≤◌, ◌<◌, ◌+◌, ◌^◌, max, [], ◌∷◌, length, filter, find, position, sum_by, IfSome, OnOk, OnErr, slice_set, vec_len, vec_capacity, Some};
+ghost use Rattle.std.specs.Prelude.{◌≡◌, ◌≤◌, ◌<◌, ◌+◌, ◌^◌, max, [], ◌∷◌, length, filter, find, map, position, sum_by, IfOk, IfSome, OnOk, OnErr, slice_set, vec_len, vec_capacity, Some};
 ghost use Rattle.std.specs.List.{slice_get, remove, list_any, prefix_len};
 ghost use Rattle.std.specs.Option.{option_map};
 ghost use Rattle.sb_machine.specs.Changes.{is_transaction, with_operation};
@@ -8,12 +8,13 @@ ghost use Rattle.sb_machine.specs.Keyed.{changed};
 ghost use Rattle.sb_machine.specs.SettleRow.{settles};
 ghost use Rattle.sb_txn.specs.Queued as spec;
 ghost use Rattle.sb_txn.specs.Queued.{is_earlier, slots_of, spare_of, AreKeyed, AreNumbered, IsKept};
-ghost use Rattle.sb_txn.specs.Txns.{transactions_of, has_txn, with_less_room, with_queued, with_room, is_elsewhere};
+ghost use Rattle.sb_txn.specs.Txns.{full, transactions_of, has_txn, with_less_room, with_queued, with_room, is_elsewhere};
 
 use crate::{OpenTransaction, queued};
 use sb_index::Index;
-use sb_machine::Operation;
-use std::alloc::AllocError;
+use sb_machine::{Operation, Transaction};
+use sb_model::Rows;
+use std::alloc::{AllocError, Global};
 
 // ---- places
 
@@ -276,4 +277,20 @@ fn spare_on(row: &OpenTransaction, entity: u64) -> usize
     } else {
         0
     }
+}
+
+// ---- those that are open already
+
+/// These, with no slots for more.
+pub fn rows_of(
+    alloc: Global,
+    transactions: Rows<Transaction>,
+) -> Result<Vec<OpenTransaction>, AllocError>
+    ensures { IfOk result (λ v. v.items ≡ map full transactions) }
+{
+    let mut rows = Vec::with_capacity(alloc, transactions.len())?;
+    'open: for transaction in transactions.into_vec() {
+        rows.push(OpenTransaction::of(transaction))?;
+    }
+    Ok(rows)
 }

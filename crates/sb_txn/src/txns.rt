@@ -1,16 +1,17 @@
 // The open transactions of a namespace, in the order in which they were begun.
-ghost use Rattle.std.specs.Prelude.{◌≡◌, ◌≤◌, ◌<◌, ◌-◌, max, [], ◌∷◌, ◌++◌, length, filter, find, OnOk, OnErr, IfSome};
+ghost use Rattle.std.specs.Prelude.{◌≡◌, ◌≤◌, ◌<◌, ◌-◌, max, [], ◌∷◌, ◌++◌, length, filter, find, map, OnOk, OnErr, IfOk, IfSome};
 ghost use Rattle.std.specs.List.{list_any};
 ghost use Rattle.std.specs.Option.{option_map};
 ghost use Rattle.sb_machine.specs.Changes.{is_transaction, with_operation};
-ghost use Rattle.sb_machine.specs.Each.{Each};
+ghost use Rattle.sb_machine.specs.Each.{Each, Pairs};
 ghost use Rattle.sb_machine.specs.Keyed.{changed};
 ghost use Rattle.sb_machine.specs.SettleRow.{settles};
-ghost use Rattle.sb_txn.specs.Txns.{transactions_of, has_txn, begun, with_less_room, with_queued, with_room, is_elsewhere};
+ghost use Rattle.sb_txn.specs.Txns.{transactions_of, has_txn, begun, full, with_less_room, with_queued, with_room, is_elsewhere};
 
-use crate::{OpenTransaction, rows};
+use crate::{OpenTransaction, queued, rows};
 use sb_index::Index;
 use sb_machine::{Operation, Transaction};
+use sb_model::Rows;
 use std::alloc::{AllocError, Global};
 use std::marker::Model;
 
@@ -51,6 +52,24 @@ impl Txns {
             keys: Index::new(alloc),
             slots: 0,
         }
+    }
+
+    /// These, in rising numbers, with no slots for more.
+    pub fn from_rows(alloc: Global, transactions: Rows<Transaction>) -> Result<Txns, AllocError>
+        requires { Pairs (λ x y. x.number < y.number) transactions }
+        ensures rows { IfOk result (λ t. t.rows ≡ map full transactions) }
+        ensures transactions { IfOk result (λ t. transactions_of t.rows ≡ transactions) }
+        ensures spare { IfOk result (λ t. t.spare ≡ 0) }
+    {
+        let keys = queued::index_of(alloc, transactions.as_slice())?;
+        let rows = rows::rows_of(alloc, transactions)?;
+        Ok(Txns {
+            alloc,
+            rows,
+            spare: 0,
+            keys,
+            slots: 0,
+        })
     }
 
     // ---- room
