@@ -26,3 +26,5 @@ pub mod Firsts
 pub mod Leading
 pub mod Seating
 pub mod Next
+pub mod Fronts
+pub mod Holdable

@@ -32,7 +32,7 @@ rising_is above last (r ∷ rs) h =
     let it = both (nat_lt above (txn_number r)) (are_rising (txn_number r) last rs) h in
     (is_above above (txn_number r) it.0, rising_is (txn_number r) last rs it.1)
 
-is_rising : (above last : ℕ) (rows : List Opened) → AreRising txn_number above last rows → are_rising above last rows ≡ true
+pub is_rising : (above last : ℕ) (rows : List Opened) → AreRising txn_number above last rows → are_rising above last rows ≡ true
 is_rising above last [] h = within_is above last h
 is_rising above last (r ∷ rs) h = rw (above_is above (txn_number r) h.0) (is_rising (txn_number r) last rs h.1)
 

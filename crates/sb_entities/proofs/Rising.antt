@@ -1,5 +1,5 @@
--- Open transactions stay in rising number.
-use Rattle.std.proofs.Common.{◌≡◌, ℕ, ◌+◌, ◌≤◌, Bool, true, false, List, [], ◌∷◌, ◌++◌, filter, refl, arith}
+-- What rises by a key, as it changes.
+use Rattle.std.proofs.Common.{◌≡◌, ℕ, ◌+◌, ◌≤◌, Bool, true, false, List, [], ◌∷◌, ◌++◌, filter, length, refl, arith}
 use Rattle.sb_machine.specs.Each.{Each}
 use Rattle.sb_machine.specs.Keyed.{AreRising, changed}
 
@@ -37,3 +37,13 @@ module _ {X : Type 0} (key : X → ℕ) where
   pub each_above : (n above last : ℕ) (Q : X → Type 0) (xs : List X) → n ≤ above → AreRising key above last xs → Each (λ x. key x ≡ n → Q x) xs
   each_above n above last Q [] le h = tt
   each_above n above last Q (x ∷ xs) le h = ((λ is. absurd (omega (arith, is, le, h.0))), each_above n (key x) last Q xs (omega (arith, le, h.0)) h.1)
+
+  -- up to a later last
+  pub rising_passed : (above last later : ℕ) (xs : List X) → last ≤ later → AreRising key above last xs → AreRising key above later xs
+  rising_passed above last later [] le h = omega (arith, le, h)
+  rising_passed above last later (x ∷ xs) le h = (h.0, rising_passed (key x) last later xs le h.1)
+
+  -- there are no more than there are numbers
+  pub rising_few : (above last : ℕ) (xs : List X) → AreRising key above last xs → above + length xs ≤ last
+  rising_few above last [] h = omega (arith, h)
+  rising_few above last (x ∷ xs) h = omega (arith, h.0, rising_few (key x) last xs h.1)

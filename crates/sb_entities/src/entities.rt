@@ -206,6 +206,17 @@ impl Entities {
         self.spare -= 1;
     }
 
+    /// All numbers up to this one have been given, to entities that are there or are gone.
+    #[tactic(auto, using(crate::proofs::Rising::rising_passed))]
+    pub fn pass(&mut self, last: u64)
+        requires { self.old.last ≤ last }
+        ensures rows { self.new.rows ≡ self.old.rows }
+        ensures spare { self.new.spare ≡ self.old.spare }
+        ensures last { self.new.last ≡ last }
+    {
+        self.last = last;
+    }
+
     /// Takes out those of this number.
     pub fn remove(&mut self, number: u64)
         ensures rows { entries_in self.new.rows ≡ filter (λ x. not (has_number number x)) (entries_in self.old.rows) }

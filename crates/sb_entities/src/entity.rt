@@ -8,7 +8,7 @@ use crate::part::PartStore;
 use crate::place::{EntityPlace, PartPlace};
 use crate::slots::one_more;
 use crate::tally::{NOTHING, Tally, change_part};
-use sb_machine::{LeafChange, Listed, Part};
+use sb_machine::{Entity, LeafChange, Listed, Part};
 use sb_repeats::Window;
 use std::alloc::{AllocError, Global};
 
@@ -27,7 +27,7 @@ pub struct EntityStore {
 }
 
 impl EntityStore {
-    ghost use Rattle.std.specs.Prelude.{◌≡◌, ◌+◌, ◌≤◌, OnOk, OnErr};
+    ghost use Rattle.std.specs.Prelude.{◌≡◌, ◌+◌, ◌≤◌, IfOk, OnOk, OnErr};
     ghost use Rattle.sb_machine.specs.Changes.{max_number};
     ghost use Rattle.sb_machine.specs.Leaves.{copies_given};
     ghost use Rattle.sb_machine.specs.Namespace.{leaf_of, live_in, made_in};
@@ -37,6 +37,7 @@ impl EntityStore {
     ghost use Rattle.sb_entities.specs.Stocks.{new_entry, entry_after, entry_grown, given_in, IsReady};
     ghost use Rattle.sb_entities.specs.Stores.{leaf_in, entity_in, room_in, entry_in};
     ghost use Rattle.sb_entities.specs.Tallies.{TellsOfEntity};
+    ghost use Rattle.sb_entities.specs.Whole.{IsOrdered};
     ghost use Rattle.sb_entities.specs.declared.change.EntityChange.TheVariants.{InPart};
     ghost use Rattle.sb_entities.specs.declared.place.EntityPlace.TheVariants.{OfPart};
 
@@ -76,6 +77,27 @@ impl EntityStore {
             dead: PartStore::new(alloc, false),
             transfer: PartStore::new(alloc, false),
         }
+    }
+
+    // As an entity stands, with no slots.
+    pub(crate) fn from_entity(alloc: Global, entity: Entity) -> Result<EntityStore, AllocError>
+        requires { IsOrdered entity }
+        ensures { IfOk result (λ e. entity_in e ≡ entity) }
+    {
+        let Entity {
+            about,
+            ids,
+            main,
+            dead,
+            transfer,
+        } = entity;
+        Ok(EntityStore {
+            listing: Listing::new(alloc, about),
+            ids: Window::from_rows(alloc, ids)?,
+            main: PartStore::from_leaf(alloc, true, main)?,
+            dead: PartStore::from_leaf(alloc, false, dead)?,
+            transfer: PartStore::from_leaf(alloc, false, transfer)?,
+        })
     }
 
     // The copy numbers given in its parts.

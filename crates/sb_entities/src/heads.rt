@@ -1,5 +1,5 @@
 // Heads of sessions: of each session that nobody holds, the first copy that may be received.
-ghost use Rattle.std.specs.Prelude.{◌≡◌, ◌≤◌, ◌<◌, ◌-◌, ◌++◌, ◌∷◌, [], None};
+ghost use Rattle.std.specs.Prelude.{◌≡◌, ◌≤◌, ◌<◌, ◌-◌, ◌++◌, ◌∷◌, [], IfOk, None};
 ghost use Rattle.std.specs.Option.{option_and_then, option_map};
 ghost use Rattle.sb_machine.specs.Keyed.{changed};
 ghost use Rattle.sb_machine.specs.Leaves.{has_number, is_deferred, is_held_under, opened, remembered};
@@ -8,14 +8,16 @@ ghost use Rattle.sb_machine.specs.declared.state.Leaf.{Leaf};
 ghost use Rattle.sb_machine.specs.declared.state.Standing.TheVariants.{Held};
 ghost use Rattle.sb_copies.specs.ByLock.{locks_taken};
 ghost use Rattle.sb_copies.specs.Dues.{never};
-ghost use Rattle.sb_copies.specs.Shelf.{AreBelow};
+ghost use Rattle.sb_copies.specs.Shelf.{AreBelow, AreInOrder};
 ghost use Rattle.sb_sessions.specs.Sessions.{seating};
 ghost use Rattle.sb_entities.specs.Heads as spec;
 
 use sb_copies::Shelf;
 use sb_machine::{Hold, Standing, StoredCopy, text_of};
-use sb_model::{SystemName, Text};
+use sb_model::{Rows, SystemName, Text};
 use sb_sessions::Sessions;
+use std::alloc::{AllocError, Global};
+use std::collections::VecDeque;
 
 // ---- what is there
 
@@ -274,4 +276,33 @@ fn head_again(copies: &Shelf, sessions: &Sessions, first: Option<u64>) -> Option
         Some(number) => head_at(copies, sessions, number),
         None => None,
     }
+}
+
+// ---- all copies at once
+
+/// A shelf that has these copies, beside these sessions. `expires` is whether copies come due there
+/// once they have expired.
+//
+// A slot is promised to one copy at a time: so none is left with nodes that it doesn't need.
+#[tactic(auto, using(crate::proofs::Leading::holds_none, crate::proofs::Leading::holds_still, crate::proofs::Fronts::next_below))]
+pub fn shelf_of(
+    alloc: Global,
+    expires: bool,
+    copies: Rows<StoredCopy>,
+    sessions: &Sessions,
+) -> Result<Shelf, AllocError>
+    requires order { AreInOrder copies }
+    requires below { AreBelow never copies }
+    ensures heads { IfOk result (λ s. spec.HoldsHeads s.heads s.copies sessions.now.sessions) }
+    ensures copies { IfOk result (λ s. s.copies ≡ copies) }
+    ensures expires { IfOk result (λ s. s.expires ≡ expires) }
+{
+    let mut shelf = Shelf::new(alloc, expires);
+    let mut left = VecDeque::from_vec(copies.into_vec());
+    while let Some(copy) = left.pop_front() {
+        shelf.reserve(1)?;
+        enter(&mut shelf, sessions, copy);
+    }
+    drop(left);
+    Ok(shelf)
 }

@@ -9,6 +9,7 @@
 //! `made` look at no entity. So is when something of each entity comes due, in an index: `due_by`
 //! looks only at those that are due, and `least_due` at none. Who an address names, and what is
 //! under a topic, it finds by two indexes of hashes, which cost the logarithm of what is there.
+//! `from_space` makes one of a space that a state has, at once.
 //!
 //! ```text
 //! let mut space = SpaceStore::new(alloc, salt);
@@ -38,6 +39,7 @@ mod rows;
 mod slots;
 mod space;
 mod tally;
+mod whole;
 
 pub use entity::EntityStore;
 pub use part::PartStore;

@@ -9,7 +9,7 @@ use crate::heads;
 use crate::place::PartPlace;
 use crate::slots::one_more;
 use sb_copies::Shelf;
-use sb_machine::{Fresh, LeafChange, StoredCopy};
+use sb_machine::{Fresh, Leaf, LeafChange, StoredCopy};
 use sb_model::Text;
 use sb_sessions::Sessions;
 use std::alloc::{AllocError, Global};
@@ -29,7 +29,7 @@ pub struct PartStore {
 }
 
 impl PartStore {
-    ghost use Rattle.std.specs.Prelude.{◌≡◌, ◌+◌, ◌-◌, ◌≤◌, ◌++◌, ◌∷◌, [], OnOk, OnErr};
+    ghost use Rattle.std.specs.Prelude.{◌≡◌, ◌+◌, ◌-◌, ◌≤◌, ◌++◌, ◌∷◌, [], IfOk, OnOk, OnErr};
     ghost use Rattle.std.specs.Option.{option_map};
     ghost use Rattle.sb_machine.specs.Changes.{max_number};
     ghost use Rattle.sb_machine.specs.Leaves as leaves;
@@ -40,6 +40,7 @@ impl PartStore {
     ghost use Rattle.sb_entities.specs.Released.{part_shrunk};
     ghost use Rattle.sb_entities.specs.Rooms.{part_grown, part_used, HasPartRoom};
     ghost use Rattle.sb_entities.specs.Stores.{leaf_in, part_room_in};
+    ghost use Rattle.sb_entities.specs.Whole.{IsOrderedLeaf};
 
     /// The last number given there.
     pub fn last(&self) -> u64
@@ -81,6 +82,30 @@ impl PartStore {
             copies: Shelf::new(alloc, expires),
             sessions: Sessions::new(alloc),
         }
+    }
+
+    // As a part stands, with no slots; `expires` as for `new`.
+    pub(crate) fn from_leaf(
+        alloc: Global,
+        expires: bool,
+        leaf: Leaf,
+    ) -> Result<PartStore, AllocError>
+        requires { IsOrderedLeaf leaf }
+        ensures leaf { IfOk result (λ p. leaf_in p ≡ leaf) }
+        ensures expires { IfOk result (λ p. expires_in p ≡ expires) }
+    {
+        let Leaf {
+            last,
+            copies,
+            sessions,
+        } = leaf;
+        let sessions = Sessions::from_rows(sessions);
+        let copies = heads::shelf_of(alloc, expires, copies, &sessions)?;
+        Ok(PartStore {
+            last,
+            copies,
+            sessions,
+        })
     }
 
     // When something of it comes due, in ms since 1970.
