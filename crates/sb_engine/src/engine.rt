@@ -6,6 +6,7 @@ ghost use Rattle.sb_entities.specs.Stores.{space_in, IsRoomFor};
 ghost use Rattle.sb_machine.specs.Acts.{is_via_in, row_of};
 ghost use Rattle.sb_machine.specs.Answers.{answer_of, kept_as, with_kept, max_moment};
 ghost use Rattle.sb_machine.specs.Changes.{after_all, is_numbered};
+ghost use Rattle.sb_machine.specs.Consistent.{IsConsistent};
 ghost use Rattle.sb_machine.specs.Due as due;
 ghost use Rattle.sb_machine.specs.Due.{is_none_in};
 ghost use Rattle.sb_machine.specs.Fields.{bad_field};
@@ -28,7 +29,7 @@ use crate::time::due::{is_due, soonest};
 use crate::time::ticks::plan_tick;
 use crate::{Draft, Plan, Summary};
 use sb_entities::SpaceStore;
-use sb_machine::{Act, Answered, By, Call, Changes, Kept, Refusal, Reply};
+use sb_machine::{Act, Answered, By, Call, Changes, Kept, Refusal, Reply, State};
 use sb_repeats::Clients;
 use std::alloc::{AllocError, Global};
 
@@ -107,11 +108,45 @@ impl Engine {
         }
     }
 
+    /// A namespace that is this state.
+    pub fn from_state(alloc: Global, state: State) -> Result<Engine, AllocError>
+        requires { IsConsistent state }
+        ensures { IfOk result (λ e. engine_state e ≡ state) }
+    {
+        let State {
+            now,
+            clients,
+            space,
+        } = state;
+        let space = SpaceStore::from_space(alloc, space)?;
+        Ok(Engine {
+            alloc,
+            moment: now,
+            clients: Clients::from_rows(clients),
+            space,
+            entered: Marks::new(),
+        })
+    }
+
     /// The moment up to which time has come, in ms since 1970.
     pub fn moment(&self) -> u64
         ensures { result ≡ (engine_state self.now).now }
     {
         self.moment
+    }
+
+    /// What is kept of its clients.
+    pub fn clients(&self) -> &Clients
+        ensures { result.now.clients ≡ (engine_state self.now).clients }
+    {
+        &self.clients
+    }
+
+    /// The entities and open transactions.
+    pub fn space(&self) -> &SpaceStore
+        ensures { space_in result.now ≡ (engine_state self.now).space }
+    {
+        &self.space
     }
 
     // ---- planning
