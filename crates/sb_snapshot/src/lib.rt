@@ -6,9 +6,9 @@
 //! descriptions stand here too.
 //!
 //! [`one_base`] says that a state that has a spelling (`specs/Base`) has one of its own, which begins
-//! no other, and that bytes are read as a state exactly where they spell it. Of what a base
-//! lists these are pieces with a writer and a reader: copies, accepted ids, rules, descriptions, heads of
-//! entities, sessions and transactions.
+//! no other, and that bytes are read as a state exactly where they spell it. What a base lists has a
+//! piece of each kind, with a writer and a reader; [`put_leaf_head`], [`put_session`] and
+//! [`put_transaction_head`] write from what a store holds, in the place of a whole value.
 //!
 //! ```text
 //! CopyPiece::put(&copy, &mut out)?;               // its bytes stand behind those of `out`
@@ -16,23 +16,29 @@
 //! ```
 #![tactic(auto)]
 
+mod clients;
 mod coded;
 mod copies;
 mod counted;
 mod entities;
 mod laws;
+mod leaves;
 mod parts;
+mod replies;
 mod rules;
 mod sessions;
+mod shown;
 mod texts;
 mod transactions;
 mod worked;
 
+pub use clients::KeptPiece;
 pub use copies::CopyPiece;
 pub use entities::{AboutPiece, AcceptedPiece, HeadPiece};
 pub use laws::{consistent_is_written, one_base};
+pub use leaves::{LeafPiece, put_leaf_head};
 pub use parts::{EntityHead, Parts, PlacedLeaf, PlacedSession};
 pub use rules::RulePiece;
-pub use sessions::SessionPiece;
-pub use transactions::TransactionPiece;
+pub use sessions::{KeyPiece, SessionPiece, put_session};
+pub use transactions::{OperationPiece, TransactionPiece, put_transaction_head};
 pub use worked::worked_bases;

@@ -15,7 +15,7 @@ use sb_machine::{Holder, LeafKey, Part, Session};
 use std::alloc::{AllocError, Global};
 
 /// The address of a part.
-pub(crate) struct KeyPiece;
+pub struct KeyPiece;
 
 impl Piece for KeyPiece {
     type Value = LeafKey;
@@ -38,6 +38,15 @@ impl Piece for KeyPiece {
             }
         )
     }
+}
+
+/// Adds the address of a part: each has a spelling.
+#[tactic(auto, unfolding(crate::specs::Sessions::key))]
+pub(crate) fn put_key(key: &LeafKey, out: &mut Vec<u8>) -> Result<(), AllocError>
+    ensures puts { Puts (sessions.key.spell key.now) out.old out.new result }
+    ensures fits { OnOk result (sessions.key.Fits key.now) }
+{
+    KeyPiece::put(key, out)
 }
 
 // The place of a part among the three of an entity.
@@ -91,11 +100,7 @@ impl Piece for HolderPiece {
 
 /// Adds a session that lies in this part.
 #[tactic(auto, unfolding(crate::specs::Sessions::session))]
-pub(crate) fn put_session(
-    at: &LeafKey,
-    session: &Session,
-    out: &mut Vec<u8>,
-) -> Result<(), AllocError>
+pub fn put_session(at: &LeafKey, session: &Session, out: &mut Vec<u8>) -> Result<(), AllocError>
     requires { sessions.session.Asks (sessions.in_part at.now session.now) }
     ensures puts { Puts (sessions.session.spell (sessions.in_part at.now session.now)) out.old out.new result }
     ensures fits { OnOk result (sessions.session.Fits (sessions.in_part at.now session.now)) }

@@ -1,14 +1,14 @@
 // Open transactions, each with what it has queued.
 ghost use Rattle.std.specs.Prelude.{◌≡◌, OnOk};
 ghost use Rattle.std.specs.Option.{option_copied};
-ghost use Rattle.sb_codec.specs.Forms.{Form, Puts};
+ghost use Rattle.sb_codec.specs.Forms.{Form, Puts, ◌then◌, number32, number64};
 ghost use Rattle.sb_codec.specs.Messages.{any_next};
 ghost use Rattle.sb_codec.specs.Readers.{Gives};
 ghost use Rattle.sb_snapshot.specs.Transactions as transactions;
 
 use sb_codec::{
-    HowPiece, Item, Listed, MessagePiece, Number64, Opt, PathPiece, Piece, TokenPiece, Unread,
-    put_fields, take_fields,
+    HowPiece, Item, Listed, MessagePiece, Number32, Number64, Opt, PathPiece, Piece, TokenPiece,
+    Unread, put_fields, take_fields,
 };
 use sb_machine::{How, Operation, Path, Token, Transaction};
 use std::alloc::{AllocError, Global};
@@ -30,7 +30,7 @@ fn put_settlement(
 }
 
 /// What a transaction has queued.
-pub(crate) struct OperationPiece;
+pub struct OperationPiece;
 
 impl Piece for OperationPiece {
     type Value = Operation;
@@ -83,6 +83,22 @@ impl Item for OperationPiece {
     fn follows(_last: Option<&Operation>, _next: &Operation) -> bool {
         true
     }
+}
+
+/// Adds what stands before the operations of a transaction: its number, its entity's, the moment at
+/// which it ends, and how many operations it has queued.
+pub fn put_transaction_head(
+    number: &u64,
+    entity: &u64,
+    deadline: &u64,
+    count: &u64,
+    out: &mut Vec<u8>,
+) -> Result<(), AllocError>
+    requires { (number64 then number64 then number64 then number32).Asks (number.now, (entity.now, (deadline.now, count.now))) }
+    ensures puts { Puts ((number64 then number64 then number64 then number32).spell (number.now, (entity.now, (deadline.now, count.now)))) out.old out.new result }
+    ensures fits { OnOk result ((number64 then number64 then number64 then number32).Fits (number.now, (entity.now, (deadline.now, count.now)))) }
+{
+    put_fields!(out, number => Number64, entity => Number64, deadline => Number64, count => Number32)
 }
 
 /// An open transaction.
