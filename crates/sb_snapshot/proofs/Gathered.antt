@@ -50,12 +50,12 @@ key_self a = and_from (eqb (part_code a.part) (part_code a.part)) (eqb a.entity 
 
 -- ---- the front of a list
 
-front_yes : {X : Type 0} (p : X → Bool) (x : X) (xs : List X) → p x ≡ true → (take_while p (x ∷ xs) ≡ x ∷ take_while p xs) × (drop (prefix_len p (x ∷ xs)) (x ∷ xs) ≡ drop (prefix_len p xs) xs)
+pub front_yes : {X : Type 0} (p : X → Bool) (x : X) (xs : List X) → p x ≡ true → (take_while p (x ∷ xs) ≡ x ∷ take_while p xs) × (drop (prefix_len p (x ∷ xs)) (x ∷ xs) ≡ drop (prefix_len p xs) xs)
 front_yes {X} p x xs e =
     let n : prefix_len p (x ∷ xs) ≡ suc (prefix_len p xs) = rw e (omega arith) in
     (ap (λ (k : ℕ). take k (x ∷ xs)) n, ap (λ (k : ℕ). drop k (x ∷ xs)) n)
 
-front_no : {X : Type 0} (p : X → Bool) (x : X) (xs : List X) → p x ≡ false → (take_while p (x ∷ xs) ≡ []) × (drop (prefix_len p (x ∷ xs)) (x ∷ xs) ≡ x ∷ xs)
+pub front_no : {X : Type 0} (p : X → Bool) (x : X) (xs : List X) → p x ≡ false → (take_while p (x ∷ xs) ≡ []) × (drop (prefix_len p (x ∷ xs)) (x ∷ xs) ≡ x ∷ xs)
 front_no {X} p x xs e =
     let n : prefix_len p (x ∷ xs) ≡ 0 = rw e refl in
     (ap (λ (k : ℕ). take k (x ∷ xs)) n, ap (λ (k : ℕ). drop k (x ∷ xs)) n)

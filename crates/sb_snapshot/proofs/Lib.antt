@@ -6,6 +6,7 @@ pub mod ExactEntities
 pub mod ExactTransactions
 pub mod ExactReplies
 pub mod Gathered
+pub mod Steps
 pub mod Spelling
 pub mod Ordered
 pub mod AskedMessages

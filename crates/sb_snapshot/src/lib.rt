@@ -10,9 +10,12 @@
 //! piece of each kind, with a writer and a reader; [`put_leaf_head`], [`put_session`] and
 //! [`put_transaction_head`] write from what a store holds, in the place of a whole value.
 //!
+//! [`read_state`] reads a whole base. It doesn't judge whether the state is consistent.
+//!
 //! ```text
 //! CopyPiece::put(&copy, &mut out)?;               // its bytes stand behind those of `out`
 //! let (copy, rest) = CopyPiece::take(alloc, bytes)?; // the copy at the front, and what is behind it
+//! let state = read_state(alloc, salt, &bytes)?;    // Some(state) where all bytes spell one
 //! ```
 #![tactic(auto)]
 
@@ -21,9 +24,11 @@ mod coded;
 mod copies;
 mod counted;
 mod entities;
+mod gathering;
 mod laws;
 mod leaves;
 mod parts;
+mod reading;
 mod replies;
 mod rules;
 mod sessions;
@@ -38,6 +43,7 @@ pub use entities::{AboutPiece, AcceptedPiece, HeadPiece};
 pub use laws::{consistent_is_written, one_base};
 pub use leaves::{LeafPiece, put_leaf_head};
 pub use parts::{EntityHead, Parts, PlacedLeaf, PlacedSession};
+pub use reading::read_state;
 pub use rules::RulePiece;
 pub use sessions::{KeyPiece, SessionPiece, put_session};
 pub use transactions::{OperationPiece, TransactionPiece, put_transaction_head};

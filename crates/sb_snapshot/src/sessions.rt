@@ -60,7 +60,7 @@ fn place_of(part: Part) -> u8
     }
 }
 
-fn is_same_key(a: &LeafKey, b: &LeafKey) -> bool
+pub(crate) fn is_same_key(a: &LeafKey, b: &LeafKey) -> bool
     ensures { result ≡ sessions.is_same_key a.now b.now }
 {
     place_of(a.part) == place_of(b.part) && a.entity == b.entity
