@@ -113,11 +113,13 @@ impl Draft {
         ensures { IfOk result (λ d. d ≡ meaning.with_property name.now value self) }
     {
         let mut draft = self;
-        let Ok(()) = draft.props.put(alloc, name, value) else {
-            drop(draft);
-            return Err(AllocError);
-        };
-        Ok(draft)
+        match draft.props.put(alloc, name, value) {
+            Ok(()) => Ok(draft),
+            Err(e) => {
+                drop(draft);
+                Err(e)
+            }
+        }
     }
 
     /// Where no more is said.
