@@ -1,5 +1,5 @@
 // Entities without their parts: what they are, and the ids that they have accepted.
-ghost use Rattle.std.specs.Prelude.{map};
+ghost use Rattle.std.specs.Prelude.{map, OnOk};
 ghost use Rattle.std.specs.List.{All, flat_map};
 ghost use Rattle.sb_entities.specs.Stores.{entities_in, entity_in, space_in};
 ghost use Rattle.sb_snapshot.specs.Base.{head_of};
@@ -20,7 +20,8 @@ pub(crate) fn put_heads<P: Pieces>(
     out: &mut P,
 ) -> Result<(), Unput>
     requires { (listed64 is_next_head head).Asks (map head_of (space_in space.now).entities) }
-    ensures { Takes P.Pieces out.old out.new ((listed64 is_next_head head).spell (map head_of (space_in space.now).entities)) result }
+    ensures takes { Takes P.Pieces out.old out.new ((listed64 is_next_head head).spell (map head_of (space_in space.now).entities)) result }
+    ensures fits { OnOk result ((listed64 is_next_head head).Fits (map head_of (space_in space.now).entities)) }
 {
     let entities = space.entities();
     put_number(entities.len() as u64, scratch, out)?;
@@ -33,7 +34,8 @@ fn put_each<P: Pieces>(
     out: &mut P,
 ) -> Result<(), Unput>
     requires { All (λ e. head.Asks (head_of (entity_in e))) entities.now }
-    ensures { Takes P.Pieces out.old out.new (flat_map head.spell (map head_of (entities_in entities.now))) result }
+    ensures takes { Takes P.Pieces out.old out.new (flat_map head.spell (map head_of (entities_in entities.now))) result }
+    ensures fits { OnOk result (All (λ e. head.Fits (head_of (entity_in e))) entities.now) }
 {
     for entity in entities {
         put_head(entity, scratch, out)?;
@@ -48,7 +50,8 @@ fn put_head<P: Pieces>(
     out: &mut P,
 ) -> Result<(), Unput>
     requires { head.Asks (head_of (entity_in entity.now)) }
-    ensures { Takes P.Pieces out.old out.new (head.spell (head_of (entity_in entity.now))) result }
+    ensures takes { Takes P.Pieces out.old out.new (head.spell (head_of (entity_in entity.now))) result }
+    ensures fits { OnOk result (head.Fits (head_of (entity_in entity.now))) }
 {
     put_item::<AboutPiece, P>(entity.about(), scratch, out)?;
     put_ids(entity.ids(), scratch, out)
@@ -57,7 +60,8 @@ fn put_head<P: Pieces>(
 // They may stand in two slices, as a ring has them.
 fn put_ids<P: Pieces>(ids: &Window, scratch: &mut Vec<u8>, out: &mut P) -> Result<(), Unput>
     requires { (listed64 is_next_id accepted).Asks ids.now.ids }
-    ensures { Takes P.Pieces out.old out.new ((listed64 is_next_id accepted).spell ids.now.ids) result }
+    ensures takes { Takes P.Pieces out.old out.new ((listed64 is_next_id accepted).spell ids.now.ids) result }
+    ensures fits { OnOk result ((listed64 is_next_id accepted).Fits ids.now.ids) }
 {
     let (front, back) = ids.as_slices();
     put_number(front.len() as u64 + back.len() as u64, scratch, out)?;

@@ -1,5 +1,5 @@
 // The three parts of each entity, without their sessions.
-ghost use Rattle.std.specs.Prelude.{◌≡◌, ◌%◌, ◌^◌, length};
+ghost use Rattle.std.specs.Prelude.{◌≡◌, ◌<◌, ◌%◌, ◌^◌, length, OnOk};
 ghost use Rattle.std.specs.List.{All, flat_map};
 ghost use Rattle.sb_codec.specs.Forms.{◌then◌, number64};
 ghost use Rattle.sb_codec.specs.Messages.{any_next};
@@ -26,7 +26,9 @@ pub(crate) fn put_leaves<P: Pieces>(
     out: &mut P,
 ) -> Result<(), Unput>
     requires { (listed64 any_next leaf).Asks (flat_map leaves_in (space_in space.now).entities) }
-    ensures { Takes P.Pieces out.old out.new ((listed64 any_next leaf).spell (flat_map leaves_in (space_in space.now).entities)) result }
+    ensures takes { Takes P.Pieces out.old out.new ((listed64 any_next leaf).spell (flat_map leaves_in (space_in space.now).entities)) result }
+    ensures fits { length (flat_map leaves_in (space_in space.now).entities) < 2 ^ 64
+        → OnOk result ((listed64 any_next leaf).Fits (flat_map leaves_in (space_in space.now).entities)) }
 {
     let entities = space.entities();
     put_count(entities, scratch, out)?;
@@ -57,7 +59,8 @@ fn put_each<P: Pieces>(
     out: &mut P,
 ) -> Result<(), Unput>
     requires { All (λ e. All leaf.Asks (leaves_in (entity_in e))) entities.now }
-    ensures { Takes P.Pieces out.old out.new (flat_map leaf.spell (flat_map leaves_in (entities_in entities.now))) result }
+    ensures takes { Takes P.Pieces out.old out.new (flat_map leaf.spell (flat_map leaves_in (entities_in entities.now))) result }
+    ensures fits { OnOk result (All (λ e. All leaf.Fits (leaves_in (entity_in e))) entities.now) }
 {
     for entity in entities {
         put_three(entity, scratch, out)?;
@@ -71,7 +74,8 @@ fn put_three<P: Pieces>(
     out: &mut P,
 ) -> Result<(), Unput>
     requires { All leaf.Asks (leaves_in (entity_in entity.now)) }
-    ensures { Takes P.Pieces out.old out.new (flat_map leaf.spell (leaves_in (entity_in entity.now))) result }
+    ensures takes { Takes P.Pieces out.old out.new (flat_map leaf.spell (leaves_in (entity_in entity.now))) result }
+    ensures fits { OnOk result (All leaf.Fits (leaves_in (entity_in entity.now))) }
 {
     put_leaf(entity, Part::Main, scratch, out)?;
     put_leaf(entity, Part::Dead, scratch, out)?;
@@ -95,7 +99,8 @@ fn put_leaf<P: Pieces>(
     out: &mut P,
 ) -> Result<(), Unput>
     requires { leaf.Asks (placed_leaf (entity_in entity.now) part) }
-    ensures { Takes P.Pieces out.old out.new (leaf.spell (placed_leaf (entity_in entity.now) part)) result }
+    ensures takes { Takes P.Pieces out.old out.new (leaf.spell (placed_leaf (entity_in entity.now) part)) result }
+    ensures fits { OnOk result (leaf.Fits (placed_leaf (entity_in entity.now) part)) }
 {
     let key = key_of(entity, part);
     let part = entity.part(part);
@@ -111,7 +116,8 @@ fn put_part<P: Pieces>(
     out: &mut P,
 ) -> Result<(), Unput>
     requires { leaf.Asks (record { key = key.now; last = last; copies = copies.now.copies }) }
-    ensures { Takes P.Pieces out.old out.new (leaf.spell (record { key = key.now; last = last; copies = copies.now.copies })) result }
+    ensures takes { Takes P.Pieces out.old out.new (leaf.spell (record { key = key.now; last = last; copies = copies.now.copies })) result }
+    ensures fits { OnOk result (leaf.Fits (record { key = key.now; last = last; copies = copies.now.copies })) }
 {
     put_front(key, last, copies.size() as u64, scratch, out)?;
     put_copies(copies, scratch, out)
@@ -125,7 +131,8 @@ fn put_front<P: Pieces>(
     scratch: &mut Vec<u8>,
     out: &mut P,
 ) -> Result<(), Unput>
-    ensures { Takes P.Pieces out.old out.new ((spec.key then number64 then number64).spell (key.now, (last, count))) result }
+    ensures takes { Takes P.Pieces out.old out.new ((spec.key then number64 then number64).spell (key.now, (last, count))) result }
+    ensures fits { OnOk result ((spec.key then number64 then number64).Fits (key.now, (last, count))) }
 {
     scratch.clear();
     put_leaf_head(key, &last, &count, scratch)?;
@@ -134,7 +141,8 @@ fn put_front<P: Pieces>(
 
 fn put_copies<P: Pieces>(copies: &Shelf, scratch: &mut Vec<u8>, out: &mut P) -> Result<(), Unput>
     requires { All copy.Asks copies.now.copies }
-    ensures { Takes P.Pieces out.old out.new (flat_map copy.spell copies.now.copies) result }
+    ensures takes { Takes P.Pieces out.old out.new (flat_map copy.spell copies.now.copies) result }
+    ensures fits { OnOk result (All copy.Fits copies.now.copies) }
 {
     let found = copies.all()?;
     put_found::<CopyPiece, P>(&found, scratch, out)

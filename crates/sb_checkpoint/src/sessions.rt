@@ -1,5 +1,5 @@
 // The sessions of all parts, each with the key of its part.
-ghost use Rattle.std.specs.Prelude.{◌≡◌, ◌++◌, ◌%◌, ◌^◌, map, length};
+ghost use Rattle.std.specs.Prelude.{◌≡◌, ◌<◌, ◌++◌, ◌%◌, ◌^◌, map, length, OnOk};
 ghost use Rattle.std.specs.List.{All, flat_map};
 ghost use Rattle.sb_codec.specs.Forms.{number64};
 ghost use Rattle.sb_entities.specs.Stores.{entities_in, entity_in, space_in};
@@ -22,7 +22,9 @@ pub(crate) fn put_sessions<P: Pieces>(
     out: &mut P,
 ) -> Result<(), Unput>
     requires { (listed64 spec.is_next_session spec.session).Asks (flat_map sessions_in (space_in space.now).entities) }
-    ensures { Takes P.Pieces out.old out.new ((listed64 spec.is_next_session spec.session).spell (flat_map sessions_in (space_in space.now).entities)) result }
+    ensures takes { Takes P.Pieces out.old out.new ((listed64 spec.is_next_session spec.session).spell (flat_map sessions_in (space_in space.now).entities)) result }
+    ensures fits { length (flat_map sessions_in (space_in space.now).entities) < 2 ^ 64
+        → OnOk result ((listed64 spec.is_next_session spec.session).Fits (flat_map sessions_in (space_in space.now).entities)) }
 {
     let entities = space.entities();
     put_count(entities, scratch, out)?;
@@ -76,7 +78,8 @@ fn put_each<P: Pieces>(
     out: &mut P,
 ) -> Result<(), Unput>
     requires { All (λ e. All spec.session.Asks (sessions_in (entity_in e))) entities.now }
-    ensures { Takes P.Pieces out.old out.new (flat_map spec.session.spell (flat_map sessions_in (entities_in entities.now))) result }
+    ensures takes { Takes P.Pieces out.old out.new (flat_map spec.session.spell (flat_map sessions_in (entities_in entities.now))) result }
+    ensures fits { OnOk result (All (λ e. All spec.session.Fits (sessions_in (entity_in e))) entities.now) }
 {
     for entity in entities {
         put_three(entity, scratch, out)?;
@@ -90,7 +93,8 @@ fn put_three<P: Pieces>(
     out: &mut P,
 ) -> Result<(), Unput>
     requires { All spec.session.Asks (sessions_in (entity_in entity.now)) }
-    ensures { Takes P.Pieces out.old out.new (flat_map spec.session.spell (sessions_in (entity_in entity.now))) result }
+    ensures takes { Takes P.Pieces out.old out.new (flat_map spec.session.spell (sessions_in (entity_in entity.now))) result }
+    ensures fits { OnOk result (All spec.session.Fits (sessions_in (entity_in entity.now))) }
 {
     put_part(entity, Part::Main, scratch, out)?;
     put_part(entity, Part::Dead, scratch, out)?;
@@ -104,7 +108,8 @@ fn put_part<P: Pieces>(
     out: &mut P,
 ) -> Result<(), Unput>
     requires { All spec.session.Asks (placed_sessions (entity_in entity.now) part) }
-    ensures { Takes P.Pieces out.old out.new (flat_map spec.session.spell (placed_sessions (entity_in entity.now) part)) result }
+    ensures takes { Takes P.Pieces out.old out.new (flat_map spec.session.spell (placed_sessions (entity_in entity.now) part)) result }
+    ensures fits { OnOk result (All spec.session.Fits (placed_sessions (entity_in entity.now) part)) }
 {
     let sessions = entity.part(part).sessions().as_slice();
     put_placed(&key_of(entity, part), sessions, scratch, out)
@@ -117,7 +122,8 @@ fn put_placed<P: Pieces>(
     out: &mut P,
 ) -> Result<(), Unput>
     requires { All spec.session.Asks (map (spec.in_part key.now) sessions.now) }
-    ensures { Takes P.Pieces out.old out.new (flat_map spec.session.spell (map (spec.in_part key.now) sessions.now)) result }
+    ensures takes { Takes P.Pieces out.old out.new (flat_map spec.session.spell (map (spec.in_part key.now) sessions.now)) result }
+    ensures fits { OnOk result (All spec.session.Fits (map (spec.in_part key.now) sessions.now)) }
 {
     for session in sessions {
         put_one(key, session, scratch, out)?;
@@ -132,7 +138,8 @@ fn put_one<P: Pieces>(
     out: &mut P,
 ) -> Result<(), Unput>
     requires { spec.session.Asks (spec.in_part key.now session.now) }
-    ensures { Takes P.Pieces out.old out.new (spec.session.spell (spec.in_part key.now session.now)) result }
+    ensures takes { Takes P.Pieces out.old out.new (spec.session.spell (spec.in_part key.now session.now)) result }
+    ensures fits { OnOk result (spec.session.Fits (spec.in_part key.now session.now)) }
 {
     scratch.clear();
     put_session(key, session, scratch)?;

@@ -1,5 +1,5 @@
 // The open transactions, each with what it has queued.
-ghost use Rattle.std.specs.Prelude.{◌<◌, ◌^◌, length};
+ghost use Rattle.std.specs.Prelude.{◌<◌, ◌^◌, length, OnOk};
 ghost use Rattle.std.specs.List.{All, flat_map};
 ghost use Rattle.sb_codec.specs.Forms.{◌then◌, number32, number64};
 ghost use Rattle.sb_entities.specs.Stores.{space_in};
@@ -21,7 +21,8 @@ pub(crate) fn put_transactions<P: Pieces>(
     out: &mut P,
 ) -> Result<(), Unput>
     requires { (listed64 is_next_transaction transaction).Asks (space_in space.now).transactions }
-    ensures { Takes P.Pieces out.old out.new ((listed64 is_next_transaction transaction).spell (space_in space.now).transactions) result }
+    ensures takes { Takes P.Pieces out.old out.new ((listed64 is_next_transaction transaction).spell (space_in space.now).transactions) result }
+    ensures fits { OnOk result ((listed64 is_next_transaction transaction).Fits (space_in space.now).transactions) }
 {
     let txns = space.txns().as_slice();
     put_number(txns.len() as u64, scratch, out)?;
@@ -34,7 +35,8 @@ fn put_each<P: Pieces>(
     out: &mut P,
 ) -> Result<(), Unput>
     requires { All transaction.Asks (transactions_of txns.now) }
-    ensures { Takes P.Pieces out.old out.new (flat_map transaction.spell (transactions_of txns.now)) result }
+    ensures takes { Takes P.Pieces out.old out.new (flat_map transaction.spell (transactions_of txns.now)) result }
+    ensures fits { OnOk result (All transaction.Fits (transactions_of txns.now)) }
 {
     for txn in txns {
         put_one(txn, scratch, out)?;
@@ -49,7 +51,8 @@ fn put_one<P: Pieces>(
     out: &mut P,
 ) -> Result<(), Unput>
     requires { transaction.Asks txn.now.transaction }
-    ensures { Takes P.Pieces out.old out.new (transaction.spell txn.now.transaction) result }
+    ensures takes { Takes P.Pieces out.old out.new (transaction.spell txn.now.transaction) result }
+    ensures fits { OnOk result (transaction.Fits txn.now.transaction) }
 {
     put_front(txn, scratch, out)?;
     put_items::<OperationPiece, P>(txn.operations(), scratch, out)
@@ -62,8 +65,10 @@ fn put_front<P: Pieces>(
     out: &mut P,
 ) -> Result<(), Unput>
     requires { length txn.now.transaction.operations < 2 ^ 32 }
-    ensures { let t = txn.now.transaction in Takes P.Pieces out.old out.new
+    ensures takes { let t = txn.now.transaction in Takes P.Pieces out.old out.new
         ((number64 then number64 then number64 then number32).spell (t.number, (t.entity, (t.deadline, length t.operations)))) result }
+    ensures fits { let t = txn.now.transaction in OnOk result
+        ((number64 then number64 then number64 then number32).Fits (t.number, (t.entity, (t.deadline, length t.operations)))) }
 {
     let count = txn.operations().len() as u64;
     scratch.clear();

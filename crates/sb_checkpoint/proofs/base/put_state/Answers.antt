@@ -10,12 +10,13 @@ use Rattle.sb_snapshot.specs.Sessions.{leaf, session, is_next_session}
 use Rattle.sb_snapshot.specs.Transactions.{transaction, is_next_transaction}
 use Rattle.sb_checkpoint.specs.Stores.{held_state}
 use Rattle.sb_checkpoint.specs.Takings.{Takes}
+use Rattle.sb_checkpoint.proofs.Fitting.{few_in_base, all_fit}
 use Rattle.sb_checkpoint.proofs.Taking.{takes_then, all_then}
 use Rattle.sb_checkpoint.proofs.base.put_state.Goals as goal
 
-pub returns : goal.returns
+pub returns-clause-takes : goal.returns-clause-takes
 unfolding parts
-returns g c =
+returns-clause-takes g c =
     let s = held_state c.args.held.now in
     let P = g.P.Pieces in
     let was = c.args.out.now in
@@ -28,5 +29,11 @@ returns g c =
     let leaves = (listed64 any_next leaf).spell (flat_map leaves_in s.space.entities) in
     let others = (number64 then listed64 is_next_session session then listed64 is_next_transaction transaction then listed64 is_next_kept kept).spell (s.space.removed, (flat_map sessions_in s.space.entities, (s.space.transactions, s.clients))) in
     subst (λ z. Takes P was now z c.put_rest.result) (all_then n lock txn entity heads leaves others)
-    (takes_then P was c.put_numbers.new.out now (n ++ (lock ++ (txn ++ entity))) ((heads ++ leaves) ++ others) c.put_rest.result c.in_ok-put_numbers.ensures
-    (takes_then P c.put_numbers.new.out c.put_entities.new.out now (heads ++ leaves) others c.put_rest.result c.in_ok-put_entities.ensures c.put_rest.ensures))
+    (takes_then P was c.put_numbers.new.out now (n ++ (lock ++ (txn ++ entity))) ((heads ++ leaves) ++ others) c.put_rest.result c.in_ok-put_numbers.ensures.takes
+    (takes_then P c.put_numbers.new.out c.put_entities.new.out now (heads ++ leaves) others c.put_rest.result c.in_ok-put_entities.ensures.takes c.put_rest.ensures.takes))
+
+pub returns-clause-fits : goal.returns-clause-fits
+unfolding parts
+returns-clause-fits g c short =
+    let few = few_in_base (held_state c.args.held.now) short in
+    all_fit c.put_rest.result _ c.in_ok-put_numbers.ensures.fits (c.in_ok-put_entities.ensures.fits few.0) (c.put_rest.ensures.fits few.1)

@@ -1,5 +1,12 @@
+use Rattle.sb_entities.specs.Stores.{entity_in}
+use Rattle.sb_snapshot.specs.Base.{head_of}
+use Rattle.sb_snapshot.specs.Entities.{head}
+use Rattle.sb_checkpoint.proofs.Each.{all_at_end}
 use Rattle.sb_checkpoint.proofs.Taking.{takes_exit}
 use Rattle.sb_checkpoint.proofs.heads.put_each.Goals as goal
 
-pub returns-in_err-put_head : goal.returns-in_err-put_head
-returns-in_err-put_head g c = takes_exit g.P.Pieces c.args.out.now c.loop-entity.out c.put_head.new.out _ _ c.in_err-put_head.field-0.0 c.from_residual.result c.loop-entity.invariant c.in_err-put_head.ensures c.from_residual.ensures.1
+pub returns-in_err-put_head-clause-takes : goal.returns-in_err-put_head-clause-takes
+returns-in_err-put_head-clause-takes g c = takes_exit g.P.Pieces c.args.out.now c.loop-entity.out c.put_head.new.out _ _ c.in_err-put_head.field-0.0 c.from_residual.result c.loop-entity.invariant.takes c.in_err-put_head.ensures.takes c.from_residual.ensures.1
+
+pub returns-clause-fits : goal.returns-clause-fits
+returns-clause-fits g c = all_at_end (λ e. head.Fits (head_of (entity_in e))) c.args.entities.now c.loop-entity.entity-index c.loop-entity-test.false c.loop-entity.invariant.fits

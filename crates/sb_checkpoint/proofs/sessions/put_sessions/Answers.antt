@@ -1,13 +1,23 @@
 use Rattle.std.proofs.Common.{subst, sym}
 use Rattle.std.specs.List.{All, flat_map}
+use Rattle.std.proofs.lemmas.List.Elements.{All-map}
+use Rattle.std.proofs.lemmas.Result.{on_ok_weaker}
 use Rattle.sb_codec.proofs.Following.{each_fits}
 use Rattle.sb_entities.specs.Stores.{entity_in, space_in}
 use Rattle.sb_snapshot.specs.Base.{sessions_in}
 use Rattle.sb_snapshot.specs.Sessions.{session, is_next_session}
-use Rattle.sb_checkpoint.proofs.Each.{all_before, all_within}
+use Rattle.sb_checkpoint.proofs.Fitting.{listed_fits}
+use Rattle.sb_checkpoint.proofs.Each.{all_before, all_joined, all_within}
 use Rattle.sb_checkpoint.proofs.sessions.put_sessions.Goals as goal
 
 pub put_each-requires : goal.put_each-requires
 put_each-requires g c =
     let all = each_fits session.Asks is_next_session (flat_map sessions_in (space_in c.args.space.now).entities) c.requires in
     all_before (λ e. All session.Asks (sessions_in e)) entity_in c.entities-entities.result.now (subst (All (λ e. All session.Asks (sessions_in e))) (sym c.entities-entities.ensures) (all_within session.Asks sessions_in (space_in c.args.space.now).entities all))
+
+pub returns-clause-fits : goal.returns-clause-fits
+returns-clause-fits g c few =
+    let rows = c.entities-entities.result.now in
+    let es = (space_in c.args.space.now).entities in
+    listed_fits c.put_each.result is_next_session session (flat_map sessions_in es) few c.requires
+    (on_ok_weaker c.put_each.result (λ all. all_joined session.Fits sessions_in es (subst (All (λ e. All session.Fits (sessions_in e))) c.entities-entities.ensures (All-map (λ e. All session.Fits (sessions_in e)) entity_in rows all))) c.put_each.ensures.fits)
