@@ -15,6 +15,9 @@ use std::snapshot::Snapshot;
 // The most bytes of a base that are gathered for one write.
 const MOST_GATHERED: usize = 65_536;
 
+// The bytes of a record beside its payload: its gate, its length and its number.
+const FRAME: u64 = 13;
+
 /// What records: the journal, and what is spelled for it.
 pub struct Recorder<D: Disk> {
     journal: Journal<D>,
@@ -25,6 +28,10 @@ pub struct Recorder<D: Disk> {
     next: Option<NextFile>,
     // How many bytes of that base aren't put yet.
     left: u64,
+    // How many bytes the base has that was begun last.
+    base: u64,
+    // How many bytes of records it wrote to the file.
+    grown: u64,
     // As it was begun, for clauses alone: the journal, the next file's first number, and how many bytes the base has.
     began: Snapshot<Journal<D>>,
     first: Snapshot<u64>,
@@ -65,6 +72,8 @@ impl<D: Disk> Recorder<D> {
             buffer,
             next: None,
             left: 0,
+            base: 0,
+            grown: 0,
         }
     }
 
@@ -93,6 +102,8 @@ impl<D: Disk> Recorder<D> {
         let Ok(number) = self.journal.append(&self.buffer) else {
             return Err(Refusal::DiskFault);
         };
+        let bytes = FRAME.saturating_add(self.buffer.len() as u64);
+        self.grown = self.grown.saturating_add(bytes);
         Ok(number)
     }
 
@@ -114,6 +125,7 @@ impl<D: Disk> Recorder<D> {
         self.next = None;
         self.buffer.clear();
         self.left = total;
+        self.base = total;
         match self.journal.start_base(first, total) {
             Ok(Some(next)) => {
                 self.next = Some(next);
@@ -142,6 +154,7 @@ impl<D: Disk> Recorder<D> {
         let Some(next) = self.next.take() else {
             return Err(DiskFault);
         };
+        self.grown = 0;
         self.journal.seal_base(next)
     }
 
@@ -158,6 +171,17 @@ impl<D: Disk> Recorder<D> {
         ensures journal { recorder_journal self.new ≡ recorder_journal self.old }
     {
         self.next = None;
+    }
+
+    /// How many bytes of records it wrote to the journal's file, at most `u64::MAX`: since it was made, or since the file was
+    /// sealed with which the journal went on. A hint: no clause says anything of it.
+    pub fn grown(&self) -> u64 {
+        self.grown
+    }
+
+    /// How many bytes the base has that was begun last; 0 where none was. A hint too.
+    pub fn base(&self) -> u64 {
+        self.base
     }
 
     /// What its memory comes from.
@@ -182,6 +206,8 @@ impl<D: Disk> Recorder<D> {
             buffer: _,
             next: _,
             left: _,
+            base: _,
+            grown: _,
             began: _,
             first: _,
             total: _,
