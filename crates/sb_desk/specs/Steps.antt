@@ -90,7 +90,7 @@ no_disk = record { faults = 0; honest = false; held = record { seen = []; synced
 
 -- the view of a seat that is gone
 abbrev pub spent_view : View
-spent_view = record { seat = 0; spare = 0; passes = 0; start = empty_state 0; origin = record { disk_a = no_disk; disk_b = no_disk }; seen = []; parts = 0; stage = Spent; one = []; other = []; claims = [] }
+spent_view = record { seat = 0; spare = 0; passes = 0; start = empty_state 0; origin = record { disk_a = no_disk; disk_b = no_disk; goes_on = false }; seen = []; parts = 0; stage = Spent; one = []; other = []; claims = [] }
 
 -- the seat has the longer one of two lists
 abbrev pub told : View → View → View

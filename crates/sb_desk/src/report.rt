@@ -37,8 +37,10 @@ pub struct DiskOrigin {
     pub past: LinkedList<DiskMoment>,
 }
 
-/// What a namespace found on its two disks as it was opened. No value of it is made.
+/// What a namespace found on its two disks as it was opened, and how it uses them. No value of it is made.
 pub struct Origin {
     pub disk_a: DiskOrigin,
     pub disk_b: DiskOrigin,
+    /// Whether it goes on with a new file by itself, now and then.
+    pub goes_on: bool,
 }

@@ -35,7 +35,7 @@ pub trait Served {
     /// It stands for this history from this state.
     ghost stands: { Self → State → List Entry → Type 0 };
 
-    /// What it found as it was opened. No call changes it.
+    /// What it found as it was opened, and how it uses its disks. No call changes it.
     ghost origin: { Self → Origin };
 
     /// Whether a call at this moment and in this state is never refused for want of memory.

@@ -14,6 +14,7 @@ use Rattle.sb_machine.specs.declared.state.State.{State}
 use Rattle.sb_desk.specs.Entries.{IsReport}
 use Rattle.sb_desk.specs.Spared.{Spares}
 use Rattle.sb_desk.specs.declared.report.DiskOrigin.{DiskOrigin}
+use Rattle.sb_desk.specs.declared.report.Origin.{Origin}
 use Rattle.sb_desk.specs.declared.report.Report.{Report}
 
 -- the one call that is carried out
@@ -25,9 +26,12 @@ abbrev pub state_at : Option ℕ → State
 state_at None = empty_state 0
 state_at (Some t) = state_of (empty_state 0) t creation
 
--- it has no disks
-abbrev pub no_disk : DiskOrigin
+abbrev no_disk : DiskOrigin
 no_disk = record { faults = 0; honest = false; held = record { seen = []; synced = []; ranges = []; least = 0; greatest = 0 }; past = [] }
+
+-- it has no disks
+abbrev pub no_disks : Origin
+no_disks = record { disk_a = no_disk; disk_b = no_disk; goes_on = false }
 
 -- memory may be wanting for each call
 abbrev pub none_spared : ℕ → Call → State → Bool

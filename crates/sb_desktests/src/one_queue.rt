@@ -1,7 +1,7 @@
 ghost use Rattle.std.specs.Prelude.{◌≡◌, ◌+◌, true, [], Err};
 ghost use Rattle.sb_machine.specs.Namespace.{default_description};
 ghost use Rattle.sb_desk.specs.Entries.{counted};
-ghost use Rattle.sb_desktests.specs.Namespaces.{creation, no_disk, none_spared, state_at, StandsFor, GoesOn};
+ghost use Rattle.sb_desktests.specs.Namespaces.{creation, no_disks, none_spared, state_at, StandsFor, GoesOn};
 
 use sb_desk::{Report, Served, Stepped};
 use sb_machine::{Act, Answer, Answered, Call, Description, Path, Refusal, Reply};
@@ -64,7 +64,7 @@ impl Served for OneQueue {
 
     ghost stands = { λ q from h. StandsFor q.made q.numbers from h };
 
-    ghost origin = { λ q. record { disk_a = no_disk; disk_b = no_disk } };
+    ghost origin = { λ q. no_disks };
 
     // It spares no call.
     ghost spared = { none_spared };
