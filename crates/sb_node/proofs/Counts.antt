@@ -104,6 +104,12 @@ pub stopped_numbers : (old new : Report) (s : State) (stopped : Option ℕ) (sea
     → new ≡ with_entries old (log_of s stopped) (entries_with None seat reading call (Err (Stopped n)))
 stopped_numbers old new s stopped seat reading n call entries changed refused = one_number old new (log_of s stopped) seat reading call (Stopped n) refl entries changed refused
 
+-- of one for which no call was made, since a disk had failed
+pub fault_numbers : (old new : Report) (tick : Option ℕ) (l : Log) (seat reading : ℕ) (call : Call) → tick ≡ None → new.entries ≡ raised old.entries 1 → new.changing ≡ old.changing → new.refused ≡ raised old.refused 1
+    → new ≡ with_entries old l (entries_with tick seat reading call (Err DiskFault))
+fault_numbers old new None l seat reading call none entries changed refused = one_number old new l seat reading call DiskFault refl entries changed refused
+fault_numbers old new (Some t) l seat reading call none entries changed refused = absurd cc
+
 pub failed_numbers : (old mid new : Report) (tick : Option ℕ) (seat reading t : ℕ) (s : State) (stopped stopped_after : Option ℕ) (call : Call) (e : Refusal) → tick ≡ None → t ≡ moment_of s reading → IsTickFault t s stopped_after e → mid ≡ with_events old (tick_events tick)
     → new.entries ≡ raised mid.entries 1 → new.changing ≡ mid.changing → new.refused ≡ raised mid.refused 1
     → new ≡ with_entries old (log_of s stopped) (entries_with tick seat reading call (Err e))

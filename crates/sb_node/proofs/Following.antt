@@ -21,11 +21,18 @@ use Rattle.sb_machine.specs.declared.reply.Refusal.TheVariants.{DiskFault, Stopp
 use Rattle.sb_machine.specs.declared.state.State.{State}
 use Rattle.sb_outside.specs.declared.disk.Disk.{Ghosts}
 use Rattle.sb_node.specs.Nodes.{HoldsState, LeadsToOneOf, StayOneOf}
-use Rattle.sb_node.specs.Serving.{states_at, FollowEntries}
+use Rattle.sb_node.specs.Serving.{states_at, FollowEntries, Rests}
 use Rattle.sb_node.specs.Steps.{entries_with, log_of, time_to, IsTicked, IsTickFault}
 use Rattle.sb_node.proofs.Crashes.{step_moments, untouched_moments}
 use Rattle.sb_node.proofs.Stepping.{time_is}
 use Rattle.sb_node.proofs.Undecided.{call_leads, tick_leads}
+
+-- ---- between two steps
+
+-- where nothing is done
+pub rests_still : (on : Bool) (s : State) (disks : Disks) → Rests on s disks disks
+rests_still false s disks = refl
+rests_still true s disks = inl refl
 
 -- ---- one step
 
@@ -39,19 +46,19 @@ abbrev pub behind_tick : Option ℕ → State → State
 behind_tick None s = s
 behind_tick (Some m) s = advanced s m
 
-last_one : (b : Bool) (l : Log) (disks : Disks) → MatchBool b (disks ≡ disks) (FollowEntries [] l [] disks disks)
+last_one : (b : Bool) (l : Log) (disks : Disks) → MatchBool b (disks ≡ disks) (FollowEntries false [] l [] disks disks)
 last_one true l disks = refl
 last_one false l disks = refl
 
 pub one_step : (tick : Option ℕ) (s : State) (stopped : Option ℕ) (seat reading : ℕ) (call : Call) (answer : Result Answered Refusal) (was later : Disks)
-    → StayOneOf was later (before_tick tick s ++ states_at (behind_tick tick s) reading call answer) → FollowEntries [] (log_of s stopped) (entries_with tick seat reading call answer) was later
-one_step None s stopped seat reading call answer was later stay = (later, stay, last_one (is_disk_fault answer) (after_entry (log_of s stopped) (Replied seat reading call answer)) later)
+    → StayOneOf was later (before_tick tick s ++ states_at (behind_tick tick s) reading call answer) → FollowEntries false [] (log_of s stopped) (entries_with tick seat reading call answer) was later
+one_step None s stopped seat reading call answer was later stay = (was, later, refl, stay, last_one (is_disk_fault answer) (after_entry (log_of s stopped) (Replied seat reading call answer)) later)
 one_step (Some m) s stopped seat reading call answer was later stay =
-    (later, stay, last_one (is_disk_fault answer) (after_entry (after_entry (log_of s stopped) (Ticked seat m)) (Replied seat reading call answer)) later)
+    (was, later, refl, stay, last_one (is_disk_fault answer) (after_entry (after_entry (log_of s stopped) (Ticked seat m)) (Replied seat reading call answer)) later)
 
 -- one that had stopped
 pub stopped_follows : {D : Type 0} {B : Ghosts D} (j : Journal D B) (last : ℕ) (s : State) (stopped : Option ℕ) (seat reading n : ℕ) (call : Call) → HoldsState j last s
-    → FollowEntries [] (log_of s stopped) (entries_with None seat reading call (Err (Stopped n))) (journal_disks j) (journal_disks j)
+    → FollowEntries false [] (log_of s stopped) (entries_with None seat reading call (Err (Stopped n))) (journal_disks j) (journal_disks j)
 stopped_follows j last s stopped seat reading n call kept = one_step None s stopped seat reading call (Err (Stopped n)) (journal_disks j) (journal_disks j) (untouched_moments j last s (s ∷ []) kept)
 
 -- ---- one whose tick failed
@@ -80,9 +87,9 @@ failed_call t reading call s stopped _ at is = absurd is
 -- by its answer
 pub tick_follows : {D : Type 0} {B : Ghosts D} (old new : Journal D B) (last t seat reading : ℕ) (call : Call) (s : State) (stopped stopped_after : Option ℕ) (e : Refusal) (tick : Option ℕ) → tick ≡ None → t ≡ moment_of s reading → IsTickFault t s stopped_after e
     → after_call s reading call (Err e) ≡ s → (e ≢ DiskFault → new ≡ old) → HoldsState old last s → StayOneOf (journal_disks old) (journal_disks new) (s ∷ time_to t s ∷ [])
-    → FollowEntries [] (log_of s stopped) (entries_with tick seat reading call (Err e)) (journal_disks old) (journal_disks new)
+    → FollowEntries false [] (log_of s stopped) (entries_with tick seat reading call (Err e)) (journal_disks old) (journal_disks new)
 tick_follows {D} {B} old new last t seat reading call s stopped stopped_after e tick none at is same left kept stay =
-    subst (λ (o : Option ℕ). FollowEntries [] (log_of s stopped) (entries_with o seat reading call (Err e)) (journal_disks old) (journal_disks new)) (sym none)
+    subst (λ (o : Option ℕ). FollowEntries false [] (log_of s stopped) (entries_with o seat reading call (Err e)) (journal_disks old) (journal_disks new)) (sym none)
     (one_step None s stopped seat reading call (Err e) (journal_disks old) (journal_disks new) (by_fault (is_disk_fault (Err e)) refl))
   where
     by_fault : (b : Bool) → is_disk_fault (Err e) ≡ b → StayOneOf (journal_disks old) (journal_disks new) (states_at s reading call (Err e))
@@ -138,9 +145,9 @@ with_tick side was mid later (Some m) t s0 s1 next went still stays first second
 pub call_follows : {D : Type 0} {B : Ghosts D} (side : Side) (old mid new : Journal D B) (last t seat reading : ℕ) (call : Call) (s0 s1 : State) (stopped : Option ℕ) (tick tick_after : Option ℕ) (answer : Result Answered Refusal) → tick_after ≡ tick → IsTicked tick t s0 s1
     → t ≡ moment_of s1 reading → is_due t s1.space ≡ false → on_side side (journal_disks mid) ≡ on_side side (journal_disks old) → on_side side (journal_disks new) ≡ on_side side (journal_disks mid) → IfErr answer (λ e. e ≢ DiskFault → new ≡ mid) → HoldsState mid last s1
     → StayOneOf (journal_disks old) (journal_disks mid) (s0 ∷ time_to t s0 ∷ []) → StayOneOf (journal_disks mid) (journal_disks new) (s1 ∷ state_of s1 t call ∷ [])
-    → FollowEntries [] (log_of s0 stopped) (entries_with tick_after seat reading call answer) (journal_disks old) (journal_disks new)
+    → FollowEntries false [] (log_of s0 stopped) (entries_with tick_after seat reading call answer) (journal_disks old) (journal_disks new)
 call_follows {D} {B} side old mid new last t seat reading call s0 s1 stopped tick tick_after answer same went at calm still stays left kept first second =
-    subst (λ (o : Option ℕ). FollowEntries [] (log_of s0 stopped) (entries_with o seat reading call answer) (journal_disks old) (journal_disks new)) (sym same)
+    subst (λ (o : Option ℕ). FollowEntries false [] (log_of s0 stopped) (entries_with o seat reading call answer) (journal_disks old) (journal_disks new)) (sym same)
     (one_step tick s0 stopped seat reading call answer (journal_disks old) (journal_disks new)
     (subst (λ (s : State). StayOneOf (journal_disks old) (journal_disks new) (before_tick tick s0 ++ states_at s reading call answer)) (sym (behind tick t s0 s1 went))
     (with_tick side (journal_disks old) (journal_disks mid) (journal_disks new) tick t s0 s1 _ went still stays first
@@ -156,19 +163,21 @@ match_on true A A_1 B B_1 on_true on_false is = on_true refl is
 match_on false A A_1 B B_1 on_true on_false is = on_false refl is
 
 -- where no disk has failed the step goes on, and where one has the disks stay
-pub follows_on : (before : List State) (l : Log) (h es : List Entry) (was mid later : Disks) → (l.tick ≡ None → before ≡ []) → (after_entries l h).tick ≡ None
-    → (undecided l h ≡ None → FollowEntries [] (after_entries l h) es mid later) → ((e : Event) → undecided l h ≡ Some e → later ≡ mid) → FollowEntries before l h was mid → FollowEntries before l (h ++ es) was later
-follows_on before l [] es was mid later none ends goes stays is =
-    subst (λ (b : List State). FollowEntries b l es was later) (sym (none ends)) (subst (λ (d : Disks). FollowEntries [] l es d later) is (goes refl))
-follows_on before l (Ticked seat t ∷ h) es was mid later none ends goes stays is =
-    follows_on (l.state ∷ before) (after_entry l (Ticked seat t)) h es was mid later (λ never. absurd cc) ends goes stays is
-follows_on before l (Replied seat reading call answer ∷ h) es was mid later none ends goes stays is =
+pub follows_on : (on : Bool) (before : List State) (l : Log) (h es : List Entry) (was mid later : Disks) → (l.tick ≡ None → before ≡ []) → (after_entries l h).tick ≡ None
+    → (undecided l h ≡ None → FollowEntries on [] (after_entries l h) es mid later) → ((e : Event) → undecided l h ≡ Some e → later ≡ mid) → FollowEntries on before l h was mid → FollowEntries on before l (h ++ es) was later
+follows_on on before l [] es was mid later none ends goes stays is =
+    subst (λ (b : List State). FollowEntries on b l es was later) (sym (none ends)) (subst (λ (d : Disks). FollowEntries on [] l es d later) is (goes refl))
+follows_on on before l (Ticked seat t ∷ h) es was mid later none ends goes stays is =
+    follows_on on (l.state ∷ before) (after_entry l (Ticked seat t)) h es was mid later (λ never. absurd cc) ends goes stays is
+follows_on on before l (Replied seat reading call answer ∷ h) es was mid later none ends goes stays is =
     let next = after_entry l (Replied seat reading call answer) in
     let event : (b : Bool) → is_disk_fault answer ≡ b → undecided l (Replied seat reading call answer ∷ h) ≡ (if b then Some (event_at l.state reading call) else undecided next h) = λ b same. ap (λ (x : Bool). if x then Some (event_at l.state reading call) else undecided next h) same in (
       is.0,
       is.1,
-      match_on (is_disk_fault answer) (mid ≡ is.0) (later ≡ is.0) (FollowEntries [] next h is.0 mid) (FollowEntries [] next (h ++ es) is.0 later)
+      is.2,
+      is.3,
+      match_on (is_disk_fault answer) (mid ≡ is.1) (later ≡ is.1) (FollowEntries on [] next h is.1 mid) (FollowEntries on [] next (h ++ es) is.1 later)
           (λ failed same. stays (event_at l.state reading call) (event true failed) ∙ same)
-          (λ runs follows. follows_on [] next h es is.0 mid later (λ same. refl) ends (λ open_none. goes (event false runs ∙ open_none)) (λ e is_e. stays e (event false runs ∙ is_e)) follows)
-          is.2,
+          (λ runs follows. follows_on on [] next h es is.1 mid later (λ same. refl) ends (λ open_none. goes (event false runs ∙ open_none)) (λ e is_e. stays e (event false runs ∙ is_e)) follows)
+          is.4,
     )

@@ -1,11 +1,9 @@
 -- Payloads one after another, with the places of their gates.
-use Rattle.std.proofs.Common.{◌≡◌, ℕ, ◌+◌, List, [], ◌∷◌, ◌++◌, length, Bool, true, false, Option, Some, None, Result, Ok, Err, sym, ◌∙◌, ap, arith}
+use Rattle.std.proofs.Common.{◌≡◌, ℕ, ◌+◌, List, [], ◌∷◌, ◌++◌, length, Bool, true, false, Option, Some, None, Result, Ok, Err, ◌∙◌, ap}
 use Rattle.std.specs.Bool.{MatchBool}
-use Rattle.std.specs.Prelude.{◌==◌, IfOk}
-use Rattle.std.proofs.lemmas.Bool.Decides.{nat_tests}
+use Rattle.std.specs.Prelude.{IfOk}
 use Rattle.sb_journal.specs.Text.{gate_after}
 use Rattle.sb_codec.specs.EventBytes.{read_event}
-use Rattle.sb_machine.specs.Namespace.{empty_state}
 use Rattle.sb_machine.specs.declared.state.State.{State}
 use Rattle.sb_node.specs.Recovery.{base_state, next_state, replay, replay_from, reaches, breaks, Replayed, IsReplayed, BreaksReplay}
 
@@ -55,15 +53,3 @@ pub taken_on : {E : Type 0} (s after : State) (salt : ℕ) (base : List ℕ) (be
 taken_on s after salt base before p (Ok true) leads next = λ place. replay_from-push (base_state salt base) s after place before p (leads place) next
 taken_on s after salt base before p (Ok false) leads next = λ place behind. replay_from-append (base_state salt base) s place before (p ∷ behind) (leads place) ∙ one_refused p behind s (gate_after place before) next
 taken_on s after salt base before p (Err e) leads next = tt
-
--- no byte of a base is given, or it is refused whatever stands behind it
-pub given_on : (s : State) (salt : ℕ) (base piece : List ℕ) (none : Bool) → none ≡ (length piece == 0) → (s ≡ empty_state salt) × (base ≡ [])
-    → MatchBool none ((s ≡ empty_state salt) × (base ++ piece ≡ [])) ((rest : List ℕ) → base_state salt ((base ++ piece) ++ rest) ≡ None)
-given_on s salt base [] true e is = (is.0, ap (λ (l : List ℕ). l ++ []) is.1)
-given_on s salt base [] false e is = absurd cc
-given_on s salt base (byte ∷ bytes) true e is = absurd (let none : length (byte ∷ bytes) ≡ 0 = grind (arith, nat_tests, e) in omega (arith, none))
-given_on s salt base (byte ∷ bytes) false e is = λ rest. ap (λ (l : List ℕ). base_state salt ((l ++ byte ∷ bytes) ++ rest)) is.1
-
--- where there is none, a file begins with an empty namespace
-pub begins_empty : (s : State) (salt : ℕ) (base : List ℕ) → s ≡ empty_state salt → base ≡ [] → IsReplayed s salt base []
-begins_empty s salt base same none = λ place. ap (λ (l : List ℕ). replay_from (base_state salt l) place []) none ∙ ap reaches (sym same)

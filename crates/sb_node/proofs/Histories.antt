@@ -20,7 +20,8 @@ use Rattle.sb_machine.specs.declared.reply.Answered.{Answered}
 use Rattle.sb_machine.specs.declared.reply.Refusal.{Refusal}
 use Rattle.sb_machine.specs.declared.reply.Refusal.TheVariants.{DiskFault, OutOfMemory, Exhausted}
 use Rattle.sb_machine.specs.declared.state.State.{State}
-use Rattle.sb_node.specs.Nodes.{events_of, events_on, IsLogged}
+use Rattle.sb_recorder.specs.Recorders.{IsLogged}
+use Rattle.sb_node.specs.Nodes.{events_of, events_on}
 use Rattle.sb_node.specs.Steps.{log_of, entries_with, tick_events, call_events, IsTicked, IsTickFault}
 
 held_events : {D : Type 0} {B : Ghosts D} (j : Journal D B) (file : File) (salt : ℕ) → HoldsFile j file → events_on (journal_disks j) salt ≡ map read_event file.payloads

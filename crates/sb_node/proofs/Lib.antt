@@ -17,5 +17,8 @@ pub mod Counts
 pub mod Undecided
 pub mod Following
 pub mod Standing
+pub mod Resting
 pub mod Crossing
 pub mod Sparing
+pub mod Salts
+pub mod Turning

@@ -9,10 +9,12 @@ use Rattle.sb_machine.specs.Namespace.{empty_state}
 use Rattle.sb_machine.specs.declared.call.Event.{Event}
 use Rattle.sb_machine.specs.declared.call.Event.TheVariants.{Tick, Called}
 use Rattle.sb_machine.specs.declared.state.State.{State}
-use Rattle.sb_node.specs.Recovery.{base_state, next_state, replay, replay_from, replay_file, reaches, breaks, Replayed, recovered, recovered_from, reached, recovers, Recovers}
+use Rattle.sb_judge.specs.Decided.{decided, is_consistent}
+use Rattle.sb_snapshot.specs.Base.{state_of}
+use Rattle.sb_node.specs.Recovery.{base_state, if_consistent, next_state, replay, replay_from, replay_file, reaches, breaks, Replayed, recovered, recovered_from, reached, recovers, Recovers}
 use Rattle.sb_laws.proofs.StaysWhole.{stays_consistent, ticks_consistent}
 use Rattle.sb_node.proofs.Order.{IsEventInOrder, read_in_order}
-use Rattle.sb_node.proofs.Taking.{tick_says, call_says}
+use Rattle.sb_node.proofs.Taking.{tick_says, call_says, when}
 
 starts : (salt : ℕ) → IsConsistent (empty_state salt)
 starts salt = record {
@@ -69,10 +71,27 @@ reached_consistent : (side : Side) (file : File) (r : Replayed) (s : State) (las
 reached_consistent side file (breaks place) s last on e = absurd cc
 reached_consistent side file (reaches x) s last on e = let same : x ≡ s = cc in subst IsConsistent same (on x refl)
 
--- carried out behind a base
+-- ---- behind a base
+
+-- what a state is judged to be
+pub surely_consistent : (s : State) → is_consistent s ≡ true → IsConsistent s
+surely_consistent s e = (decided s).1.0 e
+
+pub checked_consistent : (o : Option State) (s : State) → if_consistent o ≡ Some s → IsConsistent s
+checked_consistent None s e = absurd cc
+checked_consistent (Some x) s e = let is = when (is_consistent x) x s e in subst IsConsistent is.1 (surely_consistent x is.0)
+
+pub base_consistent : (salt : ℕ) (base : List ℕ) (s : State) → base_state salt base ≡ Some s → IsConsistent s
+base_consistent salt [] s e = let same : empty_state salt ≡ s = cc in subst IsConsistent same (starts salt)
+base_consistent salt (byte ∷ bytes) s e = checked_consistent (state_of salt (byte ∷ bytes)) s e
+
+-- carried out behind it
 pub events_consistent : (salt : ℕ) (base : List ℕ) (place : ℕ) (ps : List (List ℕ)) (s : State) → replay_from (base_state salt base) place ps ≡ reaches s → IsConsistent s
-events_consistent salt [] place ps s leads = replay_consistent (empty_state salt) s place ps (starts salt) leads
-events_consistent salt (byte ∷ bytes) place ps s leads = absurd cc
+events_consistent salt base place ps s leads = by_base (base_state salt base) (base_consistent salt base) leads
+  where
+    by_base : (o : Option State) → ((x : State) → o ≡ Some x → IsConsistent x) → replay_from o place ps ≡ reaches s → IsConsistent s
+    by_base None on e = absurd cc
+    by_base (Some x) on e = replay_consistent x s place ps (on x refl) e
 
 opened_consistent : (o : Opened) (s : State) (last : ℕ) → recovered_from o ≡ recovers s last → IsConsistent s
 opened_consistent (Damage side place) s last e = absurd cc

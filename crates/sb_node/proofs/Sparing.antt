@@ -1,5 +1,5 @@
 -- A call that takes no memory isn't refused for want of it.
-use Rattle.std.proofs.Common.{◌≡◌, ◌≢◌, ◌<◌, ◌≤◌, ◌+◌, ℕ, Bool, true, false, Option, Some, None, Result, Err, sym, ap, ◌∙◌, subst, arith}
+use Rattle.std.proofs.Common.{◌≡◌, ◌≢◌, ℕ, Bool, true, false, Option, Some, None, Result, Err, sym, ap, ◌∙◌, subst}
 use Rattle.std.specs.Prelude.{not, IfSome}
 use Rattle.sb_machine.proofs.Passed.{both}
 use Rattle.sb_desk.specs.Spared.{SparesFrom}
@@ -21,10 +21,6 @@ refused_spared t call s e answer is from same = let no' : true ≡ false = ap is
 
 pub fault_spared : (e : Refusal) (answer : Result Answered Refusal) → answer ≡ Err e → e ≡ DiskFault → answer ≢ Err OutOfMemory
 fault_spared e answer is disk same = let wrong : ◌≡◌ {A = Result Answered Refusal} (Err DiskFault) (Err OutOfMemory) = sym (is ∙ ap Err disk) ∙ same in absurd cc
-
--- an empty buffer has the room
-pub roomy : (room len bytes : ℕ) {most : ℕ} → room < len + bytes → len ≡ 0 → most ≤ room → bytes ≤ most → ⊥
-roomy room len bytes short empty fits few = omega (arith, short, empty, fits, few)
 
 -- a tick is made where something is due
 ticked : (tick : Option ℕ) (t : ℕ) (s s1 : State) → IsTicked tick t s s1 → ticked_to tick s ≡ s1

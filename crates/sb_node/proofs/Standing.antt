@@ -1,6 +1,6 @@
 -- A node stands for a history, and after a step for that with the step's entries.
-use Rattle.std.proofs.Common.{◌≡◌, ◌≢◌, inl, inr, ℕ, List, [], ◌∷◌, ◌++◌, map, Bool, true, false, true≢false, Option, Some, None, Result, Ok, Err, refl, sym, ap, ◌∙◌, subst, arith}
-use Rattle.std.specs.Prelude.{if◌then◌else◌, is_some, IfErr, IfSome}
+use Rattle.std.proofs.Common.{◌≡◌, ◌≢◌, inl, inr, ℕ, List, [], ◌∷◌, ◌++◌, map, Bool, true, false, true≢false, Option, Some, None, Result, Err, refl, sym, ap, ◌∙◌, subst, arith}
+use Rattle.std.specs.Prelude.{if◌then◌else◌, is_some, IfSome}
 use Rattle.sb_desk.specs.Entries.{made_by}
 use Rattle.sb_desk.specs.Spared.{SparesFrom}
 use Rattle.sb_desk.specs.declared.report.DiskMoment.{DiskMoment}
@@ -8,8 +8,6 @@ use Rattle.sb_desk.specs.declared.report.DiskOrigin.{DiskOrigin}
 use Rattle.sb_desk.specs.declared.report.Origin.{Origin}
 use Rattle.sb_desk.proofs.Sparing.{spares_on}
 use Rattle.sb_journal.specs.Disks.{disks_of, Disks, OneDisk, AreHonest, AreQuiet, NoneFell, OneFault, SameHonesty}
-use Rattle.sb_journal.specs.Journals.{journal_disks}
-use Rattle.sb_journal.specs.declared.journal.Journal.{Journal}
 use Rattle.sb_journal.proofs.Pairs.{started_pair, still_honest}
 use Rattle.sb_laws.proofs.Histories.{goes_on}
 use Rattle.sb_machine.specs.Answers.{moment_of}
@@ -27,11 +25,11 @@ use Rattle.sb_machine.specs.declared.state.State.{State}
 use Rattle.sb_outside.specs.Held.{Held}
 use Rattle.sb_outside.specs.declared.disk.Disk.{Ghosts}
 use Rattle.sb_node.specs.declared.node.Node.{Node}
-use Rattle.sb_node.specs.Nodes.{node_disk_a, node_disk_b, node_disks, node_journal, node_log, node_state, node_stopped, node_ticked, IsDurable, IsKept, IsOneOf, LeadsToOneOf, StayOneOf}
-use Rattle.sb_node.specs.Serving.{disk_moment, disk_origin, node_report, opened_disks, origin_of, states_left, states_with, with_entries, FollowEntries, FollowHistory, HasDiskRisen, StandsFor}
+use Rattle.sb_node.specs.Nodes.{node_disk_a, node_disk_b, node_disks, node_log, node_state, node_stopped, node_ticked, IsDurable, IsKept, IsOneOf, LeadsToOneOf, StayOneOf}
+use Rattle.sb_node.specs.Serving.{disk_moment, disk_origin, node_goes_on, node_report, opened_disks, origin_of, states_left, states_with, with_entries, FollowEntries, FollowHistory, HasDiskRisen, StandsFor}
 use Rattle.sb_node.specs.Steps.{entries_with, is_spared, log_of, ticked_to, IsStep}
 use Rattle.sb_node.proofs.Counts.{after_on, numbers_on}
-use Rattle.sb_node.proofs.Following.{follows_on}
+use Rattle.sb_node.proofs.Following.{follows_on, rests_still}
 use Rattle.sb_node.proofs.Sparing.{step_spares}
 use Rattle.sb_node.proofs.Whole.{fell_on, honest_on, quiet_on}
 
@@ -123,7 +121,7 @@ stops_by None s seat reading call answer = refl
 stops_by (Some t) s seat reading call answer = refl
 
 -- no time goes on where it has stopped
-no_tick : (tick : Option ℕ) (s : State) (n seat reading : ℕ) (call : Call) (answer : Result Answered Refusal) → IsLegalFrom (log_of s (Some n)) (entries_with tick seat reading call answer) → tick ≡ None
+pub no_tick : (tick : Option ℕ) (s : State) (n seat reading : ℕ) (call : Call) (answer : Result Answered Refusal) → IsLegalFrom (log_of s (Some n)) (entries_with tick seat reading call answer) → tick ≡ None
 no_tick None s n seat reading call answer legal = refl
 no_tick (Some t) s n seat reading call answer legal = absurd (true≢false legal.0.0)
 
@@ -139,22 +137,23 @@ rises was mid later n none (inr fault) = inr (omega (arith, none.1, fault.1))
 
 -- ---- a step
 
--- what a step says of the node before it and behind it
+-- what a step, with the rest before it, says of the node before and behind both
 pub record Goes {D : Type 0} {B : Ghosts D} (old new : Node D B) (seat reading : ℕ) (call : Call) (answer : Result Answered Refusal) : Type 0 where
   pub step : IsStep (node_log old) (entries_with (node_ticked new) seat reading call answer) (node_log new)
   pub numbers : node_report new ≡ with_entries (node_report old) (node_log old) (entries_with (node_ticked new) seat reading call answer)
   pub origin : opened_disks new ≡ opened_disks old
+  pub goes_on : node_goes_on new ≡ node_goes_on old
   pub honesty : SameHonesty (node_disks old) (node_disks new)
   pub later : NoneFell (node_disks old) (node_disks new)
   pub failed : answer ≡ Err DiskFault → (n : ℕ) × (node_stopped new ≡ Some n) × OneFault (node_disks old) (node_disks new) n
   pub stopped : (n : ℕ) → answer ≡ Err (Stopped n) → node_stopped old ≡ Some n
   pub stays : (n : ℕ) → node_stopped old ≡ Some n → (answer ≡ Err (Stopped n)) × (node_stopped new ≡ Some n)
   pub kept : IsKept old → node_stopped new ≡ None → IsKept new
-  pub untouched : IfErr answer (λ e. e ≢ DiskFault → node_ticked new ≡ None → node_journal new ≡ node_journal old)
+  pub untouched : (n : ℕ) → node_stopped old ≡ Some n → node_disks new ≡ node_disks old
   pub durable : IsKept old → node_stopped new ≡ None → IsDurable (node_disks new) (node_state new)
-  pub follows : IsKept old → FollowEntries [] (node_log old) (entries_with (node_ticked new) seat reading call answer) (node_disks old) (node_disks new)
+  pub follows : IsKept old → node_stopped old ≡ None → FollowEntries (node_goes_on old) [] (node_log old) (entries_with (node_ticked new) seat reading call answer) (node_disks old) (node_disks new)
   pub quiet : answer ≢ Err DiskFault → AreQuiet (node_disks old) (node_disks new)
-  pub undecided_now : IsKept old → answer ≡ Err DiskFault → IsOneOf (node_disks new) (node_state new ∷ after_event (node_state new) (event_at (node_state new) reading call) ∷ [])
+  pub undecided_now : IsKept old → node_stopped old ≡ None → answer ≡ Err DiskFault → IsOneOf (node_disks new) (node_state new ∷ after_event (node_state new) (event_at (node_state new) reading call) ∷ [])
   pub ticked : IfSome (node_ticked new) (λ t. t ≡ moment_of (node_state old) reading)
   pub free : is_spared (moment_of (node_state old) reading) call (ticked_to (node_ticked new) (node_state old)) ≡ true → answer ≢ Err OutOfMemory
 
@@ -182,17 +181,13 @@ has_failed old new seat reading call answer go has before = by_answer answer ref
     by_answer (Err (Stopped n)) is stop = let never : Some n ≡ None = sym (go.stopped n is) ∙ before in absurd cc
     by_answer _ is stop = absurd cc
 
-untouched_by : {D : Type 0} {B : Ghosts D} (old new : Journal D B) (tick : Option ℕ) (n : ℕ) (answer : Result Answered Refusal) → answer ≡ Err (Stopped n) → tick ≡ None → IfErr answer (λ e. e ≢ DiskFault → tick ≡ None → new ≡ old) → new ≡ old
-untouched_by old new tick n (Ok reply) is none left = absurd cc
-untouched_by old new tick n (Err e) is none left = left (λ fault. absurd cc) none
-
 -- a step of a node that had stopped
 module _ {D : Type 0} {B : Ghosts D} (old new : Node D B) (seat reading : ℕ) (call : Call) (answer : Result Answered Refusal) (go : Goes old new seat reading call answer) (n : ℕ) (was : node_stopped old ≡ Some n) where
   unticked : node_ticked new ≡ None
   unticked = no_tick (node_ticked new) (node_state old) n seat reading call answer (subst (λ (o : Option ℕ). IsLegalFrom (log_of (node_state old) o) (entries_with (node_ticked new) seat reading call answer)) was go.step.legal)
 
   same_disks : node_disks new ≡ node_disks old
-  same_disks = ap (λ (j : Journal D B). journal_disks j) (untouched_by (node_journal old) (node_journal new) (node_ticked new) n answer (go.stays n was).0 unticked go.untouched)
+  same_disks = go.untouched n was
 
   one_entry : entries_with (node_ticked new) seat reading call answer ≡ Replied seat reading call (Err (Stopped n)) ∷ []
   one_entry = ap (λ (t : Option ℕ). entries_with t seat reading call answer) unticked ∙ ap (λ (a : Result Answered Refusal). entries_with None seat reading call a) (go.stays n was).0
@@ -242,7 +237,7 @@ module _ {D : Type 0} {B : Ghosts D} (old new : Node D B) (seat reading : ℕ) (
       let failed = has_failed old new seat reading call answer go has before in
       subst (λ (o : Option Event). IsOneOf (node_disks new) (states_with (state_after start (h ++ es)) o)) (sym (undecided_is old new seat reading call answer start h go is.leads before failed))
       (subst (λ (s : State). IsOneOf (node_disks new) (states_with s (Some (event_at (node_state new) reading call)))) state_now
-      (go.undecided_now (is.kept were_honest before) failed))
+      (go.undecided_now (is.kept were_honest before) before failed))
 
   leaves_stopped : (n : ℕ) → node_stopped old ≡ Some n → IsOneOf (node_disks new) (states_left start (h ++ es))
   leaves_stopped n was =
@@ -257,9 +252,9 @@ module _ {D : Type 0} {B : Ghosts D} (old new : Node D B) (seat reading : ℕ) (
 -- ---- its moments
 
 -- a step of one that has stopped with no failed disk in its history
-stopped_moments : (disks : Disks) (s : State) (seat reading n : ℕ) (call : Call) (l : Log) → l.state ≡ s → IsOneOf disks (s ∷ []) → FollowEntries [] l (Replied seat reading call (Err (Stopped n)) ∷ []) disks disks
-stopped_moments disks s seat reading n call l same one =
-    (disks, subst (λ (x : State). StayOneOf disks disks (x ∷ x ∷ [])) (sym same) (started_pair disks (LeadsToOneOf (s ∷ s ∷ [])) (λ x y on_x on_y. first x y (one x y on_x on_y))), refl)
+stopped_moments : (on : Bool) (disks : Disks) (s : State) (seat reading n : ℕ) (call : Call) (l : Log) → l.state ≡ s → IsOneOf disks (s ∷ []) → FollowEntries on [] l (Replied seat reading call (Err (Stopped n)) ∷ []) disks disks
+stopped_moments on disks s seat reading n call l same one =
+    (disks, disks, rests_still on l.state disks, subst (λ (x : State). StayOneOf disks disks (x ∷ x ∷ [])) (sym same) (started_pair disks (LeadsToOneOf (s ∷ s ∷ [])) (λ x y on_x on_y. first x y (one x y on_x on_y))), refl)
   where
     first : (x y : List ℕ) → LeadsToOneOf (s ∷ []) x y → LeadsToOneOf (s ∷ s ∷ []) x y
     first x y (inl is) = inl is
@@ -276,25 +271,26 @@ module _ {D : Type 0} {B : Ghosts D} (old new : Node D B) (seat reading : ℕ) (
   no_tick_left : (after_entries (fresh_log start) h).tick ≡ None
   no_tick_left = ap (λ (l : Log). l.tick) (sym is.leads)
 
-  joined : (undecided (fresh_log start) h ≡ None → FollowEntries [] (after_entries (fresh_log start) h) made (node_disks old) (node_disks new)) → ((e : Event) → undecided (fresh_log start) h ≡ Some e → node_disks new ≡ node_disks old) → FollowHistory start (h ++ made) (opened_disks new) (node_disks new)
+  joined : (undecided (fresh_log start) h ≡ None → FollowEntries (node_goes_on old) [] (after_entries (fresh_log start) h) made (node_disks old) (node_disks new)) → ((e : Event) → undecided (fresh_log start) h ≡ Some e → node_disks new ≡ node_disks old) → FollowHistory (node_goes_on new) start (h ++ made) (opened_disks new) (node_disks new)
   joined goes stays =
-      subst (λ (d : Disks). FollowHistory start (h ++ made) d (node_disks new)) (sym go.origin)
-      (follows_on [] (fresh_log start) h made (opened_disks old) (node_disks old) (node_disks new) (λ none. refl) no_tick_left goes stays (is.follows honest_then))
+      subst (λ (on : Bool). FollowHistory on start (h ++ made) (opened_disks new) (node_disks new)) (sym go.goes_on)
+      (subst (λ (d : Disks). FollowHistory (node_goes_on old) start (h ++ made) d (node_disks new)) (sym go.origin)
+      (follows_on (node_goes_on old) [] (fresh_log start) h made (opened_disks old) (node_disks old) (node_disks new) (λ none. refl) no_tick_left goes stays (is.follows honest_then)))
 
-  moments_running : node_stopped old ≡ None → FollowHistory start (h ++ made) (opened_disks new) (node_disks new)
+  moments_running : node_stopped old ≡ None → FollowHistory (node_goes_on new) start (h ++ made) (opened_disks new) (node_disks new)
   moments_running runs = joined
-      (λ none. subst (λ (l : Log). FollowEntries [] l made (node_disks old) (node_disks new)) is.leads (go.follows (is.kept honest_then runs)))
+      (λ none. subst (λ (l : Log). FollowEntries (node_goes_on old) [] l made (node_disks old) (node_disks new)) is.leads (go.follows (is.kept honest_then runs) runs))
       (λ e is_e. absurd (true≢false (sym (undecided_stops (fresh_log start) h e is_e) ∙ ap (λ (l : Log). l.stopped) (sym is.leads) ∙ ap is_some runs)))
 
-  moments_stopped : (n : ℕ) → node_stopped old ≡ Some n → FollowHistory start (h ++ made) (opened_disks new) (node_disks new)
+  moments_stopped : (n : ℕ) → node_stopped old ≡ Some n → FollowHistory (node_goes_on new) start (h ++ made) (opened_disks new) (node_disks new)
   moments_stopped n was = joined
-      (λ none. subst (λ (es : List Entry). FollowEntries [] (after_entries (fresh_log start) h) es (node_disks old) (node_disks new)) (sym (one_entry old new seat reading call answer go n was))
-      (subst (λ (d : Disks). FollowEntries [] (after_entries (fresh_log start) h) (Replied seat reading call (Err (Stopped n)) ∷ []) (node_disks old) d) (sym (same_disks old new seat reading call answer go n was))
-      (stopped_moments (node_disks old) (state_after start h) seat reading n call (after_entries (fresh_log start) h) refl
+      (λ none. subst (λ (es : List Entry). FollowEntries (node_goes_on old) [] (after_entries (fresh_log start) h) es (node_disks old) (node_disks new)) (sym (one_entry old new seat reading call answer go n was))
+      (subst (λ (d : Disks). FollowEntries (node_goes_on old) [] (after_entries (fresh_log start) h) (Replied seat reading call (Err (Stopped n)) ∷ []) (node_disks old) d) (sym (same_disks old new seat reading call answer go n was))
+      (stopped_moments (node_goes_on old) (node_disks old) (state_after start h) seat reading n call (after_entries (fresh_log start) h) refl
       (subst (λ (o : Option Event). IsOneOf (node_disks old) (states_with (state_after start h) o)) none (is.left honest_then)))))
       (λ e is_e. same_disks old new seat reading call answer go n was)
 
-  moments : (before : Option ℕ) → node_stopped old ≡ before → FollowHistory start (h ++ made) (opened_disks new) (node_disks new)
+  moments : (before : Option ℕ) → node_stopped old ≡ before → FollowHistory (node_goes_on new) start (h ++ made) (opened_disks new) (node_disks new)
   moments None was = moments_running was
   moments (Some n) was = moments_stopped n was
 
@@ -315,7 +311,7 @@ causes old new seat reading call answer start h go is None was has =
 causes old new seat reading call answer start h go is (Some n) was has =
     subst (λ (d : Disks). HasDiskRisen d (node_disks new)) (sym go.origin) (risen_on (opened_disks old) (node_disks old) (node_disks new) go.later (is.cause (ap is_some was)))
 
-stands_on : {D : Type 0} {B : Ghosts D} (old new : Node D B) (seat reading : ℕ) (call : Call) (answer : Result Answered Refusal) (start : State) (h : List Entry) → Goes old new seat reading call answer → StandsFor old start h
+pub stands_on : {D : Type 0} {B : Ghosts D} (old new : Node D B) (seat reading : ℕ) (call : Call) (answer : Result Answered Refusal) (start : State) (h : List Entry) → Goes old new seat reading call answer → StandsFor old start h
     → StandsFor new start (h ++ entries_with (node_ticked new) seat reading call answer)
 stands_on old new seat reading call answer start h go is = record {
   consistent = is.consistent;
@@ -336,11 +332,10 @@ stands_on old new seat reading call answer start h go is = record {
 }
 
 -- with the tick as the step told it
-pub stands_with : {D : Type 0} {B : Ghosts D} (old new : Node D B) (seat reading : ℕ) (call : Call) (answer : Result Answered Refusal) (start : State) (h : List Entry) (tick : Option ℕ) → tick ≡ node_ticked new → Goes old new seat reading call answer → StandsFor old start h
+pub told_with : {D : Type 0} {B : Ghosts D} (new : Node D B) (seat reading : ℕ) (call : Call) (answer : Result Answered Refusal) (start : State) (h : List Entry) (tick : Option ℕ) → tick ≡ node_ticked new → StandsFor new start (h ++ entries_with (node_ticked new) seat reading call answer)
     → StandsFor new start (h ++ made_by seat tick reading call answer)
-stands_with old new seat reading call answer start h tick told go is =
-    subst (λ (es : List Entry). StandsFor new start (h ++ es)) (made_is (node_ticked new) seat reading call answer ∙ ap (λ (t : Option ℕ). made_by seat t reading call answer) (sym told))
-    (stands_on old new seat reading call answer start h go is)
+told_with new seat reading call answer start h tick told is =
+    subst (λ (es : List Entry). StandsFor new start (h ++ es)) (made_is (node_ticked new) seat reading call answer ∙ ap (λ (t : Option ℕ). made_by seat t reading call answer) (sym told)) is
 
 -- what is the same stands for the same
 pub still_stands : {D : Type 0} {B : Ghosts D} (old new : Node D B) (start : State) (h : List Entry) → new ≡ old → StandsFor old start h → StandsFor new start h
@@ -366,8 +361,8 @@ disk_of_origin o = record { honest = o.honest; held = held_of o.held; past = map
 disk_there : (disk : OneDisk) → disk_of_origin (disk_origin disk) ≡ disk
 disk_there disk = ap (λ (past : List Held). record { honest = disk.honest; held = disk.held; past = past; faults = disk.faults }) (past_of disk.past)
 
-pub same_found : (was now : Disks) → origin_of now ≡ origin_of was → now ≡ was
-same_found was now same =
+pub same_found : (on before : Bool) (was now : Disks) → origin_of on now ≡ origin_of before was → now ≡ was
+same_found on before was now same =
     let a : now.a ≡ was.a = sym (disk_there now.a) ∙ ap (λ (o : Origin). disk_of_origin o.disk_a) same ∙ disk_there was.a in
     let b : now.b ≡ was.b = sym (disk_there now.b) ∙ ap (λ (o : Origin). disk_of_origin o.disk_b) same ∙ disk_there was.b in
     λ i. record { a = a i; b = b i }

@@ -87,6 +87,16 @@ tick_failed seat reading t call s after stopped Exhausted at is same =
     }
 tick_failed seat reading t call s after stopped _ at is same = absurd is
 
+-- one for which no call was made, since a disk had failed
+pub fault_step : (seat reading : ℕ) (call : Call) (s after : State) (stopped stopped_after tick : Option ℕ) → stopped ≡ None → tick ≡ None → after ≡ s → is_some stopped_after ≡ true
+    → IsStep (log_of s stopped) (entries_with tick seat reading call (Err DiskFault)) (log_of after stopped_after)
+fault_step seat reading call s after None stopped_after None ran none same failed = record {
+  legal = ((tt, λ sound. absurd cc), refl);
+  leads = same_log after s (is_some stopped_after) true same failed;
+}
+fault_step seat reading call s after None stopped_after (Some t) ran none same failed = absurd cc
+fault_step seat reading call s after (Some n) stopped_after tick ran none same failed = absurd cc
+
 -- a step of a node that has stopped
 pub stopped_step : (seat reading n : ℕ) (call : Call) (s : State) (stopped : Option ℕ) → stopped ≡ Some n → IsStep (log_of s stopped) (entries_with None seat reading call (Err (Stopped n))) (log_of s stopped)
 stopped_step seat reading n call s stopped is = rw is (record { legal = ((tt, refl), refl); leads = refl })

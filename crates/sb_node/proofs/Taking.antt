@@ -90,7 +90,7 @@ pub record IsTaken (s : State) (t : ℕ) (next : State) (passed : Bool) (after :
   pub passes : passed ≡ true
   pub leads : after ≡ next
 
-when : {X : Type 0} (b : Bool) (x y : X) → cond b (Some x) None ≡ Some y → (b ≡ true) × (x ≡ y)
+pub when : {X : Type 0} (b : Bool) (x y : X) → cond b (Some x) None ≡ Some y → (b ≡ true) × (x ≡ y)
 when true x y e = (refl, cc)
 when false x y e = absurd cc
 

@@ -1,8 +1,9 @@
 -- A node: the namespace over its journal. In the order to read it: Recovery (what a journal stands for), Nodes, Steps (what a call does to both),
--- Serving (a node as a desk has it), Laws, Worked, WorkedSpared.
+-- Turns (what a checkpoint does to the journal), Serving (a node as a desk has it), Laws, Worked, WorkedSpared.
 pub mod Recovery
 pub mod Steps
 pub mod Nodes
+pub mod Turns
 pub mod Serving
 pub mod Laws
 pub mod Worked

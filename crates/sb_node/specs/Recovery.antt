@@ -1,6 +1,7 @@
 -- What a journal stands for: the state that its base and its events lead to, or where it is damaged.
 use Rattle.std.specs.Prelude.{◌≡◌, ℕ, ◌+◌, ◌-◌, ◌&&◌, not, Bool, List, [], ◌∷◌, ◌++◌, length, nat_le, if◌then◌else◌, Option, Some, None}
-use Rattle.sb_machine.specs.Answers.{state_of, is_change, max_moment}
+use Rattle.sb_machine.specs.Answers.{is_change, max_moment}
+use Rattle.sb_machine.specs.Answers as answers
 use Rattle.sb_machine.specs.Due.{is_due}
 use Rattle.sb_machine.specs.History.{advanced, is_spent}
 use Rattle.sb_machine.specs.Namespace.{empty_state}
@@ -10,6 +11,8 @@ use Rattle.sb_machine.specs.declared.call.Event.{Event}
 use Rattle.sb_machine.specs.declared.call.Event.TheVariants.{Tick, Called}
 use Rattle.sb_machine.specs.declared.state.State.{State}
 use Rattle.sb_codec.specs.EventBytes.{read_event}
+use Rattle.sb_judge.specs.Decided.{is_consistent}
+use Rattle.sb_snapshot.specs.Base.{state_of}
 use Rattle.sb_journal.specs.Text.{File, first_gate, next_gate, gate_after}
 use Rattle.sb_journal.specs.Opened.{Opened, Stands, Damage, opened}
 use Rattle.sb_journal.specs.Disks.{Disks}
@@ -31,7 +34,7 @@ is_next_call s t call = is_in_time s t && not (is_due t s.space) && is_change (c
 abbrev pub next_state : State → Option Event → Option State
 next_state s None = None
 next_state s (Some (Tick t)) = if is_next_tick s t then Some (advanced s t) else None
-next_state s (Some (Called t call)) = if is_next_call s t call then Some (state_of s t call) else None
+next_state s (Some (Called t call)) = if is_next_call s t call then Some (answers.state_of s t call) else None
 
 -- where payloads lead
 pub data Replayed : Type 0 where
@@ -44,11 +47,16 @@ abbrev pub replay : State → ℕ → List (List ℕ) → Replayed
 replay s place [] = reaches s
 replay s place (p ∷ ps) = elim (next_state s (read_event p)) [ Some next ↦ replay next (next_gate place p) ps | None ↦ breaks place ]
 
--- The state for which a base stands in a file of this salt, and with which its events begin: no base stands for an empty namespace, and
--- none is written yet for another.
+-- this state, if it is consistent
+abbrev pub if_consistent : Option State → Option State
+if_consistent None = None
+if_consistent (Some s) = if is_consistent s then Some s else None
+
+-- The state for which a base stands in a file of this salt, and with which its events begin: the one that all of its bytes spell, if that
+-- is a consistent one. Where there is no base it is an empty namespace.
 abbrev pub base_state : (salt : ℕ) → List ℕ → Option State
 base_state salt [] = Some (empty_state salt)
-base_state salt (byte ∷ bytes) = None
+base_state salt (byte ∷ bytes) = if_consistent (state_of salt (byte ∷ bytes))
 
 -- the payloads behind the gate at this place, from the state of a base on; where it stands for none, its place is damaged
 abbrev pub replay_from : Option State → ℕ → List (List ℕ) → Replayed

@@ -1,5 +1,5 @@
--- A node as what a desk serves: its numbers, what it found on its disks as it was opened, and the history that it stands for.
-use Rattle.std.specs.Prelude.{◌≡◌, ◌⊎◌, ℕ, zero, suc, ◌+◌, List, [], ◌∷◌, ◌++◌, map, length, filter, true, if◌then◌else◌, Option, Some, None, is_some, Result, Ok, Err}
+-- A node as what a desk serves: its numbers, what it found on its disks as it was opened and how it uses them, and the history that it stands for.
+use Rattle.std.specs.Prelude.{◌≡◌, ◌⊎◌, ℕ, zero, suc, ◌+◌, List, [], ◌∷◌, ◌++◌, map, length, filter, Bool, true, false, nat_lt, if◌then◌else◌, Option, Some, None, is_some, Result, Ok, Err}
 use Rattle.std.specs.Bool.{MatchBool}
 use Rattle.sb_desk.specs.Entries.{counted, is_refused, IsReport}
 use Rattle.sb_desk.specs.Spared.{Spares}
@@ -9,6 +9,7 @@ use Rattle.sb_desk.specs.declared.report.Origin.{Origin}
 use Rattle.sb_desk.specs.declared.report.Report.{Report}
 use Rattle.sb_journal.specs.Disks.{Disks, OneDisk, AreHonest, AreQuiet, NoneFell, SameHonesty}
 use Rattle.sb_journal.specs.Journals.{journal_disks}
+use Rattle.sb_journal.specs.declared.found.Side.{Side}
 use Rattle.sb_machine.specs.Accounts.{changing}
 use Rattle.sb_machine.specs.Consistent.{IsConsistent}
 use Rattle.sb_machine.specs.Events.{after_event, event_at, is_disk_fault, undecided}
@@ -24,7 +25,7 @@ use Rattle.sb_outside.specs.Causes.{Rose}
 use Rattle.sb_outside.specs.Held.{Held}
 use Rattle.sb_outside.specs.declared.disk.Disk.{Ghosts}
 use Rattle.sb_node.specs.declared.node.Node.{Node}
-use Rattle.sb_node.specs.Nodes.{node_disks, node_log, node_stopped, IsDurable, IsKept, IsOneOf, StayOneOf}
+use Rattle.sb_node.specs.Nodes.{node_disks, node_log, node_stopped, IsDurable, IsKept, IsOneOf, StayOneOf, TurnOneOf}
 use Rattle.sb_node.specs.Steps.{is_spared}
 
 -- ---- numbers
@@ -69,13 +70,17 @@ disk_moment held = record { seen = held.seen; synced = held.synced; ranges = hel
 abbrev pub disk_origin : OneDisk → DiskOrigin
 disk_origin disk = record { faults = disk.faults; honest = disk.honest; held = disk_moment disk.held; past = map disk_moment disk.past }
 
--- what both disks told as the node was opened
-abbrev pub origin_of : Disks → Origin
-origin_of disks = record { disk_a = disk_origin disks.a; disk_b = disk_origin disks.b }
+-- what both disks told as the node was opened, and whether it goes on with new files by itself
+abbrev pub origin_of : (goes_on : Bool) → Disks → Origin
+origin_of goes_on disks = record { disk_a = disk_origin disks.a; disk_b = disk_origin disks.b; goes_on = goes_on }
 
--- the same of a node
+-- whether it does: once its journal has grown by so many bytes; by none never
+abbrev pub node_goes_on : {D : Type 0} {B : Ghosts D} → Node D B → Bool
+node_goes_on n = nat_lt 0 n.growth.checkpoint_after
+
+-- what a node found, and whether it goes on
 abbrev pub node_origin : {D : Type 0} {B : Ghosts D} → Node D B → Origin
-node_origin n = origin_of (opened_disks n)
+node_origin n = origin_of (node_goes_on n) (opened_disks n)
 
 -- the count of one of the disks rose
 abbrev pub HasDiskRisen : (was now : Disks) → Type 0
@@ -98,19 +103,31 @@ states_left start h = states_with (state_after start h) (undecided (fresh_log st
 abbrev pub states_at : State → (reading : ℕ) → Call → Result Answered Refusal → List State
 states_at s reading call answer = s ∷ (if is_disk_fault answer then after_event s (event_at s reading call) else after_call s reading call answer) ∷ []
 
--- The moments of a history, cut at its answers: until a call is answered a crash at any moment leads to the state before its step, to that
--- with the step's tick or to the one after the call. So what was answered stays, and no moment leads further back than one before it. After
--- the answer that a disk failed the disks are left alone. The first list has the states before a tick whose call comes next.
-abbrev pub FollowEntries : List State → Log → List Entry → (was now : Disks) → Type 0
-FollowEntries before l [] was now = now ≡ was
-FollowEntries before l (Ticked seat t ∷ es) was now = FollowEntries (l.state ∷ before) (after_entry l (Ticked seat t)) es was now
-FollowEntries before l (Replied seat reading call answer ∷ es) was now =
-    (answered : Disks) × StayOneOf was answered (before ++ states_at l.state reading call answer)
-    × MatchBool (is_disk_fault answer) (now ≡ answered) (FollowEntries [] (after_entry l (Replied seat reading call answer)) es answered now)
+-- Between two answers nothing is done to the disks; or, where a node goes on with new files by itself, its journal may go on with one: a
+-- crash at any moment of that leads to this state.
+abbrev pub Rests : (goes_on : Bool) → State → (was now : Disks) → Type 0
+Rests false s was now = now ≡ was
+Rests true s was now = (now ≡ was) ⊎ ((side : Side) × TurnOneOf side was now (s ∷ []))
+
+-- the state before a step, by the one in which its call acts and those before its tick
+abbrev pub first_of : State → List State → State
+first_of s [] = s
+first_of s (b ∷ bs) = first_of b bs
+
+-- The moments of a history, cut at its answers: before a step the node rests, and until its call is answered a crash at any moment leads to
+-- the state before the step, to that with the step's tick or to the one after the call. So what was answered stays, and no moment leads
+-- further back than one before it. After the answer that a disk failed the disks are left alone. The list has the states before a tick
+-- whose call comes next, the latest first.
+abbrev pub FollowEntries : (goes_on : Bool) → List State → Log → List Entry → (was now : Disks) → Type 0
+FollowEntries goes_on before l [] was now = now ≡ was
+FollowEntries goes_on before l (Ticked seat t ∷ es) was now = FollowEntries goes_on (l.state ∷ before) (after_entry l (Ticked seat t)) es was now
+FollowEntries goes_on before l (Replied seat reading call answer ∷ es) was now =
+    (turned answered : Disks) × Rests goes_on (first_of l.state before) was turned × StayOneOf turned answered (before ++ states_at l.state reading call answer)
+    × MatchBool (is_disk_fault answer) (now ≡ answered) (FollowEntries goes_on [] (after_entry l (Replied seat reading call answer)) es answered now)
 
 -- the moments of a history from a state
-abbrev pub FollowHistory : State → List Entry → (was now : Disks) → Type 0
-FollowHistory start h was now = FollowEntries [] (fresh_log start) h was now
+abbrev pub FollowHistory : (goes_on : Bool) → State → List Entry → (was now : Disks) → Type 0
+FollowHistory goes_on start h was now = FollowEntries goes_on [] (fresh_log start) h was now
 
 -- A node stands for a history from a state: it holds the state to which that leads, and its numbers, and has stopped where the history
 -- has. No spared call of it was answered with want of memory. Where its disks are honest, a crash as it was opened led to the first state, a crash at any moment since leads on as `FollowHistory`
@@ -128,5 +145,5 @@ pub record StandsFor {D : Type 0} {B : Ghosts D} (n : Node D B) (start : State) 
   pub quiet : node_stopped n ≡ None → AreQuiet (opened_disks n) (node_disks n)
   pub kept : AreHonest (node_disks n) → node_stopped n ≡ None → IsKept n
   pub began : AreHonest (node_disks n) → IsDurable (opened_disks n) start
-  pub follows : AreHonest (node_disks n) → FollowHistory start h (opened_disks n) (node_disks n)
+  pub follows : AreHonest (node_disks n) → FollowHistory (node_goes_on n) start h (opened_disks n) (node_disks n)
   pub left : AreHonest (node_disks n) → IsOneOf (node_disks n) (states_left start h)

@@ -1,5 +1,5 @@
 // Laws: each a function without effect whose contract is true of the definitions.
-ghost use Rattle.std.specs.Prelude.{◌≡◌, [], codes, length, take, Some, None, Ok, Err};
+ghost use Rattle.std.specs.Prelude.{◌≡◌, ◌∷◌, ◌++◌, [], codes, length, take, Some, None, Ok, Err};
 ghost use Rattle.sb_desk.specs.Spared.{Spares};
 ghost use Rattle.sb_journal.specs.declared.found.Side.TheVariants.{A, B};
 ghost use Rattle.sb_machine.specs.Namespace.{empty_state};
@@ -11,7 +11,7 @@ ghost use Rattle.sb_machine.specs.declared.reply.Reply.TheVariants.{Done};
 ghost use Rattle.sb_node.specs.Laws.{RecoversConsistent};
 ghost use Rattle.sb_node.specs.Recovery.{recovered, recovers, damaged};
 ghost use Rattle.sb_node.specs.Steps.{is_spared};
-ghost use Rattle.sb_node.specs.Worked.{worked_file, worked_salt, with_byte, with_queue, ticked_file};
+ghost use Rattle.sb_node.specs.Worked.{worked_file, worked_salt, with_byte, with_queue, ticked_file, based_file, empty_base, base_byte, made_record};
 ghost use Rattle.sb_node.specs.WorkedSpared.{settled, settlement};
 
 /// Whatever stands on two disks, a state that it recovers is consistent: a damaged journal is never
@@ -57,6 +57,25 @@ pub fn worked_pair()
     ensures heads { (recovered worked_file (with_byte 8 0) 0 ≡ damaged B 1) × (recovered (with_byte 9 2) (with_byte 8 0) 0 ≡ damaged A 9) × (recovered [] (with_byte 33 0) 0 ≡ damaged B 26) }
     ensures first_byte { (recovered [] (with_byte 0 0x58) 5 ≡ damaged B 0) × (recovered (with_byte 0 0) (with_byte 0 0) 5 ≡ damaged A 0) }
     ensures records { (recovered (with_byte 44 0x11) (with_byte 25 2) 0 ≡ recovers with_queue 1) × (recovered [] (with_byte 44 0x11) 0 ≡ damaged B 42) }
+{}
+
+/// A journal whose events are numbered from 6 and whose base has 80 bytes, worked through with the definitions
+/// alone: it begins with the state that these spell, and where they spell none, or one that isn't consistent, the
+/// base is damaged.
+pub fn worked_base()
+    ensures empty { recovered (based_file 80 empty_base (0 ∷ [])) [] 0 ≡ recovers (empty_state worked_salt) 5 }
+    ensures no_end_gate { recovered (based_file 80 empty_base []) [] 0 ≡ recovers (empty_state worked_salt) 5 }
+    ensures cut { (recovered (take 121 (based_file 80 empty_base [])) [] 0 ≡ damaged A 42) × (recovered (take 43 (based_file 80 empty_base [])) [] 0 ≡ damaged A 42) }
+    ensures short { recovered (based_file 79 (take 79 empty_base) (0 ∷ [])) [] 0 ≡ damaged A 42 }
+    ensures long { recovered (based_file 81 (empty_base ++ 0 ∷ []) (0 ∷ [])) [] 0 ≡ damaged A 42 }
+    // A client is missing.
+    ensures unspelled { recovered (based_file 80 (base_byte 79 1) (0 ∷ [])) [] 0 ≡ damaged A 42 }
+    // The moment is past the last one.
+    ensures inconsistent { recovered (based_file 80 (base_byte 0 1) (0 ∷ [])) [] 0 ≡ damaged A 42 }
+    ensures moment { recovered (based_file 80 (base_byte 7 9) (0 ∷ [])) [] 0 ≡ recovers (record (empty_state worked_salt) { now = 9 }) 5 }
+    ensures event { recovered (based_file 80 empty_base made_record) [] 0 ≡ recovers with_queue 6 }
+    // Time doesn't go back to an event behind a base.
+    ensures earlier { recovered (based_file 80 (base_byte 7 9) made_record) [] 0 ≡ damaged A 122 }
 {}
 
 /// A history whose last call settles a message under a lock, worked through with the definitions alone:

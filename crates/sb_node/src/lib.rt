@@ -3,22 +3,27 @@
 //! `Node` joins the engine, which plans, reserves and commits in memory, with the journal, which is
 //! between planning and committing. A step makes one call: where something is due at its moment,
 //! time goes on first, as an event of its own, and then the call acts. What a journal says is
-//! carried out again (`replay`) as it is opened; `look` does that too, tells the numbers, and does nothing to
-//! the disks.
+//! carried out again (`replay`) as it is opened, from the state for which its base stands; `look` does that too,
+//! tells the numbers, and does nothing to the disks. A checkpoint writes the state as the base of a new file on the
+//! other disk, with which the journal goes on (`checkpointing`).
 //!
 //! It is a `Served`: as it was opened it stands for an empty history, and each step adds its entries to
 //! the one for which it stands. Whatever a crash leaves of its disks leads to the state after that
 //! history, or, once a disk has failed, to the one after the event that wasn't journaled
-//! (`specs/Serving`).
+//! (`specs/Serving`). Where it is told to (`go_on_after`), its journal goes on with a new file by itself
+//! before a step, once it has grown.
 //!
 //! ```text
 //! let mut node = Node::open(alloc, disk_a, disk_b, salt)?;
 //! let answer = node.step(1_700_000_000_000, &call); // safe on the disk, once it is answered
+//! let turned = node.checkpoint()?; // what was before needn't be carried out again
 //! let (disk_a, disk_b) = node.close();
 //! ```
 #![tactic(auto)]
 
+mod checkpointing;
 mod counting;
+mod growth;
 mod laws;
 mod looking;
 mod node;
@@ -26,7 +31,7 @@ mod recovering;
 mod replay;
 mod serving;
 
-pub use laws::{recovers_consistent, worked_journal, worked_spared};
+pub use laws::{recovers_consistent, worked_base, worked_journal, worked_spared};
 pub use looking::look;
 pub use node::Node;
 pub use sb_engine::Summary;

@@ -3,6 +3,7 @@ ghost use Rattle.std.specs.Prelude.{◌≡◌, ◌-◌};
 ghost use Rattle.sb_engine.specs.Engines.{engine_state, summary_of};
 ghost use Rattle.sb_machine.specs.Consistent.{IsConsistent};
 
+use crate::growth::Growth;
 use crate::replay::Replaying;
 use sb_engine::{Engine, Summary};
 use sb_journal::Judged;
@@ -13,16 +14,22 @@ pub(crate) struct Reached {
     pub(crate) engine: Engine,
     /// The number of the last record.
     pub(crate) last: u64,
+    /// How far the journal has grown.
+    pub(crate) growth: Growth,
 }
 
 /// The engine that has carried out all events of the file that was found.
 pub(crate) fn reached_by(judged: Judged<Replaying>) -> Reached
     ensures engine { result.engine ≡ judged.judge.engine }
     ensures last { result.last ≡ judged.next - 1 }
+    ensures growth { result.growth.checkpoint_after ≡ 0 }
 {
+    let Judged { next, judge, .. } = judged;
+    let growth = judge.growth();
     Reached {
-        engine: judged.judge.engine,
-        last: judged.next.saturating_sub(1),
+        engine: judge.into_engine(),
+        last: next.saturating_sub(1),
+        growth,
     }
 }
 

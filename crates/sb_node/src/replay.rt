@@ -1,19 +1,27 @@
 // Carrying out again what a journal says.
 ghost use Rattle.std.specs.Bool.{MatchBool};
-ghost use Rattle.std.specs.Prelude.{◌≡◌, ◌≢◌, [], false, Some, None, IfOk, OnOk};
+ghost use Rattle.std.specs.Option.{option_map};
+ghost use Rattle.std.specs.Prelude.{◌≡◌, ◌≢◌, false, Some, None, IfOk, OnOk};
 ghost use Rattle.sb_codec.specs.EventBytes.{read_event};
 ghost use Rattle.sb_engine.specs.Engines.{engine_state, carried_out, IsSound};
 ghost use Rattle.sb_laws.specs.Sweepable.{IsSweepable};
 ghost use Rattle.sb_machine.specs.Namespace.{empty_state};
 ghost use Rattle.sb_machine.specs.declared.call.Event.TheVariants.{Tick, Called};
 ghost use Rattle.sb_machine.specs.declared.reply.Refusal.TheVariants.{OutOfMemory};
-ghost use Rattle.sb_node.specs.Recovery.{base_state, next_state, IsReplayed, BreaksReplay};
+ghost use Rattle.sb_node.specs.Recovery.{base_state, if_consistent, next_state, IsReplayed, BreaksReplay};
 
+use crate::growth::Growth;
 use sb_codec::decode_event;
 use sb_engine::{Engine, Plan};
 use sb_journal::Judge;
-use sb_machine::{Call, Event, Refusal};
+use sb_judge::judge;
+use sb_machine::{Call, Event, Refusal, State};
+use sb_snapshot::read_state;
 use std::alloc::{AllocError, Global};
+use std::mem;
+
+// The bytes of a record beside its payload.
+const FRAME: u64 = 13;
 
 /// The last moment that counts, in ms since 1970.
 pub const MAX_MOMENT: u64 = 253_402_214_400_000;
@@ -112,15 +120,60 @@ fn take_payload(alloc: Global, engine: &mut Engine, payload: &[u8]) -> Result<bo
     }
 }
 
-/// An engine that carries out what a journal says while it is read, and lets each payload go then. It takes
-/// no base yet, and the events that change its state, in order.
+// The engine in this state, if that is consistent.
+fn engine_in(alloc: Global, state: State) -> Result<Option<Engine>, AllocError>
+    ensures { IfOk result (λ o. option_map engine_state o ≡ if_consistent (Some state)) }
+{
+    let Ok(is_consistent) = judge(alloc, &state) else {
+        drop(state);
+        return Err(AllocError);
+    };
+    if !is_consistent {
+        drop(state);
+        return Ok(None);
+    }
+    match Engine::from_state(alloc, state) {
+        Ok(engine) => Ok(Some(engine)),
+        Err(_) => Err(AllocError),
+    }
+}
+
+/// An engine that carries out what a journal says while it is read, and lets each payload go then. Its base
+/// is kept until all of it was given; then the engine is the state for which it stands. It takes the bases
+/// that stand for one, and the events that change its state, in order.
 #[derive(Drop)]
 pub(crate) struct Replaying {
     pub(crate) engine: Engine,
+    // The salt of the file.
+    salt: u64,
+    // So much of the base as it was given.
+    base: Vec<u8>,
+    // How many bytes the base has. A hint, as the next is.
+    base_bytes: u64,
+    // How many the records have behind it.
+    record_bytes: u64,
+}
+
+impl Replaying {
+    /// How far the journal has grown that was read.
+    pub(crate) fn growth(&self) -> Growth
+        ensures { result.checkpoint_after ≡ 0 }
+    {
+        Growth::of(self.base_bytes, self.record_bytes)
+    }
+
+    /// The engine, with what it has carried out.
+    pub(crate) fn into_engine(self) -> Engine
+        ensures { result ≡ self.engine }
+    {
+        let Replaying { engine, base, .. } = self;
+        drop(base);
+        engine
+    }
 }
 
 impl Judge for Replaying {
-    ghost given = { λ r salt base. (engine_state r.engine ≡ empty_state salt) × (base ≡ []) };
+    ghost given = { λ r salt base. (engine_state r.engine ≡ empty_state salt) × ((r.salt ≡ salt) × (r.base.items ≡ base)) };
 
     ghost taken = { λ r salt base payloads. IsReplayed (engine_state r.engine) salt base payloads };
 
@@ -131,19 +184,39 @@ impl Judge for Replaying {
     fn begin(alloc: Global, salt: u64) -> Self {
         Replaying {
             engine: Engine::new(alloc, salt),
+            salt,
+            base: Vec::new(alloc),
+            base_bytes: 0,
+            record_bytes: 0,
         }
     }
 
-    // None is read yet but the empty one.
     fn take_base(&mut self, _alloc: Global, piece: &[u8]) -> Result<bool, AllocError> {
-        Ok(piece.is_empty())
-    }
-
-    fn end_base(&mut self, _alloc: Global) -> Result<bool, AllocError> {
+        self.base_bytes = self.base_bytes.saturating_add(piece.len() as u64);
+        self.base.extend_from_slice(piece)?;
         Ok(true)
     }
 
+    fn end_base(&mut self, alloc: Global) -> Result<bool, AllocError> {
+        if self.base.is_empty() {
+            return Ok(true);
+        }
+        let Some(state) = read_state(alloc, self.salt, &self.base)? else {
+            return Ok(false);
+        };
+        drop(mem::replace(&mut self.base, Vec::new(alloc)));
+        match engine_in(alloc, state)? {
+            Some(engine) => {
+                drop(mem::replace(&mut self.engine, engine));
+                Ok(true)
+            }
+            None => Ok(false),
+        }
+    }
+
     fn take(&mut self, alloc: Global, payload: &[u8]) -> Result<bool, AllocError> {
+        let bytes = FRAME.saturating_add(payload.len() as u64);
+        self.record_bytes = self.record_bytes.saturating_add(bytes);
         take_payload(alloc, &mut self.engine, payload)
     }
 }

@@ -22,7 +22,7 @@ impl<D: Disk> Served for Node<D> {
     }
 
     fn step(&mut self, reading: u64, call: &Call) -> Stepped {
-        let answer = Node::step(self, reading, call);
+        let answer = self.step_on(reading, call);
         let tick = self.ticked();
         let entered = self.take_entered();
         Stepped {

@@ -7,6 +7,7 @@ use Rattle.sb_codec.specs.EventBytes.{a_call, event, read_event}
 use Rattle.sb_codec.specs.Forms.{chosen_at, coded_at}
 use Rattle.sb_codec.specs.Pieces.{description}
 use Rattle.sb_codec.specs.Readers.{number_at, sized_at, optional_at}
+use Rattle.sb_snapshot.specs.Base.{parts, state_of}
 use Rattle.sb_node.proofs.laws.worked_journal.Goals as goal
 
 pub returns-clause-length : goal.returns-clause-length
@@ -49,7 +50,7 @@ unfolding framing headed head_fault is_record payloads_in
 returns-clause-first c = (refl, refl)
 
 pub returns-clause-base : goal.returns-clause-base
-unfolding framing headed head_fault is_record payloads_in
+unfolding framing headed head_fault is_record payloads_in state_of parts number_at
 returns-clause-base c = refl
 
 pub returns-clause-base_cut : goal.returns-clause-base_cut

@@ -1,14 +1,16 @@
 use Rattle.std.proofs.Common.{◌∙◌, refl, sym, ap, subst}
 use Rattle.sb_journal.specs.declared.found.Side.{Side}
-use Rattle.sb_journal.specs.Disks.{Disks, disks_of, opened_on, AreHonest, KeepFound}
+use Rattle.sb_journal.specs.Disks.{Disks, disks_of, opened_on, AreHonest, KeepFound, SameHonesty}
 use Rattle.sb_journal.specs.Opened.{Stands, judged_file}
 use Rattle.sb_journal.specs.Unopened.{unopened_disks}
-use Rattle.sb_journal.specs.Journals.{journal_disks, fault_disks}
+use Rattle.sb_journal.specs.Journals.{has_failed, journal_disks, journal_side, fault_disks}
 use Rattle.sb_journal.proofs.Pairs.{still_honest, fault_on, opening_stays_pair, opening_finishes_pair}
 use Rattle.sb_engine.specs.Engines.{engine_state}
+use Rattle.sb_recorder.specs.Recorders.{recorder_journal}
+use Rattle.sb_node.specs.Nodes.{HoldsState}
 use Rattle.sb_node.specs.Recovery.{reaches, IsReplayed}
 use Rattle.sb_node.proofs.Crashes.{kept_leads}
-use Rattle.sb_node.proofs.Keeping.{last_number}
+use Rattle.sb_node.proofs.Keeping.{last_number, same_kept}
 use Rattle.sb_node.proofs.Reaching.{judged_consistent, judged_last, judged_recovers, judged_damaged}
 use Rattle.sb_node.proofs.Standing.{begins, were_honest_first}
 use Rattle.sb_node.proofs.node.Node.open.Goals as goal
@@ -34,36 +36,38 @@ returns-in-Ok-finish-clause-consistent g c =
 pub returns-in-Ok-finish-clause-kept : goal.returns-in-Ok-finish-clause-kept
 returns-in-Ok-finish-clause-kept g c honest =
     let was = disks_of g.D.Disk c.args.disk_a c.args.disk_b in
-    let j = c.in-Ok.read.1 in
     let is = c.in-Ok.ensures.ok in
-    let file = judged_file j is.base is.payloads in
+    let file = judged_file c.in-Ok.read.1 is.base is.payloads in
     let s = engine_state c.reached_by-engine.result.engine in
-    let leads : IsReplayed s j.salt is.base is.payloads = λ place. is.taken place ∙ ap (λ e. reaches (engine_state e)) (sym c.reached_by-engine.ensures.engine) in
+    let leads : IsReplayed s c.in-Ok.read.1.salt is.base is.payloads = λ place. is.taken place ∙ ap (λ e. reaches (engine_state e)) (sym c.reached_by-engine.ensures.engine) in
     let honest_1 = still_honest was (unopened_disks c.in-Ok.read.0) c.in-Ok.ensures.honesty honest in
-    let holds = c.in-Ok-finish.ensures.ok j.disk file honest_1 (c.in-Ok.ensures.stands honest ∙ is.stands honest) in
-    record {
+    let holds = c.in-Ok-finish.ensures.ok c.in-Ok.read.1.disk file honest_1 (c.in-Ok.ensures.stands honest ∙ is.stands honest) in
+    let j = c.in-Ok-finish.journal in
+    let kept : HoldsState j c.reached_by-engine.result.last s = record {
       file = file;
       holds = holds;
       leads = leads _;
-      number = last_number c.in-Ok-finish.journal file c.reached_by-engine.result.last holds (judged_last _ _ (opened_on was c.args.salt) j is s leads c.reached_by-engine.result.last c.reached_by-engine.ensures.last (is.within honest));
-    }
+      number = last_number j file c.reached_by-engine.result.last holds (judged_last _ _ (opened_on was c.args.salt) c.in-Ok.read.1 is s leads c.reached_by-engine.result.last c.reached_by-engine.ensures.last (is.within honest));
+    } in
+    same_kept j (recorder_journal c.over.result) c.reached_by-engine.result.last c.reached_by-engine.result.last s s kept c.over.ensures refl refl
 
 pub returns-in-Ok-finish-clause-durable : goal.returns-in-Ok-finish-clause-durable
 returns-in-Ok-finish-clause-durable g c honest x y on_x on_y =
-    kept_leads c.in-Ok-finish.journal _ (engine_state c.reached_by-engine.result.engine) (returns-in-Ok-finish-clause-kept g c honest) x y on_x on_y
+    kept_leads (recorder_journal c.over.result) _ (engine_state c.reached_by-engine.result.engine) (returns-in-Ok-finish-clause-kept g c honest) x y on_x on_y
 
 pub returns-in-Ok-finish-clause-any_moment : goal.returns-in-Ok-finish-clause-any_moment
 returns-in-Ok-finish-clause-any_moment g c honest =
     let was = disks_of g.D.Disk c.args.disk_a c.args.disk_b in
     let mid = unopened_disks c.in-Ok.read.0 in
     let honest_1 = still_honest was mid c.in-Ok.ensures.honesty honest in
-    opening_finishes_pair c.args.salt _ was mid (journal_disks c.in-Ok-finish.journal) c.in-Ok.ensures.salt (c.in-Ok.ensures.synced honest) (c.in-Ok-finish.ensures.any_moment _ _ honest_1 (c.in-Ok.ensures.stands honest ∙ c.in-Ok.ensures.ok.stands honest))
+    subst (λ j. KeepFound c.args.salt was (journal_disks j)) (sym c.over.ensures)
+    (opening_finishes_pair c.args.salt _ was mid (journal_disks c.in-Ok-finish.journal) c.in-Ok.ensures.salt (c.in-Ok.ensures.synced honest) (c.in-Ok-finish.ensures.any_moment _ _ honest_1 (c.in-Ok.ensures.stands honest ∙ c.in-Ok.ensures.ok.stands honest)))
 
 pub returns-in-Ok-finish-clause-counts : goal.returns-in-Ok-finish-clause-counts
 returns-in-Ok-finish-clause-counts g c honest =
     let is = c.in-Ok.ensures.ok in
     let file = judged_file c.in-Ok.read.1 is.base is.payloads in
-    (file, is.stands honest ∙ ap (λ (s : Side). Stands s file) (c.in-Ok.ensures.side ∙ sym c.in-Ok-finish.ensures.side))
+    (file, is.stands honest ∙ ap (λ (s : Side). Stands s file) (c.in-Ok.ensures.side ∙ sym c.in-Ok-finish.ensures.side ∙ ap (λ j. journal_side j) (sym c.over.ensures)))
 
 pub returns-in-Err-finish-clause-any_moment : goal.returns-in-Err-finish-clause-any_moment
 returns-in-Err-finish-clause-any_moment g c honest =
@@ -98,8 +102,7 @@ invariant_of-result g c =
     let s = engine_state c.reached_by-engine.result.engine in
     let leads : IsReplayed s j.salt is.base is.payloads = λ place. is.taken place ∙ ap (λ e. reaches (engine_state e)) (sym c.reached_by-engine.ensures.engine) in
     record {
-      buffer_fits = c.in-Ok-with_capacity.ensures.capacity;
-      runs = λ none. c.in-Ok-finish.ensures.running;
+      runs = λ none. ap (λ j. has_failed j) c.over.ensures ∙ c.in-Ok-finish.ensures.running;
       consistent = ∣ judged_consistent _ _ (opened_on was c.args.salt) j is s leads ∣₁;
     }
 
@@ -107,10 +110,11 @@ pub returns-in-Ok-finish-clause-stands : goal.returns-in-Ok-finish-clause-stands
 returns-in-Ok-finish-clause-stands g c =
     let was = disks_of g.D.Disk c.args.disk_a c.args.disk_b in
     let mid = unopened_disks c.in-Ok.read.0 in
-    let later = journal_disks c.in-Ok-finish.journal in
-    let were : AreHonest later → AreHonest was = were_honest_first was mid later c.in-Ok.ensures.honesty c.in-Ok-finish.ensures.honesty in
-    begins _ (returns-in-Ok-finish-clause-consistent g c) refl c.no_numbers.ensures.0 c.no_numbers.ensures.1 c.no_numbers.ensures.2 (ap (λ j. journal_disks j) c.of.ensures)
+    let later = journal_disks (recorder_journal c.over.result) in
+    let honesty : SameHonesty mid later = subst (λ j. SameHonesty mid (journal_disks j)) (sym c.over.ensures) c.in-Ok-finish.ensures.honesty in
+    let were : AreHonest later → AreHonest was = were_honest_first was mid later c.in-Ok.ensures.honesty honesty in
+    begins _ (returns-in-Ok-finish-clause-consistent g c) refl c.no_numbers.ensures.0 c.no_numbers.ensures.1 c.no_numbers.ensures.2 (ap (λ j. journal_disks j) (c.of.ensures ∙ sym c.over.ensures))
     (λ honest. returns-in-Ok-finish-clause-kept g c (were honest)) (λ honest. returns-in-Ok-finish-clause-durable g c (were honest))
 
 pub returns-in-Ok-finish-clause-origin : goal.returns-in-Ok-finish-clause-origin
-returns-in-Ok-finish-clause-origin g c = ap (λ j. journal_disks j) c.of.ensures
+returns-in-Ok-finish-clause-origin g c = ap (λ j. journal_disks j) (c.of.ensures ∙ sym c.over.ensures)

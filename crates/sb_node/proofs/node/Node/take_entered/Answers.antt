@@ -2,4 +2,4 @@ use Rattle.sb_node.proofs.Alike.{alike}
 use Rattle.sb_node.proofs.node.Node.take_entered.Goals as goal
 
 pub returns : goal.returns
-returns g c = record { same = alike c.args.self.now c.take_entered.new.self _ _ _ c.take_entered.ensures.same }
+returns g c = record { same = alike c.args.self.now c.take_entered.new.self _ _ c.take_entered.ensures.same }
