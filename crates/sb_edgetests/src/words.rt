@@ -63,6 +63,10 @@ fn says_what_is_wrong(rt: HostRuntime) -> Result<(), Fail> {
             "--patience takes a number from 1 to 7200",
         ),
         ("client --port=80 --key=", "--key takes the name of a file"),
+        (
+            "serve --data=a --port=80 --checkpoint-after=-1",
+            "--checkpoint-after takes a number from 0 to 4611686018427387904",
+        ),
         ("run --dat a", "unexpected argument '--dat' found"),
         ("drll", "unrecognized subcommand 'drll'"),
         (
@@ -99,6 +103,8 @@ fn helps_with_each_command(rt: HostRuntime) -> Result<(), Fail> {
         ("help serve", "--log"),
         ("help serve", "[default: 60]"),
         ("help serve", "[default: 600]"),
+        ("help serve", "[default: 268435456]"),
+        ("help run", "--checkpoint"),
         ("help drill", "0 to 1000000"),
         ("drill -h", "Example: bus drill 2000 7"),
         ("--version", "bus 0.1.0"),

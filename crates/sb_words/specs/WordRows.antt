@@ -15,7 +15,7 @@ with_port port = record (form_of Client) { port = port; patience = 120 }
 
 -- a server's call
 abbrev pub serving : (workers connections : ℕ) → Form
-serving workers connections = record (over Serve (codes "a")) { port = 80; workers = workers; connections = connections; max_jump = 400; request_time = 60; idle_time = 600 }
+serving workers connections = record (over Serve (codes "a")) { port = 80; workers = workers; connections = connections; max_jump = 400; request_time = 60; idle_time = 600; checkpoint_after = 268435456 }
 
 -- the words of a server, with these options
 abbrev pub serve_with : List Text → List Text
@@ -62,6 +62,26 @@ abbrev pub others : List (List Text × Form)
 others = (run_with (codes "--max-jump=7"), record (over Run (codes "a")) { max_jump = 7 }) ∷ (check_with (codes "--look"), record (over Check (codes "a")) { look = true })
     ∷ (client_with (codes "--key=k"), record (with_port 80) { key_file = codes "k" }) ∷ (client_with (codes "--patience=7200"), record (with_port 80) { patience = 7200 })
     ∷ (client_with (codes "--patience=1"), record (with_port 80) { patience = 1 }) ∷ []
+
+-- words of runs that make a checkpoint at their end, and the form
+abbrev pub checkpoints : List (List Text × Form)
+checkpoints = (run_with (codes "--checkpoint"), record (over Run (codes "a")) { checkpoint = true })
+    ∷ (codes "run" ∷ codes "--checkpoint" ∷ codes "--max-jump=7" ∷ codes "--data" ∷ codes "a" ∷ [], record (over Run (codes "a")) { max_jump = 7; checkpoint = true }) ∷ []
+
+-- the flag with a value, given twice, alone, or with another command
+abbrev pub no_checkpoints : List (List Text)
+no_checkpoints = run_with (codes "--checkpoint=true") ∷ (codes "run" ∷ codes "--checkpoint" ∷ codes "--data=a" ∷ codes "--checkpoint" ∷ []) ∷ (codes "run" ∷ codes "--checkpoint" ∷ [])
+    ∷ check_with (codes "--checkpoint") ∷ client_with (codes "--checkpoint") ∷ serve_with (codes "--checkpoint" ∷ []) ∷ (codes "drill" ∷ codes "5" ∷ codes "7" ∷ codes "--checkpoint" ∷ []) ∷ []
+
+-- the options of a server that say when it makes a checkpoint, and the form
+abbrev pub savers : List (List Text × Form)
+savers = (codes "--checkpoint-after=0" ∷ [], record (serving 1024 (2 ^ 64 - 1)) { checkpoint_after = 0 })
+    ∷ (codes "--checkpoint-after" ∷ codes "4611686018427387904" ∷ codes "--workers=9" ∷ [], record (serving 9 (2 ^ 64 - 1)) { checkpoint_after = 4611686018427387904 }) ∷ []
+
+-- such options that are out of range, written with a 0 first or given twice, or another command's
+abbrev pub no_savers : List (List Text)
+no_savers = serve_with (codes "--checkpoint-after=4611686018427387905" ∷ []) ∷ serve_with (codes "--checkpoint-after=07" ∷ []) ∷ serve_with (codes "--checkpoint-after=" ∷ [])
+    ∷ serve_with (codes "--checkpoint-after=1" ∷ codes "--checkpoint-after=1" ∷ []) ∷ run_with (codes "--checkpoint-after=1") ∷ check_with (codes "--checkpoint-after=1") ∷ []
 
 -- the words of a drill
 abbrev pub drill_with : (count seed : Text) → List Text

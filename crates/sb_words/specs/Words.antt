@@ -43,7 +43,7 @@ bus = on_top (λ s. record s { no_binary_name = true; has_version = true; subcom
 
 -- `run`, over a folder
 abbrev pub run_command : Shape
-run_command = (with_rule (with_rule (new_app (codes "run")) data_option) (value_option (codes "max-jump"))).top
+run_command = (with_rule (with_rule (with_rule (new_app (codes "run")) data_option) (value_option (codes "max-jump"))) (flag_option (codes "checkpoint"))).top
 
 -- `check`, over a folder
 abbrev pub check_command : Shape
@@ -57,9 +57,9 @@ client_command = (with_rule (with_rule (with_rule (new_app (codes "client")) por
 abbrev pub plain_server : App
 plain_server = with_rule (with_rule (with_rule (with_rule (new_app (codes "serve")) data_option) port_option) (value_option (codes "workers"))) (value_option (codes "threads"))
 
--- the same, with its limits, and whether each call is told
+-- the same, with its limits, whether each call is told, and when it makes a checkpoint
 abbrev pub limited_server : App
-limited_server = with_rule (with_rule (with_rule plain_server (value_option (codes "connections"))) (value_option (codes "max-jump"))) (flag_option (codes "log"))
+limited_server = with_rule (with_rule (with_rule (with_rule plain_server (value_option (codes "connections"))) (value_option (codes "max-jump"))) (flag_option (codes "log"))) (value_option (codes "checkpoint-after"))
 
 -- the same, with its limits of time
 abbrev pub timed_server : App
@@ -98,6 +98,8 @@ pub record Form : Type 0 where
   pub key_file : Text
   pub patience : ℕ
   pub look : Bool
+  pub checkpoint : Bool
+  pub checkpoint_after : ℕ
   pub log : Bool
   pub count : ℕ
   pub seed : ℕ
@@ -118,6 +120,8 @@ form_value f = record {
   key_file = f.key_file.now;
   patience = f.patience;
   look = f.look;
+  checkpoint = f.checkpoint;
+  checkpoint_after = f.checkpoint_after;
   log = f.log;
   count = f.count;
   seed = f.seed;
@@ -139,6 +143,8 @@ form_of command = record {
   key_file = [];
   patience = 0;
   look = false;
+  checkpoint = false;
+  checkpoint_after = 0;
   log = false;
   count = 0;
   seed = 0;
@@ -203,6 +209,11 @@ abbrev pub patience_by : Option Text → Option ℕ
 patience_by None = Some 120
 patience_by (Some word) = number_within 7200 word
 
+-- how many bytes of records a server writes behind a checkpoint before it makes the next one, 0 to 2^62, by default 2^28; at 0 it makes none
+abbrev pub checkpoint_after_by : Option Text → Option ℕ
+checkpoint_after_by None = Some 268435456
+checkpoint_after_by (Some word) = number_to 4611686018427387904 word
+
 -- how many calls a drill makes, 0 to 1,000,000, which has to be there
 abbrev pub count_by : Option Text → Option ℕ
 count_by None = None
@@ -245,9 +256,9 @@ flag_by (Some word) = bytes_eq word (codes "true")
 -- ---- the forms of the commands
 
 -- a run, where both values are there
-abbrev pub run_at : Option Text → Option ℕ → Option Form
-run_at (Some folder) (Some max_jump) = Some (record (form_of Run) { folder = folder; max_jump = max_jump })
-run_at _ _ = None
+abbrev pub run_at : Option Text → Option ℕ → (checkpoint : Bool) → Option Form
+run_at (Some folder) (Some max_jump) checkpoint = Some (record (form_of Run) { folder = folder; max_jump = max_jump; checkpoint = checkpoint })
+run_at _ _ checkpoint = None
 
 -- a check, where the folder is there
 abbrev pub check_at : Option Text → Bool → Option Form
@@ -284,6 +295,11 @@ abbrev pub with_threads : Option Form → Option ℕ → Option Form
 with_threads (Some form) (Some threads) = Some (record form { threads = threads })
 with_threads _ _ = None
 
+-- when it makes a checkpoint, in a form that is there
+abbrev pub with_checkpoint_after : Option Form → Option ℕ → Option Form
+with_checkpoint_after (Some form) (Some checkpoint_after) = Some (record form { checkpoint_after = checkpoint_after })
+with_checkpoint_after _ _ = None
+
 -- all five have to be there
 abbrev pub open_server_at : Option Text → (port workers connections max_jump : Option ℕ) → Option Form
 open_server_at (Some folder) (Some port) (Some workers) (Some connections) (Some max_jump) = Some (record (form_of Serve) { folder = folder; port = port; workers = workers; connections = connections; max_jump = max_jump })
@@ -291,7 +307,7 @@ open_server_at _ _ _ _ _ = None
 
 -- a run by what was found for its options
 abbrev pub run_in : List Row → Option Form
-run_in rows = run_at (first_of (codes "data") rows) (max_jump_by 0 (first_of (codes "max-jump") rows))
+run_in rows = run_at (first_of (codes "data") rows) (max_jump_by 0 (first_of (codes "max-jump") rows)) (flag_by (first_of (codes "checkpoint") rows))
 
 -- a check by what was found for its options
 abbrev pub check_in : List Row → Option Form
@@ -311,7 +327,7 @@ timed_server_in rows = with_times (open_server_in rows) (seconds_by 60 (first_of
 
 -- a server by what was found for its options
 abbrev pub serve_in : List Row → Option Form
-serve_in rows = with_threads (with_log (with_callers (timed_server_in rows) (hosts_by (all_of (codes "host") rows)) (key_by (first_of (codes "key") rows))) (flag_by (first_of (codes "log") rows))) (threads_by (first_of (codes "threads") rows))
+serve_in rows = with_checkpoint_after (with_threads (with_log (with_callers (timed_server_in rows) (hosts_by (all_of (codes "host") rows)) (key_by (first_of (codes "key") rows))) (flag_by (first_of (codes "log") rows))) (threads_by (first_of (codes "threads") rows))) (checkpoint_after_by (first_of (codes "checkpoint-after") rows))
 
 -- a drill by what was found for its two words
 abbrev pub drill_in : List Row → Option Form
@@ -388,6 +404,24 @@ look_of (Some form) = form.look
 -- a check is to write nothing, as they name it; false where they are no form
 abbrev pub look_in : List Text → Bool
 look_in words = look_of (form_in words)
+
+-- whether a form is a run with a checkpoint, if there is one
+abbrev pub checkpoint_of : Option Form → Bool
+checkpoint_of None = false
+checkpoint_of (Some form) = form.checkpoint
+
+-- a run is to make a checkpoint at its end, as they name it; false where they are no form
+abbrev pub checkpoint_in : List Text → Bool
+checkpoint_in words = checkpoint_of (form_in words)
+
+-- how many bytes of records a form has a server write before a checkpoint, if there is one
+abbrev pub checkpoint_after_of : Option Form → ℕ
+checkpoint_after_of None = 0
+checkpoint_after_of (Some form) = form.checkpoint_after
+
+-- how many bytes of records a server writes before a checkpoint, as they name it; 0 where they are no form
+abbrev pub checkpoint_after_in : List Text → ℕ
+checkpoint_after_in words = checkpoint_after_of (form_in words)
 
 -- how many calls a form has a drill make, if there is one
 abbrev pub count_of : Option Form → ℕ

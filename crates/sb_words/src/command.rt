@@ -47,6 +47,11 @@ pub struct Form<'w> {
     pub patience: u16,
     /// A check is to write nothing.
     pub look: bool,
+    /// A run is to make a checkpoint at its end.
+    pub checkpoint: bool,
+    /// A server makes a checkpoint once the records behind the last one take more than so many bytes, up to
+    /// 2^62; at 0 it makes none.
+    pub checkpoint_after: u64,
     /// A server is to tell each call on standard error.
     pub log: bool,
     /// How many calls a drill makes behind its setup, up to 1,000,000.

@@ -5,8 +5,8 @@ ghost use Rattle.sb_words.specs.Words.{form_in};
 use crate::command::{Command, WordsFault};
 use crate::command_line::parsed;
 use crate::words::{
-    command_of, connections_of, count_of, hosts_of, key_of, max_jump_of, patience_of, port_of,
-    read_form, seconds_of, threads_of, word_of, words_of, workers_of,
+    checkpoint_after_of, command_of, connections_of, count_of, hosts_of, key_of, max_jump_of,
+    patience_of, port_of, read_form, seconds_of, threads_of, word_of, words_of, workers_of,
 };
 use clap::ArgMatches;
 use std::alloc::{AllocError, Global};
@@ -88,6 +88,8 @@ fn serve_range(options: &ArgMatches) -> &'static str {
         REQUEST_TIME_RANGE
     } else if seconds_of(0, word_of(options, "idle-time")).is_none() {
         IDLE_TIME_RANGE
+    } else if checkpoint_after_of(word_of(options, "checkpoint-after")).is_none() {
+        CHECKPOINT_AFTER_RANGE
     } else if hosts_of(words_of(options, "host")).is_none() {
         HOST_RANGE
     } else {
@@ -118,6 +120,9 @@ const JUMP_RANGE: &str = "--max-jump takes a number from 0 to 100000";
 const REQUEST_TIME_RANGE: &str = "--request-time takes a number from 1 to 86400";
 
 const IDLE_TIME_RANGE: &str = "--idle-time takes a number from 1 to 86400";
+
+const CHECKPOINT_AFTER_RANGE: &str =
+    "--checkpoint-after takes a number from 0 to 4611686018427387904";
 
 const HOST_RANGE: &str = "--host takes names of 1 to 255 visible characters, up to 8 times";
 

@@ -1,7 +1,7 @@
 // What some words are, worked out by hand.
 ghost use Rattle.std.specs.Prelude.{◌≡◌, ◌∷◌, ◌++◌, [], List, ℕ, codes, Some, map};
 ghost use Rattle.sb_words.specs.Words.{form_in};
-ghost use Rattle.sb_words.specs.WordRows.{callers, drills, no_callers, no_drills, no_forms, no_others, no_servers, no_sharers, nones, others, over, serve_with, servers, sharers, tellers, with_port};
+ghost use Rattle.sb_words.specs.WordRows.{callers, checkpoints, drills, no_callers, no_checkpoints, no_drills, no_forms, no_others, no_savers, no_servers, no_sharers, nones, others, over, savers, serve_with, servers, sharers, tellers, with_port};
 
 use crate::command::Command;
 
@@ -29,6 +29,15 @@ pub fn worked_options()
 pub fn worked_threads()
     ensures sharers { map (λ row. form_in (serve_with row.0)) sharers ≡ map (λ row. Some row.1) sharers }
     ensures no_sharer { map form_in no_sharers ≡ nones no_sharers }
+{}
+
+/// Words with the option by which a run makes a checkpoint at its end, and that which says when a server
+/// makes one.
+pub fn worked_checkpoints()
+    ensures checkpoints { map (λ row. form_in row.0) checkpoints ≡ map (λ row. Some row.1) checkpoints }
+    ensures no_checkpoint { map form_in no_checkpoints ≡ nones no_checkpoints }
+    ensures savers { map (λ row. form_in (serve_with row.0)) savers ≡ map (λ row. Some row.1) savers }
+    ensures no_saver { map form_in no_savers ≡ nones no_savers }
 {}
 
 /// The words of a drill.

@@ -53,6 +53,12 @@ const MAX_PATIENCE: u64 = 7_200;
 /// The seconds of patience where words name no number.
 const DEFAULT_PATIENCE: u16 = 120;
 
+/// The most bytes of records after which words may have a server make a checkpoint, 2^62.
+const MAX_CHECKPOINT_AFTER: u64 = 4_611_686_018_427_387_904;
+
+/// Those after which it makes one where words name no number.
+const CHECKPOINT_AFTER: u64 = 268_435_456;
+
 /// The most calls that words may have a drill make.
 const MAX_COUNT: u64 = 1_000_000;
 
@@ -187,6 +193,8 @@ fn form_with<'w>(alloc: Global, command: Command) -> Form<'w>
         key_file: "",
         patience: 0,
         look: false,
+        checkpoint: false,
+        checkpoint_after: 0,
         log: false,
         count: 0,
         seed: 0,
@@ -205,6 +213,7 @@ fn run_form<'w>(alloc: Global, options: &ArgMatches<'w>) -> Option<Form<'w>>
     Some(Form {
         folder,
         max_jump,
+        checkpoint: flag_of(word_of(options, "checkpoint")),
         ..form_with(alloc, Command::Run)
     })
 }
@@ -257,10 +266,14 @@ fn serve_form<'w>(alloc: Global, options: &ArgMatches<'w>) -> Result<Option<Form
     let Some(threads) = threads_of(word_of(options, "threads")) else {
         return Ok(None);
     };
+    let Some(checkpoint_after) = checkpoint_after_of(word_of(options, "checkpoint-after")) else {
+        return Ok(None);
+    };
     form.hosts = names.to_vec(alloc)?;
     form.key_file = key_file;
     form.log = flag_of(word_of(options, "log"));
     form.threads = threads;
+    form.checkpoint_after = checkpoint_after;
     Ok(Some(form))
 }
 
@@ -420,6 +433,15 @@ pub(crate) fn patience_of(word: Option<&str>) -> Option<u16>
         return None;
     };
     Some(seconds as u16)
+}
+
+pub(crate) fn checkpoint_after_of(word: Option<&str>) -> Option<u64>
+    ensures { result ≡ line.checkpoint_after_by (option_map (λ w. w.now) word.entry) }
+{
+    match word {
+        Some(word) => number_to(word, MAX_CHECKPOINT_AFTER),
+        None => Some(CHECKPOINT_AFTER),
+    }
 }
 
 pub(crate) fn count_of(word: Option<&str>) -> Option<u32>
