@@ -27,7 +27,7 @@ use Rattle.sb_journal.proofs.Pairs.{still_honest}
 use Rattle.sb_desk.specs.Entries.{is_refused}
 use Rattle.sb_node.specs.declared.node.Node.{Node}
 use Rattle.sb_node.specs.Nodes.{node_disks, node_log, node_state, node_stopped, node_ticked}
-use Rattle.sb_node.specs.Serving.{opened_disks, StandsFor}
+use Rattle.sb_node.specs.Serving.{node_goes_on, opened_disks, StandsFor}
 use Rattle.sb_node.specs.Steps.{IsStep, entries_with}
 use Rattle.sb_drill.specs.Calls.{call_at}
 use Rattle.sb_drill.specs.Memories.{heard, no_memory}
@@ -380,15 +380,17 @@ abbrev drawn_seed : Option Task → ℕ
 drawn_seed (Some (Drill count seed)) = seed
 drawn_seed _ = 0
 
-module _ {D : Type 0} {B : Ghosts D} (clock : ℕ → Type 0) (days count seed : ℕ) (Safe : Type 0) (salt : ℕ) (was : Outside) (ready : Disks) (start : State) (output : Output) (node : Node D B) (status : ℕ) (opening : IsOpened Safe salt was.disks ready start) (origin : opened_disks node ≡ ready) (over : IsDrillOver count seed start was.output output node status) where
+module _ {D : Type 0} {B : Ghosts D} (clock : ℕ → Type 0) (days count seed : ℕ) (Safe : Type 0) (salt : ℕ) (was : Outside) (ready : Disks) (start : State) (output : Output) (node : Node D B) (status : ℕ) (opening : IsOpened Safe salt was.disks ready start) (origin : opened_disks node ≡ ready) (alone : node_goes_on node ≡ false) (over : IsDrillOver count seed start was.output output node status) where
   abbrev outside_now : Outside
   outside_now = record was { output = output; disks = node_disks node }
 
   abbrev history : List Entry
   history = drill_history_to seed start over.answered over.last
 
-  closed : IsClosed salt start history ready (node_disks node) (is_some (node_stopped node))
-  closed = subst (λ (d : Disks). IsClosed salt start history d (node_disks node) (is_some (node_stopped node))) origin (closed_node node salt start history over.stands)
+  closed : IsClosed false salt start history ready (node_disks node) (is_some (node_stopped node))
+  closed =
+      subst (λ (b : Bool). IsClosed b salt start history ready (node_disks node) (is_some (node_stopped node))) alone
+      (subst (λ (d : Disks). IsClosed (node_goes_on node) salt start history d (node_disks node) (is_some (node_stopped node))) origin (closed_node node salt start history over.stands))
 
   goes : status ≢ 5 → is_some (node_stopped node) ≡ false
   goes other = ap is_some (over.runs other)

@@ -14,7 +14,7 @@ use Rattle.sb_journal.specs.declared.found.OpenWhy.{OpenWhy}
 use Rattle.sb_node.specs.declared.node.Node.{Node}
 use Rattle.sb_node.specs.Nodes.{node_disks, node_state, node_stopped, IsDurable, IsOneOf}
 use Rattle.sb_node.specs.Recovery.{Recovers, recovered_on}
-use Rattle.sb_node.specs.Serving.{opened_disks, origin_of, states_left, FollowHistory, HasDiskRisen, StandsFor}
+use Rattle.sb_node.specs.Serving.{node_goes_on, opened_disks, origin_of, states_left, FollowHistory, HasDiskRisen, StandsFor}
 use Rattle.sb_node.specs.Steps.{is_spared}
 use Rattle.sb_node.proofs.Whole.{honest_on, quiet_on}
 use Rattle.sb_desk.specs.Desks.{IsKeptIn, IsNew, IsOf, Open, Sitting, below}
@@ -51,8 +51,8 @@ use Rattle.sb_app.proofs.Whole.{kept_durable, kept_recovers}
 
 -- ---- memory was wanting at once
 
-pub unserved_at_once : {R : Type 0} (clock : ℕ → Type 0) (days : ℕ) (Works : Open → Worker R → Type 0) (count : R → ℕ) (salt : ℕ) (was : Outside) (doors : List R) → IsServeCall clock days Works count salt was was doors doors 7
-unserved_at_once clock days Works count salt was doors = record {
+pub unserved_at_once : {R : Type 0} (clock : ℕ → Type 0) (days : ℕ) (goes_on : Bool) (Works : Open → Worker R → Type 0) (count : R → ℕ) (salt : ℕ) (was : Outside) (doors : List R) → IsServeCall clock days goes_on Works count salt was was doors doors 7
+unserved_at_once clock days goes_on Works count salt was doors = record {
   serving = inl (refl, WantsMemory, refl, nothing_done salt was);
   known = inr (inr (inr (inr (inl refl))));
   write_fault = λ four. absurd cc;
@@ -80,11 +80,11 @@ risen_since : (was mid now : Disks) → AreQuiet was mid → HasDiskRisen mid no
 risen_since was mid now quiet (inl rose) = inl (subst (λ (n : ℕ). Rose n now.a.faults) quiet.0 rose)
 risen_since was mid now quiet (inr rose) = inr (subst (λ (n : ℕ). Rose n now.b.faults) quiet.1 rose)
 
-pub failed_call : {R : Type 0} (clock : ℕ → Type 0) (days : ℕ) (Works : Open → Worker R → Type 0) (count : R → ℕ) (salt : ℕ) (was : Outside) (disks : Disks) (output : Output) (doors : List R) (why : OpenWhy) (status : ℕ) → IsFailed salt was.disks disks was.output output why status
-    → IsServeCall clock days Works count salt was (record was { output = output; disks = disks }) doors doors status
-failed_call {R} clock days Works count salt was disks output doors why status fails = by_status fails.known
+pub failed_call : {R : Type 0} (clock : ℕ → Type 0) (days : ℕ) (goes_on : Bool) (Works : Open → Worker R → Type 0) (count : R → ℕ) (salt : ℕ) (was : Outside) (disks : Disks) (output : Output) (doors : List R) (why : OpenWhy) (status : ℕ) → IsFailed salt was.disks disks was.output output why status
+    → IsServeCall clock days goes_on Works count salt was (record was { output = output; disks = disks }) doors doors status
+failed_call {R} clock days goes_on Works count salt was disks output doors why status fails = by_status fails.known
   where
-    by_status : IsFailedStatus status → IsServeCall clock days Works count salt was (record was { output = output; disks = disks }) doors doors status
+    by_status : IsFailedStatus status → IsServeCall clock days goes_on Works count salt was (record was { output = output; disks = disks }) doors doors status
     by_status (inl five) = record {
       serving = inl (refl, DiskFault, five, unopened_by salt was disks output why status fails DiskFault five);
       known = inr (inr (inl five));
@@ -135,9 +135,9 @@ failed_call {R} clock days Works count salt was disks output doors why status fa
 
 -- ---- no memory for a desk
 
-pub unserved_call : {R : Type 0} (clock : ℕ → Type 0) (days : ℕ) (Works : Open → Worker R → Type 0) (count : R → ℕ) (Safe : Type 0) (salt : ℕ) (was : Outside) (ready : Disks) (doors : List R) (start : State) → IsOpened Safe salt was.disks ready start
-    → (Safe → Recovers (recovered_on ready salt) start) → IsServeCall clock days Works count salt was (record was { disks = ready }) doors doors 7
-unserved_call clock days Works count Safe salt was ready doors start opening recovers = record {
+pub unserved_call : {R : Type 0} (clock : ℕ → Type 0) (days : ℕ) (goes_on : Bool) (Works : Open → Worker R → Type 0) (count : R → ℕ) (Safe : Type 0) (salt : ℕ) (was : Outside) (ready : Disks) (doors : List R) (start : State) → IsOpened Safe salt was.disks ready start
+    → (Safe → Recovers (recovered_on ready salt) start) → IsServeCall clock days goes_on Works count salt was (record was { disks = ready }) doors doors 7
+unserved_call clock days goes_on Works count Safe salt was ready doors start opening recovers = record {
   serving = inr (inr (inl (
     refl,
     refl,
@@ -166,9 +166,9 @@ unserved_call clock days Works count Safe salt was ready doors start opening rec
 
 -- ---- the clock is too far ahead
 
-pub jumped_call : {R : Type 0} (clock : ℕ → Type 0) (days : ℕ) (Works : Open → Worker R → Type 0) (count : R → ℕ) (Safe : Type 0) (salt : ℕ) (was : Outside) (ready : Disks) (output : Output) (doors : List R) (start : State) (jump : Jump) (status : ℕ) → IsOpened Safe salt was.disks ready start
-    → (Safe → Recovers (recovered_on ready salt) start) → IsOvertaken clock days start.now jump → IsJumpStatus jump was.output output status → IsServeCall clock days Works count salt was (record was { output = output; disks = ready }) doors doors status
-jumped_call {R} clock days Works count Safe salt was ready output doors start jump status opening recovers far (inl (is, told)) =
+pub jumped_call : {R : Type 0} (clock : ℕ → Type 0) (days : ℕ) (goes_on : Bool) (Works : Open → Worker R → Type 0) (count : R → ℕ) (Safe : Type 0) (salt : ℕ) (was : Outside) (ready : Disks) (output : Output) (doors : List R) (start : State) (jump : Jump) (status : ℕ) → IsOpened Safe salt was.disks ready start
+    → (Safe → Recovers (recovered_on ready salt) start) → IsOvertaken clock days start.now jump → IsJumpStatus jump was.output output status → IsServeCall clock days goes_on Works count salt was (record was { output = output; disks = ready }) doors doors status
+jumped_call {R} clock days goes_on Works count Safe salt was ready output doors start jump status opening recovers far (inl (is, told)) =
     let jumped : HasJumped clock days salt was (record was { output = output; disks = ready }) =
     record {
       start = start;
@@ -197,9 +197,9 @@ jumped_call {R} clock days Works count Safe salt was ready output doors start ju
       unread = refl;
       honesty = opening.honesty;
     }
-jumped_call clock days Works count Safe salt was ready output doors start jump status opening recovers far (inr (is, same)) =
-    subst (λ (n : ℕ). IsServeCall clock days Works count salt was (record was { output = output; disks = ready }) doors doors n) (sym is)
-    (subst (λ (o : Output). IsServeCall clock days Works count salt was (record was { output = o; disks = ready }) doors doors 7) (sym same) (unserved_call clock days Works count Safe salt was ready doors start opening recovers))
+jumped_call clock days goes_on Works count Safe salt was ready output doors start jump status opening recovers far (inr (is, same)) =
+    subst (λ (n : ℕ). IsServeCall clock days goes_on Works count salt was (record was { output = output; disks = ready }) doors doors n) (sym is)
+    (subst (λ (o : Output). IsServeCall clock days goes_on Works count salt was (record was { output = o; disks = ready }) doors doors 7) (sym same) (unserved_call clock days goes_on Works count Safe salt was ready doors start opening recovers))
 
 -- ---- what stops
 
@@ -370,19 +370,19 @@ doors_quiet Work count passes passes_now doors doors_now ending tells (inr none)
 -- ---- a node behind its history
 
 -- what is known of its disks since it was opened, and whether it has stopped
-pub record IsClosed (salt : ℕ) (start : State) (h : List Entry) (ready now : Disks) (stopped : Bool) : Type 0 where
+pub record IsClosed (goes_on : Bool) (salt : ℕ) (start : State) (h : List Entry) (ready now : Disks) (stopped : Bool) : Type 0 where
   pub legal : IsLegal start h
   pub spares : Spares is_spared start h
   pub says : stopped ≡ has_stopped start h
   pub cause : stopped ≡ true → HasDiskRisen ready now
   pub quiet : stopped ≡ false → AreQuiet ready now
   pub honesty : SameHonesty ready now
-  pub follows : AreHonest now → FollowHistory start h ready now
+  pub follows : AreHonest now → FollowHistory goes_on start h ready now
   pub recovers : AreHonest now → stopped ≡ false → Recovers (recovered_on now salt) (state_after start h)
   pub durable : AreHonest now → stopped ≡ false → IsDurable now (state_after start h)
   pub left : AreHonest now → IsOneOf now (states_left start h)
 
-pub closed_node : {D : Type 0} {B : Ghosts D} (n : Node D B) (salt : ℕ) (start : State) (h : List Entry) → StandsFor n start h → IsClosed salt start h (opened_disks n) (node_disks n) (is_some (node_stopped n))
+pub closed_node : {D : Type 0} {B : Ghosts D} (n : Node D B) (salt : ℕ) (start : State) (h : List Entry) → StandsFor n start h → IsClosed (node_goes_on n) salt start h (opened_disks n) (node_disks n) (is_some (node_stopped n))
 closed_node n salt start h stands = record {
   legal = stands.legal;
   spares = stands.spares;
@@ -426,9 +426,9 @@ pub record IsWorked {R : Type 0} (Works : Open → Worker R → Type 0) (h : Lis
   pub seated : HaveSeatsBelow desk.passes h
   pub serves : Serving (Works desk) passes passes_now doors doors_now ending
 
-module _ {R : Type 0} (clock : ℕ → Type 0) (days : ℕ) (Works : Open → Worker R → Type 0) (count : R → ℕ) (Safe : Type 0) (salt : ℕ) (was now : Outside) (ready : Disks) (doors doors_now : List R) (h : List Entry) (desk : Open) (passes passes_now : List Sitting) (ending : ServeEnding) (report : Report) (stopped : Bool) (told : ℕ) where
-  served : IsOpened Safe salt was.disks ready desk.start → IsSettled clock days desk.start.now → desk.origin ≡ origin_of ready → IsWorked Works h desk passes passes_now doors doors_now ending → IsReport desk.start h report → IsClosed salt desk.start h ready now.disks stopped
-      → IsLineTold (report_line report) was.output now.output told → IsServed clock days Works salt was now doors doors_now (serve_status stopped ending told)
+module _ {R : Type 0} (clock : ℕ → Type 0) (days : ℕ) (goes_on : Bool) (Works : Open → Worker R → Type 0) (count : R → ℕ) (Safe : Type 0) (salt : ℕ) (was now : Outside) (ready : Disks) (doors doors_now : List R) (h : List Entry) (desk : Open) (passes passes_now : List Sitting) (ending : ServeEnding) (report : Report) (stopped : Bool) (told : ℕ) where
+  served : IsOpened Safe salt was.disks ready desk.start → IsSettled clock days desk.start.now → desk.origin ≡ origin_of goes_on ready → IsWorked Works h desk passes passes_now doors doors_now ending → IsReport desk.start h report → IsClosed goes_on salt desk.start h ready now.disks stopped
+      → IsLineTold (report_line report) was.output now.output told → IsServed clock days goes_on Works salt was now doors doors_now (serve_status stopped ending told)
   served opening settled origin worked counts closed line = record {
     start = desk.start;
     found = record { recovers = opening.found; consistent = opening.consistent };
@@ -467,7 +467,7 @@ module _ {R : Type 0} (clock : ℕ → Type 0) (days : ℕ) (Works : Open → Wo
       stays_honest : AreHonest was.disks → AreHonest now.disks
       stays_honest honest = still_honest ready now.disks closed.honesty (still_honest was.disks ready opening.honesty honest)
 
-  free_serving : Tells (Works desk) count → AreQuiet was.disks ready → IsWorked Works h desk passes passes_now doors doors_now ending → IsClosed salt desk.start h ready now.disks stopped
+  free_serving : Tells (Works desk) count → AreQuiet was.disks ready → IsWorked Works h desk passes passes_now doors doors_now ending → IsClosed goes_on salt desk.start h ready now.disks stopped
       → IsLineTold (report_line report) was.output now.output told → IsFreeServing count salt was now doors doors_now → (serve_status stopped ending told ≡ 0) ⊎ (serve_status stopped ending told ≡ 7)
   free_serving tells quiet worked closed line free = by_end stopped ending told refl refl refl
     where
@@ -482,8 +482,8 @@ module _ {R : Type 0} (clock : ℕ → Type 0) (days : ℕ) (Works : Open → Wo
       by_end false OutOfMemory t is same so = inr refl
       by_end false Done t is same so = subst (λ (n : ℕ). (n ≡ 0) ⊎ (n ≡ 7)) so (by_told (told_status _ _ _ _ told line.is))
 
-  pub served_call : Tells (Works desk) count → IsOpened Safe salt was.disks ready desk.start → IsSettled clock days desk.start.now → desk.origin ≡ origin_of ready → IsWorked Works h desk passes passes_now doors doors_now ending
-      → IsReport desk.start h report → IsClosed salt desk.start h ready now.disks stopped → IsLineTold (report_line report) was.output now.output told → now.input ≡ was.input → IsServeCall clock days Works count salt was now doors doors_now (serve_status stopped ending told)
+  pub served_call : Tells (Works desk) count → IsOpened Safe salt was.disks ready desk.start → IsSettled clock days desk.start.now → desk.origin ≡ origin_of goes_on ready → IsWorked Works h desk passes passes_now doors doors_now ending
+      → IsReport desk.start h report → IsClosed goes_on salt desk.start h ready now.disks stopped → IsLineTold (report_line report) was.output now.output told → now.input ≡ was.input → IsServeCall clock days goes_on Works count salt was now doors doors_now (serve_status stopped ending told)
   served_call tells opening settled origin worked counts closed line unread =
       let known = told_status _ _ _ _ told line.is in
       record {
@@ -505,16 +505,16 @@ module _ {R : Type 0} (clock : ℕ → Type 0) (days : ℕ) (Works : Open → Wo
 -- ---- words that couldn't be read
 
 -- they name a server, so memory was wanting, and nothing was done
-pub unread_serve : {R : Type 0} (clock : ℕ → Type 0) (days : ℕ) (Works : Open → Worker R → Type 0) (count : R → ℕ) (words : List (List ℕ)) (fault : WordsFault) (salt : ℕ) (was now : Outside) (link link_now : Exchanges) (doors : List R) (status : ℕ) → (fault ≡ BadWords → form_in words ≡ None)
-    → command_in words ≡ Some Serve → ((task : Option Task) (days : ℕ) → IsNamed task days (Err fault) → IsCall clock days task salt was now link link_now status) → (status ≡ 2 → IsBadWords (Err fault)) → IsServeCall clock days Works count salt was now doors doors status
-unread_serve clock days Works count words BadWords salt was now link link_now doors status bad serves done usage = let other : None ≡ Some Serve = sym (no_form words (bad refl)) ∙ serves in absurd cc
-unread_serve clock days Works count words WordsUnread salt was now link link_now doors status bad serves done usage = by_end (((done None days tt).carried_out (λ is. absurd cc) (λ is. absurd cc)).unnamed refl)
+pub unread_serve : {R : Type 0} (clock : ℕ → Type 0) (days : ℕ) (goes_on : Bool) (Works : Open → Worker R → Type 0) (count : R → ℕ) (words : List (List ℕ)) (fault : WordsFault) (salt : ℕ) (was now : Outside) (link link_now : Exchanges) (doors : List R) (status : ℕ) → (fault ≡ BadWords → form_in words ≡ None)
+    → command_in words ≡ Some Serve → ((task : Option Task) (days : ℕ) → IsNamed task days (Err fault) → IsCall clock days task salt was now link link_now status) → (status ≡ 2 → IsBadWords (Err fault)) → IsServeCall clock days goes_on Works count salt was now doors doors status
+unread_serve clock days goes_on Works count words BadWords salt was now link link_now doors status bad serves done usage = let other : None ≡ Some Serve = sym (no_form words (bad refl)) ∙ serves in absurd cc
+unread_serve clock days goes_on Works count words WordsUnread salt was now link link_now doors status bad serves done usage = by_end (((done None days tt).carried_out (λ is. absurd cc) (λ is. absurd cc) (λ is. absurd cc)).unnamed refl)
   where
-    by_end : (status ≡ 2) ⊎ ((status ≡ 7) × (now ≡ was)) → IsServeCall clock days Works count salt was now doors doors status
+    by_end : (status ≡ 2) ⊎ ((status ≡ 7) × (now ≡ was)) → IsServeCall clock days goes_on Works count salt was now doors doors status
     by_end (inl two) = let other = usage two in absurd cc
     by_end (inr (seven, same)) =
-        subst (λ (n : ℕ). IsServeCall clock days Works count salt was now doors doors n) (sym seven)
-        (subst (λ (o : Outside). IsServeCall clock days Works count salt was o doors doors 7) (sym same) (unserved_at_once clock days Works count salt was doors))
+        subst (λ (n : ℕ). IsServeCall clock days goes_on Works count salt was now doors doors n) (sym seven)
+        (subst (λ (o : Outside). IsServeCall clock days goes_on Works count salt was o doors doors 7) (sym same) (unserved_at_once clock days goes_on Works count salt was doors))
 
 -- a server has no status 2
 pub no_two_serve : (status : ℕ) → IsServeStatus status → status ≡ 2 → ⊥

@@ -139,7 +139,7 @@ pub record IsDrilled (count seed salt : ℕ) (was now : Outside) (status : ℕ) 
   pub opens : AreHonest was.disks → KeepFound salt was.disks ready
   pub holds : AreHonest was.disks → IsDurable ready start
   -- a crash at any moment since leads to the state after a front of the history, which has all that was answered by then
-  pub follows : AreHonest was.disks → FollowHistory start (drill_history_to seed start answered last) ready now.disks
+  pub follows : AreHonest was.disks → FollowHistory false start (drill_history_to seed start answered last) ready now.disks
   -- unless a disk failed, the disks stand for the state behind the history, also after a crash
   pub backed : AreHonest was.disks → status ≢ 5 → IsBacked salt now.disks (state_after start (drill_history_to seed start answered last))
   -- whatever the status

@@ -1,6 +1,6 @@
 -- The whole program. Read sb_machine's pages first (names, namespace; leaves, changes; rows, claims, leases; visits, delivery; an operation; due;
 -- repeats, answers, history; the laws), then Lawful and Backing. The page of the headline is Tops; Outside, Lines, Taking, Nodes, Runs, Endings, Commits,
--- Openings are what it is made of; Checks, Drills, Clients, Servings are the other commands, Calls all of them.
+-- Openings are what it is made of; Checkpoints what a run may end with; Checks, Drills, Clients, Servings are the other commands, Calls all of them.
 pub mod Outside
 pub mod Lines
 pub mod Jumps
@@ -15,6 +15,7 @@ pub mod Lawful
 pub mod Backing
 pub mod Drills
 pub mod Tops
+pub mod Checkpoints
 pub mod Openings
 pub mod Clients
 pub mod Looks

@@ -83,8 +83,8 @@ HasDoorRisen count (d ∷ ds) (e ∷ es) = Rose (count d) (count e) ⊎ HasDoorR
 -- of its own (`serves` says what was read and written). What a pass has seen is a front of that history with all entries of its seat,
 -- and no other seat has any. The history is legal, so it has the laws; none of its calls that is spared was answered with want of memory;
 -- its numbers were told; and what a crash leaves of the disks leads to
--- the state behind it, or to that after the event which a failed disk left undecided.
-pub record IsServed {R : Type 0} (reads : ℕ → Type 0) (days : ℕ) (Works : Open → Worker R → Type 0) (salt : ℕ) (was now : Outside) (doors doors_now : List R) (status : ℕ) : Type 0 where
+-- the state behind it, or to that after the event which a failed disk left undecided. By `goes_on` the server makes checkpoints by itself.
+pub record IsServed {R : Type 0} (reads : ℕ → Type 0) (days : ℕ) (goes_on : Bool) (Works : Open → Worker R → Type 0) (salt : ℕ) (was now : Outside) (doors doors_now : List R) (status : ℕ) : Type 0 where
   pub start : State
   pub found : IsFound salt was.disks start
   -- the clock, read behind the opening, wasn't too far ahead
@@ -113,13 +113,14 @@ pub record IsServed {R : Type 0} (reads : ℕ → Type 0) (days : ℕ) (Works : 
   -- What stood there when the journal was open, which leads to the first state; a crash before that leaves what was found. No call of a
   -- disk had failed.
   pub ready : Disks
-  pub origin : desk.origin ≡ origin_of ready
+  pub origin : desk.origin ≡ origin_of goes_on ready
   pub opens : AreHonest was.disks → KeepFound salt was.disks ready
   pub holds : AreHonest was.disks → IsDurable ready start
   pub unfailed : AreQuiet was.disks ready
   pub as_honest : SameHonesty was.disks ready
-  -- a crash at any moment since leads to the state after a front of the history, which has all that was answered by then
-  pub follows : AreHonest was.disks → FollowHistory start history ready now.disks
+  -- a crash at any moment since leads to the state after a front of the history, which has all that was answered by then; in a checkpoint
+  -- to just the state that is written
+  pub follows : AreHonest was.disks → FollowHistory goes_on start history ready now.disks
   -- unless a disk failed, the disks stand for the state behind the history, also after a crash
   pub backed : AreHonest was.disks → status ≢ 5 → IsBacked salt now.disks (state_after start history)
   -- whatever the status
@@ -149,13 +150,13 @@ pub record HasJumped (reads : ℕ → Type 0) (days salt : ℕ) (was now : Outsi
 
 -- the journal wasn't opened, or is damaged, or memory was wanting to serve it, or the clock is too far ahead of it, and no door was used; or
 -- the doors were served
-abbrev pub IsServing : {R : Type 0} → (reads : ℕ → Type 0) → (days : ℕ) → (Open → Worker R → Type 0) → (salt : ℕ) → (was now : Outside) → (doors doors_now : List R) → (status : ℕ) → Type 0
-IsServing reads days Works salt was now doors doors_now status =
+abbrev pub IsServing : {R : Type 0} → (reads : ℕ → Type 0) → (days : ℕ) → (goes_on : Bool) → (Open → Worker R → Type 0) → (salt : ℕ) → (was now : Outside) → (doors doors_now : List R) → (status : ℕ) → Type 0
+IsServing reads days goes_on Works salt was now doors doors_now status =
     ((doors_now ≡ doors) × (end : RunEnd) × (status ≡ status_of_end end) × IsUnopened salt was now end)
     ⊎ ((doors_now ≡ doors) × (status ≡ 6) × IsRefused salt was now)
     ⊎ ((doors_now ≡ doors) × (status ≡ 7) × IsUnserved salt was now)
     ⊎ ((doors_now ≡ doors) × (status ≡ 14) × HasJumped reads days salt was now)
-    ⊎ IsServed reads days Works salt was now doors doors_now status
+    ⊎ IsServed reads days goes_on Works salt was now doors doors_now status
 
 -- all that makes a server end well once its workers have ended, but for memory, and for a clock that is too far ahead
 pub record IsFreeServing {R : Type 0} (count : R → ℕ) (salt : ℕ) (was now : Outside) (doors doors_now : List R) : Type 0 where
@@ -169,8 +170,8 @@ abbrev pub IsServeStatus : ℕ → Type 0
 IsServeStatus status = (status ≡ 0) ⊎ (status ≡ 4) ⊎ (status ≡ 5) ⊎ (status ≡ 6) ⊎ (status ≡ 7) ⊎ (status ≡ 8) ⊎ (status ≡ 14)
 
 -- A server's call, with this status. Each status other than 0 and 7 has its cause; the input isn't read.
-pub record IsServeCall {R : Type 0} (reads : ℕ → Type 0) (days : ℕ) (Works : Open → Worker R → Type 0) (count : R → ℕ) (salt : ℕ) (was now : Outside) (doors doors_now : List R) (status : ℕ) : Type 0 where
-  pub serving : IsServing reads days Works salt was now doors doors_now status
+pub record IsServeCall {R : Type 0} (reads : ℕ → Type 0) (days : ℕ) (goes_on : Bool) (Works : Open → Worker R → Type 0) (count : R → ℕ) (salt : ℕ) (was now : Outside) (doors doors_now : List R) (status : ℕ) : Type 0 where
+  pub serving : IsServing reads days goes_on Works salt was now doors doors_now status
   pub known : IsServeStatus status
   pub write_fault : status ≡ 4 → RoseByOne was.output.faults now.output.faults
   pub write_quiet : status ≡ 0 → now.output.faults ≡ was.output.faults

@@ -14,9 +14,10 @@ ghost use Rattle.sb_app.specs.Clients.{exchanges_of};
 ghost use Rattle.sb_app.specs.Calls.{IsCall, IsNamed};
 ghost use Rattle.sb_app.specs.declared.ending.RunEnd.{RunEnd};
 ghost use Rattle.sb_app.specs.declared.task.Task.{Task};
-ghost use Rattle.sb_app.specs.declared.task.Task.TheVariants.{Run, Check, Client};
+ghost use Rattle.sb_app.specs.declared.task.Task.TheVariants.{Run, RunThenCheckpoint, Check, Client};
 
 use crate::checking::check_status;
+use crate::checkpointing::run_then_checkpoint;
 use crate::client::client_status;
 use crate::drilling::drill_over;
 use crate::ending::status_of;
@@ -51,7 +52,7 @@ pub fn carry_out<D: Disk, C: Clock, S: Source, K: Sink, N: Link>(
     ensures usage_alone { result.0 ≡ 2 → (result.1 ≡ disk_a) × (result.2 ≡ disk_b) × (input.new ≡ input.old) }
     ensures unread { IfErr named (λ _. input.new ≡ input.old) }
     ensures client_alone { (task : Option Task) (days : ℕ) → IsNamed task days named → task ≡ Some Client → (result.1 ≡ disk_a) × (result.2 ≡ disk_b) }
-    ensures aside { AreHonest (disks_of D.Disk disk_a disk_b) → KeepsAside salt (disks_of D.Disk disk_a disk_b) (disks_of D.Disk result.1 result.2) }
+    ensures aside { (task : Option Task) (days : ℕ) → IsNamed task days named → task ≢ Some RunThenCheckpoint → AreHonest (disks_of D.Disk disk_a disk_b) → KeepsAside salt (disks_of D.Disk disk_a disk_b) (disks_of D.Disk result.1 result.2) }
     ensures link { (task : Option Task) (days : ℕ) → IsNamed task days named → task ≢ Some Client → link.new ≡ link.old }
 {
     let Named { task, max_jump } = match named {
@@ -64,6 +65,9 @@ pub fn carry_out<D: Disk, C: Clock, S: Source, K: Sink, N: Link>(
     };
     match task {
         Task::Run => run_over(alloc, disk_a, disk_b, salt, clock, max_jump, input, output),
+        Task::RunThenCheckpoint => {
+            run_then_checkpoint(alloc, disk_a, disk_b, salt, clock, max_jump, input, output)
+        }
         Task::Check => check_over(alloc, disk_a, disk_b, salt, clock, max_jump, input, output),
         Task::Look => look_over(alloc, disk_a, disk_b, salt, input, output),
         Task::Client => {
@@ -122,7 +126,8 @@ fn check_over<D: Disk, C: Clock, S: Source, K: Sink>(
     (status, disk_a, disk_b)
 }
 
-fn run_status<D: Disk, C: Clock, S: Source, K: Sink>(
+/// Answers the lines of the input over this namespace, and gives the status of the run.
+pub(crate) fn run_status<D: Disk, C: Clock, S: Source, K: Sink>(
     alloc: Global,
     node: &mut Node<D>,
     clock: &C,
@@ -143,6 +148,7 @@ fn run_status<D: Disk, C: Clock, S: Source, K: Sink>(
     ensures read_quiet { result ≢ 3 → S.count input.new ≡ S.count input.old }
     ensures disk_fault { result ≡ 5 → HaveFailed (node_disks node.old) (node_disks node.new) }
     ensures disk_quiet { result ≢ 5 → AreQuiet (node_disks node.old) (node_disks node.new) }
+    ensures running { (refused : Bool) → result ≡ status_by refused → node_stopped node.new ≡ None }
     ensures known { IsRunStatus result }
     ensures honesty { SameHonesty (node_disks node.old) (node_disks node.new) }
     ensures aside { node_aside node.new ≡ node_aside node.old }

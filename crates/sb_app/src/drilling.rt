@@ -8,7 +8,7 @@ ghost use Rattle.sb_machine.specs.declared.history.Entry.{Entry};
 ghost use Rattle.sb_machine.specs.declared.reply.Refusal.TheVariants.{DiskFault, Stopped};
 ghost use Rattle.sb_machine.specs.declared.state.State.{State};
 ghost use Rattle.sb_node.specs.Nodes.{node_aside, node_disks, node_log, node_state, node_stopped, node_ticked};
-ghost use Rattle.sb_node.specs.Serving.{opened_disks, StandsFor};
+ghost use Rattle.sb_node.specs.Serving.{node_goes_on, opened_disks, StandsFor};
 ghost use Rattle.sb_node.specs.Steps.{entries_with, IsStep};
 ghost use Rattle.sb_app.specs.Checks.{IsLineTold};
 ghost use Rattle.sb_app.specs.Drills.{DrillIsCut, DrillsSoFar, IsDrillOver};
@@ -92,6 +92,7 @@ fn drill_status<D: Disk, K: Sink>(
     requires consistent { IsConsistent (node_state node.old) }
     ensures done { IsDrillOver count seed (node_state node.old) (output_of K.Sink output.old) (output_of K.Sink output.new) node.new result }
     ensures origin { opened_disks node.new ≡ opened_disks node.old }
+    ensures goes_on { node_goes_on node.new ≡ node_goes_on node.old }
     ensures aside { node_aside node.new ≡ node_aside node.old }
 {
     match make_calls(alloc, node, seed, calls_for(count)) {
@@ -117,6 +118,7 @@ fn make_calls<D: Disk>(
     ensures ok { IfOk result (DrillsSoFar seed (node_state node.old) calls node.new) }
     ensures err { IfErr result (λ e. (n : ℕ) × (n < calls) × DrillIsCut seed (node_state node.old) n node.new e) }
     ensures origin { opened_disks node.new ≡ opened_disks node.old }
+    ensures goes_on { node_goes_on node.new ≡ node_goes_on node.old }
     ensures aside { node_aside node.new ≡ node_aside node.old }
 {
     let mut so_far = Drilled {
@@ -145,6 +147,7 @@ fn make_call<D: Disk>(
     ensures ok { (start : State) → DrillsSoFar seed start n node.old so_far → IfOk result (DrillsSoFar seed start (n + 1) node.new) }
     ensures err { (start : State) → DrillsSoFar seed start n node.old so_far → IfErr result (DrillIsCut seed start n node.new) }
     ensures origin { opened_disks node.new ≡ opened_disks node.old }
+    ensures goes_on { node_goes_on node.new ≡ node_goes_on node.old }
     ensures aside { node_aside node.new ≡ node_aside node.old }
 {
     let Ok(asked) = call_at(alloc, seed, n, so_far.memory) else {
@@ -178,6 +181,7 @@ fn answer_to<D: Disk>(node: &mut Node<D>, asked: &TimedCall) -> Answer
     ensures disk_fault { result ≡ Err DiskFault → (n : ℕ) × (node_stopped node.new ≡ Some n) × OneFault (node_disks node.old) (node_disks node.new) n }
     ensures stopped { (n : ℕ) → result ≡ Err (Stopped n) → node_stopped node.old ≡ Some n }
     ensures origin { opened_disks node.new ≡ opened_disks node.old }
+    ensures goes_on { node_goes_on node.new ≡ node_goes_on node.old }
     ensures aside { node_aside node.new ≡ node_aside node.old }
 {
     node.step(asked.reading, &asked.call)

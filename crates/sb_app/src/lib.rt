@@ -18,6 +18,7 @@
 
 mod alone;
 mod checking;
+mod checkpointing;
 mod client;
 mod dispatch;
 mod drilling;

@@ -1,11 +1,11 @@
 // Opening the namespace of two disks, and the status where that fails.
-ghost use Rattle.std.specs.Prelude.{◌≡◌, ◌≢◌, ◌⊎◌, [], None, IfOk, IfErr, string_bytes};
+ghost use Rattle.std.specs.Prelude.{◌≡◌, ◌≢◌, ◌⊎◌, [], false, None, IfOk, IfErr, string_bytes};
 ghost use Rattle.sb_journal.specs.Disks.{disks_of, opened_on, AreHonest};
 ghost use Rattle.sb_journal.specs.Journals.{journal_side};
 ghost use Rattle.sb_journal.specs.Opened.{Stands};
 ghost use Rattle.sb_journal.specs.Text.{File};
 ghost use Rattle.sb_node.specs.Nodes.{node_journal, node_state, node_stopped, node_disks, IsKept};
-ghost use Rattle.sb_node.specs.Serving.{opened_disks, StandsFor};
+ghost use Rattle.sb_node.specs.Serving.{node_goes_on, opened_disks, StandsFor};
 ghost use Rattle.sb_app.specs.Outside.{output_of};
 ghost use Rattle.sb_app.specs.Openings.{IsOpened, HasFailed};
 ghost use Rattle.sb_app.specs.Tops.{IsDamageReported, letter_of};
@@ -31,6 +31,7 @@ pub fn open_node<D: Disk, K: Sink>(
     ensures running { IfOk result (λ n. node_stopped n ≡ None) }
     ensures stands { IfOk result (λ n. StandsFor n (node_state n) []) }
     ensures origin { IfOk result (λ n. opened_disks n ≡ node_disks n) }
+    ensures rests_alone { IfOk result (λ n. node_goes_on n ≡ false) }
     ensures unsaid { IfOk result (λ _. output.new ≡ output.old) }
     ensures failed { IfErr result (λ e. HasFailed salt (disks_of D.Disk disk_a disk_b) (disks_of D.Disk e.1 e.2) (output_of K.Sink output.old) (output_of K.Sink output.new) e.0) }
     ensures counts { IfOk result (λ n. AreHonest (disks_of D.Disk disk_a disk_b) → (file : File) × (opened_on (disks_of D.Disk disk_a disk_b) salt ≡ Stands (journal_side (node_journal n)) file)) }

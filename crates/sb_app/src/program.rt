@@ -1,7 +1,7 @@
 // The program over whatever disks, streams, clock, doors and link it is handed.
-ghost use Rattle.std.specs.Prelude.{◌≡◌, ◌≢◌, [], map, None, Some, IfSome, IsSome};
+ghost use Rattle.std.specs.Prelude.{◌≡◌, ◌≢◌, [], map, nat_lt, false, None, Some, IfSome, IsSome};
 ghost use Rattle.sb_journal.specs.Disks.{disks_of, AreHonest, KeepsAside};
-ghost use Rattle.sb_words.specs.Words.{command_in, connections_in, max_jump_in};
+ghost use Rattle.sb_words.specs.Words.{checkpoint_after_in, checkpoint_in, command_in, connections_in, max_jump_in};
 ghost use Rattle.sb_words.specs.declared.command.Command.TheVariants.{Client, Serve};
 ghost use Rattle.sb_server.specs.Serves.{Working};
 ghost use Rattle.sb_server.specs.Works.{ServesBy};
@@ -18,7 +18,7 @@ use crate::task::{Named, Task};
 use sb_outside::{Clock, Disk, Door, Link, Lobby, Sink, Source};
 use sb_rest::Access;
 use sb_server::Limits;
-use sb_words::{Command, WordsFault, read_form};
+use sb_words::{Command, Form, WordsFault, read_form};
 use std::alloc::Global;
 use std::sync::Wait;
 use std::thread::Threads;
@@ -29,7 +29,8 @@ use std::thread::Threads;
 /// that name nothing, 3 to 5 for a fault of the input, the output or a disk, 6 for a journal that
 /// can't be trusted, 7 for want of memory, 10 once 2^40 bytes were read and 14 before a line that is
 /// more days ahead of the clock than the words allow; a client has also 8 for a fault of its link and
-/// 9 for a response without a reply line. The salt is that of a new journal.
+/// 9 for a response without a reply line. Behind a run at 0 or 1 a checkpoint is made where the words
+/// ask for one, and a fault of it at 5 or 7 is the status. The salt is that of a new journal.
 pub fn top_alone<D: Disk, C: Clock, S: Source, K: Sink, N: Link>(
     alloc: Global,
     words: &[&str],
@@ -44,7 +45,7 @@ pub fn top_alone<D: Disk, C: Clock, S: Source, K: Sink, N: Link>(
     ensures done { IsCall (C.reads clock.now) (max_jump_in (map (λ w. w.now) words.now)) (task_in (map (λ w. w.now) words.now)) salt (outside_of D.Disk S.Source K.Sink disk_a disk_b input.old output.old) (outside_of D.Disk S.Source K.Sink result.1 result.2 input.new output.new) (exchanges_of [] N.Link link.old) (exchanges_of [] N.Link link.new) result.0 }
     ensures usage_alone { result.0 ≡ 2 → (result.1 ≡ disk_a) × (result.2 ≡ disk_b) × (input.new ≡ input.old) }
     ensures client_alone { command_in (map (λ w. w.now) words.now) ≡ Some Client → (result.1 ≡ disk_a) × (result.2 ≡ disk_b) }
-    ensures aside { AreHonest (disks_of D.Disk disk_a disk_b) → KeepsAside salt (disks_of D.Disk disk_a disk_b) (disks_of D.Disk result.1 result.2) }
+    ensures aside { checkpoint_in (map (λ w. w.now) words.now) ≡ false → AreHonest (disks_of D.Disk disk_a disk_b) → KeepsAside salt (disks_of D.Disk disk_a disk_b) (disks_of D.Disk result.1 result.2) }
     ensures link { command_in (map (λ w. w.now) words.now) ≢ Some Client → link.new ≡ link.old }
 {
     let named = named_task(alloc, words);
@@ -65,7 +66,8 @@ pub fn top_alone<D: Disk, C: Clock, S: Source, K: Sink, N: Link>(
 /// Does what the words name over what it is handed. A server (`serve`) serves the connections of these
 /// doors to whom `access` lets in, each door by a worker, all in the calling thread,
 /// which waits in the lobby, and ends once all workers have; its status is 0, 4 to 8 or 14 as
-/// `serve_over` says, and the watcher is told of it. All else is `top_alone`, and the doors, the lobby
+/// `serve_over` says, and the watcher is told of it; where the words let it make checkpoints by itself, all
+/// callers wait while one is written. All else is `top_alone`, and the doors, the lobby
 /// and the watcher aren't used.
 #[tactic(auto, using(crate::proofs::Calls::unnamed))]
 pub fn top<
@@ -100,13 +102,13 @@ where
     ensures done { command_in (map (λ w. w.now) words.now) ≢ Some Serve
         → IfSome result.1 (λ disks. IsCall (C.reads clock.now) (max_jump_in (map (λ w. w.now) words.now)) (task_in (map (λ w. w.now) words.now)) salt (outside_of D.Disk S.Source K.Sink disk_a disk_b input.old output.old) (outside_of D.Disk S.Source K.Sink disks.0 disks.1 input.new output.new) (exchanges_of key.now N.Link link.old) (exchanges_of key.now N.Link link.new) result.0) }
     ensures serves { command_in (map (λ w. w.now) words.now) ≡ Some Serve
-        → IfSome result.1 (λ disks. IsServeCall (C.reads clock.now) (max_jump_in (map (λ w. w.now) words.now)) (λ desk. Working (ServesBy (C.reads clock.now) access.now (limits_in (map (λ w. w.now) words.now)) R.Conn.left R.Conn.given R.Conn.reads R.Conn.writes) R.left R.taken R.ended R.count R.out desk (connections_in (map (λ w. w.now) words.now))) R.count salt
+        → IfSome result.1 (λ disks. IsServeCall (C.reads clock.now) (max_jump_in (map (λ w. w.now) words.now)) (nat_lt 0 (checkpoint_after_in (map (λ w. w.now) words.now))) (λ desk. Working (ServesBy (C.reads clock.now) access.now (limits_in (map (λ w. w.now) words.now)) R.Conn.left R.Conn.given R.Conn.reads R.Conn.writes) R.left R.taken R.ended R.count R.out desk (connections_in (map (λ w. w.now) words.now))) R.count salt
         (outside_of D.Disk S.Source K.Sink disk_a disk_b input.old output.old) (outside_of D.Disk S.Source K.Sink disks.0 disks.1 input.new output.new) doors.old.items doors.new.items result.0) }
     ensures usage { result.0 ≡ 2 → command_in (map (λ w. w.now) words.now) ≡ None }
     ensures usage_alone { result.0 ≡ 2 → (result.1 ≡ Some (disk_a, disk_b)) × (input.new ≡ input.old) }
     ensures client_alone { command_in (map (λ w. w.now) words.now) ≡ Some Client → result.1 ≡ Some (disk_a, disk_b) }
     ensures back { IsSome result.1 }
-    ensures aside { AreHonest (disks_of D.Disk disk_a disk_b) → command_in (map (λ w. w.now) words.now) ≢ Some Serve → IfSome result.1 (λ disks. KeepsAside salt (disks_of D.Disk disk_a disk_b) (disks_of D.Disk disks.0 disks.1)) }
+    ensures aside { checkpoint_in (map (λ w. w.now) words.now) ≡ false → AreHonest (disks_of D.Disk disk_a disk_b) → command_in (map (λ w. w.now) words.now) ≢ Some Serve → IfSome result.1 (λ disks. KeepsAside salt (disks_of D.Disk disk_a disk_b) (disks_of D.Disk disks.0 disks.1)) }
     ensures link { command_in (map (λ w. w.now) words.now) ≢ Some Client → link.new ≡ link.old }
     ensures input { command_in (map (λ w. w.now) words.now) ≡ Some Serve → input.new ≡ input.old }
     ensures doors { command_in (map (λ w. w.now) words.now) ≢ Some Serve → doors.new ≡ doors.old }
@@ -129,7 +131,7 @@ where
             return (status, Some((disk_a, disk_b)));
         }
     };
-    let Some(task) = task_of(form.command, form.look, form.count, form.seed) else {
+    let Some(task) = task_of(&form) else {
         let (status, disk_a, disk_b) = serve_over(
             rt,
             alloc,
@@ -144,6 +146,7 @@ where
             lobby,
             form.connections,
             form.max_jump,
+            form.checkpoint_after,
             watcher,
         );
         watcher.tell(Notice::Ended { status });
@@ -177,15 +180,29 @@ fn limits_of(request_time: u32, idle_time: u32) -> Limits
     }
 }
 
-fn task_of(command: Command, look: bool, count: u32, seed: u64) -> Option<Task>
-    ensures { result ≡ calls.task_of look count seed command }
+// The task of a form, which waits for nobody; a server's has none.
+fn task_of(form: &Form<'_>) -> Option<Task>
+    ensures { result ≡ calls.task_of form.now.checkpoint form.now.look form.now.count form.now.seed form.now.command }
 {
-    match command {
-        Command::Run => Some(Task::Run),
-        Command::Check => Some(check_task(look)),
+    match form.command {
+        Command::Run => Some(run_task(form.checkpoint)),
+        Command::Check => Some(check_task(form.look)),
         Command::Client => Some(Task::Client),
         Command::Serve => None,
-        Command::Drill => Some(Task::Drill { count, seed }),
+        Command::Drill => Some(Task::Drill {
+            count: form.count,
+            seed: form.seed,
+        }),
+    }
+}
+
+fn run_task(checkpoint: bool) -> Task
+    ensures { result ≡ calls.run_task checkpoint }
+{
+    if checkpoint {
+        Task::RunThenCheckpoint
+    } else {
+        Task::Run
     }
 }
 
@@ -203,7 +220,7 @@ fn named_task(alloc: Global, words: &[&str]) -> Result<Named, WordsFault>
         Ok(form) => form,
         Err(fault) => return Err(fault),
     };
-    match task_of(form.command, form.look, form.count, form.seed) {
+    match task_of(&form) {
         Some(task) => Ok(Named {
             task,
             max_jump: form.max_jump,

@@ -40,6 +40,7 @@ pub fn run_script<D: Disk, C: Clock, S: Source, K: Sink>(
     ensures done { IfOk result (IsScriptRun (C.reads clock.now) max_jump (IsKept node.old) (node_state node.old) (outside_with S.Source K.Sink node.old input.old output.old) (outside_with S.Source K.Sink node.new input.new output.new) (node_state node.new)) }
     ensures cut { IfErr result (IsCutRun (C.reads clock.now) max_jump (IsKept node.old) (node_state node.old) (outside_with S.Source K.Sink node.old input.old output.old) (outside_with S.Source K.Sink node.new input.new output.new) (node_state node.new)) }
     ensures kept { IsKept node.old → result ≢ Err DiskFault → IsKept node.new }
+    ensures running { OnOk result (node_stopped node.new ≡ None) }
 
     // One fault more was counted of what ended the run, and none of the others.
     ensures passed { OnOk result ((S.count input.new ≡ S.count input.old) × (K.count output.new ≡ K.count output.old) × AreQuiet (node_disks node.old) (node_disks node.new)) }

@@ -1,5 +1,5 @@
 // Serving the connections of doors over the namespace of two disks.
-ghost use Rattle.std.specs.Prelude.{◌≡◌, ℕ, Option, IfOk, IfSome, IsSome, string_bytes};
+ghost use Rattle.std.specs.Prelude.{◌≡◌, ℕ, nat_lt, Option, IfOk, IfSome, IsSome, string_bytes};
 ghost use Rattle.sb_journal.specs.Disks.{disks_of};
 ghost use Rattle.sb_desk.specs.Desks.{value_of};
 ghost use Rattle.sb_server.specs.Serves.{Working};
@@ -29,6 +29,10 @@ use std::thread::Threads;
 /// 4 for a fault of the output: the first of 5, 8, 7 and 4 where several came. It is 14, and no door is
 /// used, where behind the opening the clock reads more than `max_jump` days past the moment of the
 /// namespace, by 0 never. The salt is that of a new journal.
+/// Once the records behind the base of its journal's file take more than `checkpoint_after` bytes, and at
+/// least twice the bytes of the base, the next call is preceded by a checkpoint: the state is written as the
+/// base of a new file on the other disk, with which the journal goes on. All callers wait meanwhile. By 0
+/// there is none.
 #[tactic(auto, using(crate::proofs::Servings::unserved_at_once))]
 pub fn serve_over<
     T: Threads + Wait + Sync,
@@ -52,18 +56,19 @@ pub fn serve_over<
     lobby: &L,
     most: u64,
     max_jump: u32,
+    checkpoint_after: u64,
     watcher: &W,
 ) -> (u8, D, D)
 where
     R::Conn: Send,
-    ensures { (input : Input) → IsServeCall (C.reads clock.now) max_jump (λ desk. Working (ServesBy (C.reads clock.now) access.now limits R.Conn.left R.Conn.given R.Conn.reads R.Conn.writes) R.left R.taken R.ended R.count R.out desk most) R.count salt
+    ensures { (input : Input) → IsServeCall (C.reads clock.now) max_jump (nat_lt 0 checkpoint_after) (λ desk. Working (ServesBy (C.reads clock.now) access.now limits R.Conn.left R.Conn.given R.Conn.reads R.Conn.writes) R.left R.taken R.ended R.count R.out desk most) R.count salt
         (record { input = input; output = output_of K.Sink output.old; disks = disks_of D.Disk disk_a disk_b }) (record { input = input; output = output_of K.Sink output.new; disks = disks_of D.Disk result.1 result.2 })
         doors.old.items doors.new.items result.0 }
 {
     let Ok(routes) = Routes::new(alloc) else {
         return (7, disk_a, disk_b);
     };
-    let node = match open_node(alloc, disk_a, disk_b, salt, output) {
+    let mut node = match open_node(alloc, disk_a, disk_b, salt, output) {
         Ok(node) => node,
         Err(failed) => {
             drop(routes);
@@ -79,6 +84,7 @@ where
             return (status, disk_a, disk_b);
         }
     }
+    node.go_on_after(checkpoint_after);
     let (desk, mut passes) = match Desk::new(alloc, node, at_least_one(doors.len())) {
         Ok(opened) => opened,
         Err(fault) => {

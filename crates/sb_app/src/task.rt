@@ -4,6 +4,8 @@
 pub enum Task {
     /// Answer the script lines of the input.
     Run,
+    /// Answer them, and make a checkpoint at the end.
+    RunThenCheckpoint,
     /// Tell the numbers of the namespace.
     Check,
     /// Tell them from what is read alone.

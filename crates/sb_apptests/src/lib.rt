@@ -7,6 +7,8 @@
 #[cfg(test)]
 mod adapter_tests;
 #[cfg(test)]
+mod checkpoint_tests;
+#[cfg(test)]
 mod client_tests;
 #[cfg(test)]
 mod jump_tests;

@@ -128,13 +128,59 @@ fn first_of(disk_a: MemDisk, disk_b: MemDisk) -> Result<MemDisk, CallFault> {
 
 /// A disk with these bytes that fails at these calls, and an empty one.
 pub fn disks_of(alloc: Global, disk: (&[u8], &[u64])) -> Result<(MemDisk, MemDisk), CallFault> {
-    let disk_a = disk_of(alloc, disk.0, disk.1)?;
-    match disk_of(alloc, &[], &[]) {
-        Ok(disk_b) => Ok((disk_a, disk_b)),
+    both_of(alloc, disk, (&[], &[]))
+}
+
+// Two disks, each with these bytes, which fail at these calls.
+fn both_of(
+    alloc: Global,
+    disk_a: (&[u8], &[u64]),
+    disk_b: (&[u8], &[u64]),
+) -> Result<(MemDisk, MemDisk), CallFault> {
+    let first = disk_of(alloc, disk_a.0, disk_a.1)?;
+    match disk_of(alloc, disk_b.0, disk_b.1) {
+        Ok(second) => Ok((first, second)),
         Err(fault) => {
-            drop(disk_a);
+            drop(first);
             Err(fault)
         }
+    }
+}
+
+/// Makes a call over two disks; its status, and the disks as it leaves them. A fault where the call keeps
+/// them.
+pub fn called_over<
+    T: Threads + Wait + Sync,
+    C: Clock + Sync,
+    R: Door + Send,
+    L: Lobby + Sync,
+    N: Link,
+    W: Watcher,
+>(
+    threads: &T,
+    alloc: Global,
+    words: &[&str],
+    access: &Access,
+    disks: (MemDisk, MemDisk),
+    clock: &C,
+    input: &mut MemSource,
+    output: &mut MemSink,
+    doors: &mut Vec<R>,
+    lobby: &L,
+    link: &mut N,
+    watcher: &W,
+) -> Result<(u8, MemDisk, MemDisk), CallFault>
+where
+    R::Conn: Send,
+{
+    let (disk_a, disk_b) = disks;
+    let (status, disks) = call_top(
+        threads, alloc, words, access, disk_a, disk_b, clock, input, output, doors, lobby, link,
+        watcher,
+    );
+    match disks {
+        Some((disk_a, disk_b)) => Ok((status, disk_a, disk_b)),
+        None => Err(CallFault::NoDisks),
     }
 }
 
@@ -164,15 +210,11 @@ pub fn called_in<
 where
     R::Conn: Send,
 {
-    let (disk_a, disk_b) = disks_of(alloc, disk)?;
-    let (status, disks) = call_top(
-        threads, alloc, words, access, disk_a, disk_b, clock, input, output, doors, lobby, link,
-        watcher,
-    );
-    match disks {
-        Some((disk_a, disk_b)) => Ok((status, first_of(disk_a, disk_b)?)),
-        None => Err(CallFault::NoDisks),
-    }
+    let disks = disks_of(alloc, disk)?;
+    let (status, disk_a, disk_b) = called_over(
+        threads, alloc, words, access, disks, clock, input, output, doors, lobby, link, watcher,
+    )?;
+    Ok((status, first_of(disk_a, disk_b)?))
 }
 
 /// The same where all workers are in one thread.
@@ -258,13 +300,46 @@ pub fn ran_over<N: Link>(
     link: &mut N,
 ) -> Result<(u8, MemDisk), CallFault> {
     let (disk_a, disk_b) = disks_of(alloc, disk)?;
+    let (status, disk_a, disk_b) = ran_between(alloc, words, disk_a, disk_b, script, output, link)?;
+    Ok((status, first_of(disk_a, disk_b)?))
+}
+
+/// The same over two disks, each with these bytes, which fail at these calls, of a call that asks no
+/// server: both come back.
+pub fn ran_on_both(
+    alloc: Global,
+    words: &[&str],
+    disk_a: (&[u8], &[u64]),
+    disk_b: (&[u8], &[u64]),
+    script: &str,
+    output: &mut MemSink,
+) -> Result<(u8, MemDisk, MemDisk), CallFault> {
+    let (disk_a, disk_b) = both_of(alloc, disk_a, disk_b)?;
+    ran_between(
+        alloc,
+        words,
+        disk_a,
+        disk_b,
+        script,
+        output,
+        &mut NoLink::new(),
+    )
+}
+
+fn ran_between<N: Link>(
+    alloc: Global,
+    words: &[&str],
+    disk_a: MemDisk,
+    disk_b: MemDisk,
+    script: &str,
+    output: &mut MemSink,
+    link: &mut N,
+) -> Result<(u8, MemDisk, MemDisk), CallFault> {
     match source_of(alloc, script.as_bytes(), 7, &[]) {
         Ok(mut input) => {
-            let (status, disk_a, disk_b) = call_top_alone(
-                alloc, words, disk_a, disk_b, &mut input, output, link,
-            );
+            let ended = call_top_alone(alloc, words, disk_a, disk_b, &mut input, output, link);
             drop(input);
-            Ok((status, first_of(disk_a, disk_b)?))
+            Ok(ended)
         }
         Err(fault) => {
             drop(disk_a);

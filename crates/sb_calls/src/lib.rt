@@ -13,8 +13,8 @@ mod fault;
 mod journals;
 
 pub use calls::{
-    bytes_of, called, called_alone, called_in, connection_of, disks_of, doors_of, ran, ran_over,
-    sink_of, source_of,
+    bytes_of, called, called_alone, called_in, called_over, connection_of, disks_of, doors_of, ran,
+    ran_on_both, ran_over, sink_of, source_of,
 };
 pub use fault::CallFault;
 pub use journals::{ONE_EVENT, SALT};

@@ -375,7 +375,7 @@ fn try_size(
     let left = left_by(alloc, node);
     let outcome = came?;
     if let Outcome::Holds(_) = outcome {
-        journals.keep(alloc, case, left?)?;
+        journals.keep(alloc, case, left?, Vec::new(alloc))?;
     }
     Ok(outcome)
 }

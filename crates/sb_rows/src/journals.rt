@@ -1,11 +1,12 @@
-// What the cases of a table left on disk a, for the cases behind them.
+// What the cases of a table left on their disks, for the cases behind them.
 use anyhow::{Context, Result};
 use std::alloc::{AllocError, Global};
 
 #[derive(Drop)]
 struct Left {
     case: String,
-    bytes: Vec<u8>,
+    disk_a: Vec<u8>,
+    disk_b: Vec<u8>,
 }
 
 #[derive(Drop)]
@@ -20,15 +21,35 @@ impl Journals {
         }
     }
 
-    /// The bytes that a case left; an error where it isn't one that came before.
+    /// The bytes that a case left on disk a; an error where it isn't one that came before.
     pub fn left_by(&self, case: &str) -> Result<&[u8]> {
-        let left = self.left.iter().find(|left| left.case.as_str() == case);
-        Ok(left.context("no such case before")?.bytes.as_slice())
+        Ok(self.by(case)?.disk_a.as_slice())
     }
 
-    pub fn keep(&mut self, alloc: Global, case: &str, bytes: Vec<u8>) -> Result<(), AllocError> {
+    /// The same of disk b.
+    pub fn left_on_b(&self, case: &str) -> Result<&[u8]> {
+        Ok(self.by(case)?.disk_b.as_slice())
+    }
+
+    /// Keeps what a case left on disk a and on disk b.
+    pub fn keep(
+        &mut self,
+        alloc: Global,
+        case: &str,
+        disk_a: Vec<u8>,
+        disk_b: Vec<u8>,
+    ) -> Result<(), AllocError> {
         let case = String::from_str(alloc, case)?;
-        self.left.push(Left { case, bytes })?;
+        self.left.push(Left {
+            case,
+            disk_a,
+            disk_b,
+        })?;
         Ok(())
+    }
+
+    fn by(&self, case: &str) -> Result<&Left> {
+        let left = self.left.iter().find(|left| left.case.as_str() == case);
+        left.context("no such case before")
     }
 }

@@ -3,7 +3,7 @@ use crate::bytes::bytes_of;
 use crate::journals::Journals;
 use crate::outcome::{Outcome, differing, no_such_key};
 use crate::table::{Case, Line};
-use anyhow::{Context, Result, bail, ensure};
+use anyhow::{Context, Result, bail};
 use sb_app::top_alone;
 use sb_outside::{MemDisk, MemSink, MemSource, NoLink, StepClock};
 use std::alloc::{AllocError, Global};
@@ -18,7 +18,8 @@ const PIECE: usize = 7;
 #[derive(Drop)]
 struct Run<'a> {
     words: Vec<&'a str>,
-    disk: Vec<u8>,
+    disk_a: Vec<u8>,
+    disk_b: Vec<u8>,
     input: Vec<u8>,
     piece: usize,
     // The reads of the input that fail.
@@ -31,7 +32,8 @@ impl<'a> Run<'a> {
     fn new(alloc: Global) -> Result<Run<'a>, AllocError> {
         Ok(Run {
             words: vec![in alloc; "run", "--data", "."]?,
-            disk: Vec::new(alloc),
+            disk_a: Vec::new(alloc),
+            disk_b: Vec::new(alloc),
             input: Vec::new(alloc),
             piece: PIECE,
             failing: Vec::new(alloc),
@@ -47,10 +49,23 @@ impl<'a> Run<'a> {
             "<" => put_line(&mut self.output, line.value.as_bytes()),
             "words" => put_words(alloc, &mut self.words, line.value),
             "status" => put_status(&mut self.status, line.value),
-            "leaves" => Ok(()),
-            "over" | "change" | "cut" => put_disk(alloc, &mut self.disk, line, journals),
+            "leaves" | "leaves_b" => Ok(()),
+            "over" | "change" | "cut" => self.take_disks(alloc, line, journals),
             _ => self.take_reading(line),
         }
+    }
+
+    // Makes the disks those which a case left, changes a byte of disk a, or cuts it.
+    fn take_disks(&mut self, alloc: Global, line: Line<'a>, journals: &Journals) -> Result<()> {
+        match line.key {
+            "over" => {
+                self.disk_a = journals.left_by(line.value)?.to_vec(alloc)?;
+                self.disk_b = journals.left_on_b(line.value)?.to_vec(alloc)?;
+            }
+            "cut" => self.disk_a.truncate(line.value.parse::<usize>()?),
+            _ => change(&mut self.disk_a, line.value)?,
+        }
+        Ok(())
     }
 
     // Takes how the input is read.
@@ -93,16 +108,6 @@ fn put_status(status: &mut u8, said: &str) -> Result<()> {
     Ok(())
 }
 
-// Makes the disk that which a case left, changes a byte of it, or cuts it.
-fn put_disk(alloc: Global, disk: &mut Vec<u8>, line: Line<'_>, journals: &Journals) -> Result<()> {
-    match line.key {
-        "over" => *disk = journals.left_by(line.value)?.to_vec(alloc)?,
-        "cut" => disk.truncate(line.value.parse::<usize>()?),
-        _ => change(disk, line.value)?,
-    }
-    Ok(())
-}
-
 // Puts another byte at a place, both in decimal.
 fn change(bytes: &mut [u8], words: &str) -> Result<()> {
     let (place, byte) = words.split_once(' ').context("a place and a byte")?;
@@ -112,12 +117,13 @@ fn change(bytes: &mut [u8], words: &str) -> Result<()> {
     Ok(())
 }
 
-// What a run writes, its status, and what it leaves on disk a.
+// What a run writes, its status, and what it leaves on its disks.
 #[derive(Drop)]
 struct Ending {
     output: Vec<u8>,
     status: u8,
-    disk: Vec<u8>,
+    disk_a: Vec<u8>,
+    disk_b: Vec<u8>,
 }
 
 fn disk_of(alloc: Global, bytes: &[u8]) -> Result<MemDisk, AllocError> {
@@ -125,9 +131,9 @@ fn disk_of(alloc: Global, bytes: &[u8]) -> Result<MemDisk, AllocError> {
     MemDisk::new(alloc, bytes, Vec::new(alloc))
 }
 
-fn disks_of(alloc: Global, bytes: &[u8]) -> Result<(MemDisk, MemDisk), AllocError> {
-    let disk_a = disk_of(alloc, bytes)?;
-    match disk_of(alloc, &[]) {
+fn disks_of(alloc: Global, run: &Run<'_>) -> Result<(MemDisk, MemDisk), AllocError> {
+    let disk_a = disk_of(alloc, &run.disk_a)?;
+    match disk_of(alloc, &run.disk_b) {
         Ok(disk_b) => Ok((disk_a, disk_b)),
         Err(error) => {
             drop(disk_a);
@@ -158,26 +164,25 @@ fn called(
     )
 }
 
-// The bytes of disk a; an error where disk b is written.
-fn bytes_left(alloc: Global, disk_a: MemDisk, disk_b: MemDisk) -> Result<Vec<u8>> {
-    let is_written = !disk_b.bytes().is_empty();
-    drop(disk_b);
-    let bytes = disk_a.bytes().to_vec(alloc);
-    drop(disk_a);
-    ensure!(!is_written, "disk b is written");
+// The bytes of a disk, which is let go.
+fn bytes_left(alloc: Global, disk: MemDisk) -> Result<Vec<u8>> {
+    let bytes = disk.bytes().to_vec(alloc);
+    drop(disk);
     Ok(bytes?)
 }
 
-// The status of the run, and what it leaves on disk a.
+// The status of the run, and what it leaves on disk a and on disk b.
 fn ran(
     alloc: Global,
     run: &Run<'_>,
     input: &mut MemSource,
     output: &mut MemSink,
-) -> Result<(u8, Vec<u8>)> {
-    let (disk_a, disk_b) = disks_of(alloc, &run.disk)?;
+) -> Result<(u8, Vec<u8>, Vec<u8>)> {
+    let (disk_a, disk_b) = disks_of(alloc, run)?;
     let (status, disk_a, disk_b) = called(alloc, &run.words, disk_a, disk_b, input, output);
-    Ok((status, bytes_left(alloc, disk_a, disk_b)?))
+    let left_a = bytes_left(alloc, disk_a);
+    let left_b = bytes_left(alloc, disk_b);
+    Ok((status, left_a?, left_b?))
 }
 
 fn ending_over(alloc: Global, run: &Run<'_>, input: &mut MemSource) -> Result<Ending> {
@@ -185,11 +190,12 @@ fn ending_over(alloc: Global, run: &Run<'_>, input: &mut MemSource) -> Result<En
     let ran = ran(alloc, run, input, &mut output);
     let bytes = output.bytes().to_vec(alloc);
     drop(output);
-    let (status, disk) = ran?;
+    let (status, disk_a, disk_b) = ran?;
     Ok(Ending {
         output: bytes?,
         status,
-        disk,
+        disk_a,
+        disk_b,
     })
 }
 
@@ -219,7 +225,7 @@ fn other_line(alloc: Global, case: &Case<'_>, output: &[u8]) -> Result<Outcome> 
     Ok(Outcome::Differs(told))
 }
 
-// Whether a journal is as it has to be, by the words of a `leaves`.
+// Whether a disk is as it has to be, by the words of a `leaves` or a `leaves_b`.
 fn is_left(
     alloc: Global,
     words: &str,
@@ -232,6 +238,7 @@ fn is_left(
         "unchanged" => left == began,
         "length" => left.len() == value.parse::<usize>()?,
         "bytes" => left == hex::decode(alloc, value)?.as_slice(),
+        "begins" => left.starts_with(&hex::decode(alloc, value)?),
         "as" => left == journals.left_by(value)?,
         "added" => {
             let added = hex::decode(alloc, value)?;
@@ -267,12 +274,37 @@ fn other(
     if ending.status != run.status {
         return Ok(Some(other_status(alloc, ending.status, run.status)?));
     }
+    other_disk(alloc, case, run, ending, journals)
+}
+
+// The first line for which a disk is other than it has to be. Where no line is of disk b it has to be as it was.
+fn other_disk(
+    alloc: Global,
+    case: &Case<'_>,
+    run: &Run<'_>,
+    ending: &Ending,
+    journals: &Journals,
+) -> Result<Option<Outcome>> {
+    let mut is_told_of_b = false;
     for line in &case.lines {
-        if line.key == "leaves" && !is_left(alloc, line.value, &run.disk, &ending.disk, journals)? {
-            return Ok(Some(differing(alloc, *line, "another journal")?));
+        let line = *line;
+        let is_so = match line.key {
+            "leaves" => is_left(alloc, line.value, &run.disk_a, &ending.disk_a, journals)?,
+            "leaves_b" => {
+                is_told_of_b = true;
+                is_left(alloc, line.value, &run.disk_b, &ending.disk_b, journals)?
+            }
+            _ => true,
+        };
+        if !is_so {
+            return Ok(Some(differing(alloc, line, "another journal")?));
         }
     }
-    Ok(None)
+    if is_told_of_b || ending.disk_b == run.disk_b {
+        return Ok(None);
+    }
+    let told = String::from_str(alloc, "disk b is written")?;
+    Ok(Some(Outcome::Differs(told)))
 }
 
 fn other_status(alloc: Global, came: u8, wanted: u8) -> Result<Outcome, AllocError> {
@@ -289,12 +321,17 @@ fn ended(
     journals: &mut Journals,
 ) -> Result<Outcome> {
     let differs = other(alloc, case, run, &ending, journals);
-    let Ending { disk, output, .. } = ending;
+    let Ending {
+        disk_a,
+        disk_b,
+        output,
+        ..
+    } = ending;
     drop(output);
     if let Some(differs) = differs? {
         return Ok(differs);
     }
-    journals.keep(alloc, case.name, disk)?;
+    journals.keep(alloc, case.name, disk_a, disk_b)?;
     Ok(Outcome::Holds(rows_of(case)))
 }
 
@@ -310,8 +347,8 @@ fn try_run<'a>(
 }
 
 /// Tries a case: a run over input lines, which has to write its output lines. Before or behind them stand
-/// `words`, `over`, `change`, `cut`, `pieces`, `unended`, `unread` for what the run is made over, `status`
-/// and `leaves` for what it ends with; docs/ROWS.md says what each means.
+/// `words`, `over`, `change`, `cut`, `pieces`, `unended`, `unread` for what the run is made over, `status`,
+/// `leaves` and `leaves_b` for what it ends with; docs/ROWS.md says what each means.
 pub fn try_script(alloc: Global, case: &Case<'_>, journals: &mut Journals) -> Result<Outcome> {
     let mut run = Run::new(alloc)?;
     let outcome = try_run(alloc, case, &mut run, journals);

@@ -1,8 +1,11 @@
 //! Whole calls of the program that serve, over doors in memory whose callers wait, are slow or leave: what each
-//! connection is given, and how a call ends, worked out by hand. What no contract says is that memory is
-//! there, that somebody is served, and that who waits is woken.
+//! connection is given, and how a call ends, worked out by hand; and what a server that makes checkpoints by
+//! itself leaves on its disks. What no contract says is that memory is there, that somebody is served, that a
+//! checkpoint is made at some time, and that who waits is woken.
 #![tactic(auto)]
 
+#[cfg(test)]
+mod checkpoint_tests;
 #[cfg(test)]
 mod limits_tests;
 #[cfg(test)]

@@ -22,14 +22,14 @@ returns-in-Client-clause-usage_alone g c two =
     absurd (no_two_client _ (c.client_status-status.ensures was.disks) two)
 
 pub returns-in-Err-BadWords-clause-aside : goal.returns-in-Err-BadWords-clause-aside
-returns-in-Err-BadWords-clause-aside g c honest = let was = disks_of g.D.Disk c.args.disk_a c.args.disk_b in keeps_still c.args.salt was was ((refl, refl), (refl, refl))
+returns-in-Err-BadWords-clause-aside g c task days named plain honest = let was = disks_of g.D.Disk c.args.disk_a c.args.disk_b in keeps_still c.args.salt was was ((refl, refl), (refl, refl))
 
 pub returns-in-Err-OutOfMemory-clause-aside : goal.returns-in-Err-OutOfMemory-clause-aside
-returns-in-Err-OutOfMemory-clause-aside g c honest = let was = disks_of g.D.Disk c.args.disk_a c.args.disk_b in keeps_still c.args.salt was was ((refl, refl), (refl, refl))
+returns-in-Err-OutOfMemory-clause-aside g c task days named plain honest = let was = disks_of g.D.Disk c.args.disk_a c.args.disk_b in keeps_still c.args.salt was was ((refl, refl), (refl, refl))
 
 pub returns-in-Client-clause-aside : goal.returns-in-Client-clause-aside
-returns-in-Client-clause-aside g c honest = let was = disks_of g.D.Disk c.args.disk_a c.args.disk_b in keeps_still c.args.salt was was ((refl, refl), (refl, refl))
+returns-in-Client-clause-aside g c task days named plain honest = let was = disks_of g.D.Disk c.args.disk_a c.args.disk_b in keeps_still c.args.salt was was ((refl, refl), (refl, refl))
 
 pub returns-in-Look-clause-aside : goal.returns-in-Look-clause-aside
-returns-in-Look-clause-aside g c honest =
+returns-in-Look-clause-aside g c task days named plain honest =
     keeps_still c.args.salt (disks_of g.D.Disk c.args.disk_a c.args.disk_b) (disks_of g.D.Disk c.look_over.result.1 c.look_over.result.2) (c.look_over.ensures.done.still honest)

@@ -150,3 +150,21 @@ returns-in_err-write_answer-in-Refused-clause-disk_quiet g c =
     let now = node_disks c.step-answer.new.self in
     passed_on (λ (e : RunEnd). e ≢ DiskFault → AreQuiet was now) c.in_err-write_answer-in-Refused.field-0.0 c.from_residual-in_err-write_answer-in-Refused.result c.from_residual-in_err-write_answer-in-Refused.ensures
     (λ other. c.step-answer.ensures.quiet (not_failed c.step-answer.result Refused (sym c.in-Refused.ensures) (λ e. absurd cc)))
+
+pub returns-in_ok-write_answer-in-Accepted-clause-consistent : goal.returns-in_ok-write_answer-in-Accepted-clause-consistent
+returns-in_ok-write_answer-in-Accepted-clause-consistent g c = c.step-answer.ensures.consistent c.requires.consistent
+
+pub returns-in_err-write_answer-in-Accepted-clause-consistent : goal.returns-in_err-write_answer-in-Accepted-clause-consistent
+returns-in_err-write_answer-in-Accepted-clause-consistent g c = c.step-answer.ensures.consistent c.requires.consistent
+
+pub returns-in_ok-write_answer-in-Refused-clause-consistent : goal.returns-in_ok-write_answer-in-Refused-clause-consistent
+returns-in_ok-write_answer-in-Refused-clause-consistent g c = c.step-answer.ensures.consistent c.requires.consistent
+
+pub returns-in_err-write_answer-in-Refused-clause-consistent : goal.returns-in_err-write_answer-in-Refused-clause-consistent
+returns-in_err-write_answer-in-Refused-clause-consistent g c = c.step-answer.ensures.consistent c.requires.consistent
+
+pub returns-in-Failed-clause-consistent : goal.returns-in-Failed-clause-consistent
+returns-in-Failed-clause-consistent g c = c.step-answer.ensures.consistent c.requires.consistent
+
+pub returns-in-Wanting-clause-consistent : goal.returns-in-Wanting-clause-consistent
+returns-in-Wanting-clause-consistent g c = c.step-answer.ensures.consistent c.requires.consistent

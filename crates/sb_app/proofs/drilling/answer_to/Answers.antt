@@ -2,7 +2,8 @@ use Rattle.std.proofs.Common.{◌++◌, List, refl, sym, subst}
 use Rattle.sb_machine.specs.declared.history.Entry.{Entry}
 use Rattle.sb_node.specs.Nodes.{node_ticked}
 use Rattle.sb_node.specs.Serving.{StandsFor}
-use Rattle.sb_node.proofs.Standing.{made_is, stands_with}
+use Rattle.sb_node.proofs.Resting.{stands_alone}
+use Rattle.sb_node.proofs.Standing.{made_is}
 use Rattle.sb_app.proofs.drilling.answer_to.Goals as goal
 
 pub returns-clause-stands : goal.returns-clause-stands
@@ -11,11 +12,12 @@ returns-clause-stands g c start h is =
     let asked = c.args.asked.now in
     let node = c.step.new.self in
     subst (λ (es : List Entry). StandsFor node start (h ++ es)) (sym (made_is (node_ticked node) 0 asked.reading asked.call c.step.result))
-    (stands_with c.args.node.now node 0 asked.reading asked.call c.step.result start h (node_ticked node) refl
+    (stands_alone c.args.node.now node 0 asked.reading asked.call c.step.result start h (node_ticked node) refl
     (record {
       step = made.step 0;
       numbers = made.numbers 0;
       origin = made.origin;
+      goes_on = made.goes_on;
       honesty = made.honesty;
       later = made.later;
       failed = made.disk_fault;

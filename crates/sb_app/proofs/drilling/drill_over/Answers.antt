@@ -26,7 +26,7 @@ returns-clause-done g c =
     let output = c.drill_status-status.new.output in
     let status = c.drill_status-status.result in
     let over = subst (λ o. IsDrillOver c.args.count c.args.seed (node_state first) (output_of g.K.Sink o) (output_of g.K.Sink output) last status) c.in-Ok.ensures.unsaid c.drill_status-status.ensures.done in
-    let done = drilled_call (g.C.Clock.reads c.args.clock.now) c.args.max_jump c.args.count c.args.seed (IsKept first) c.args.salt was (node_disks first) (node_state first) (output_of g.K.Sink output) last status c.in-Ok.ensures.opened (c.drill_status-status.ensures.origin ∙ c.in-Ok.ensures.origin) over in
+    let done = drilled_call (g.C.Clock.reads c.args.clock.now) c.args.max_jump c.args.count c.args.seed (IsKept first) c.args.salt was (node_disks first) (node_state first) (output_of g.K.Sink output) last status c.in-Ok.ensures.opened (c.drill_status-status.ensures.origin ∙ c.in-Ok.ensures.origin) (c.drill_status-status.ensures.goes_on ∙ c.in-Ok.ensures.rests_alone) over in
     subst (λ a. IsCarriedOut (g.C.Clock.reads c.args.clock.now) c.args.max_jump (Some (Drill c.args.count c.args.seed)) c.args.salt was (outside_of g.D.Disk g.S.Source g.K.Sink a c.close-disk_a.result.1 c.args.input.now output) status) (sym c.close-disk_a.ensures.disk_a)
     (subst (λ b. IsCarriedOut (g.C.Clock.reads c.args.clock.now) c.args.max_jump (Some (Drill c.args.count c.args.seed)) c.args.salt was (outside_of g.D.Disk g.S.Source g.K.Sink (node_disk_a last) b c.args.input.now output) status) (sym c.close-disk_a.ensures.disk_b) done)
 

@@ -9,6 +9,7 @@ loop-n-init g c = record {
   drills = drills_nothing c.args.seed c.args.node.now (record { memory = c.nothing.result; accepted = 0; refused = 0 }) c.requires.stands c.requires.running c.requires.consistent c.nothing.ensures refl refl;
   within = omega arith;
   origin = refl;
+  goes_on = refl;
   aside = refl;
 }
 
@@ -17,6 +18,7 @@ loop-n-preserved g c = record {
   drills = c.in-Ok.ensures.ok (node_state c.args.node.now) c.loop-n.invariant.drills;
   within = omega (arith, c.loop-n-test.true);
   origin = c.make_call.ensures.origin ∙ c.loop-n.invariant.origin;
+  goes_on = c.make_call.ensures.goes_on ∙ c.loop-n.invariant.goes_on;
   aside = c.make_call.ensures.aside ∙ c.loop-n.invariant.aside;
 }
 

@@ -1,12 +1,14 @@
 use denote.Exit as exit
 use denote.Param.Send.{arg_send, param_send}
-use Rattle.std.proofs.Common.{ℕ, ap, refl, subst, sym, ◌∙◌}
-use Rattle.std.specs.Prelude.{is_some}
-use Rattle.sb_journal.specs.Disks.{disks_of}
+use Rattle.std.proofs.Common.{◌≡◌, ℕ, Bool, [], ap, ap₂, refl, subst, sym, ◌∙◌}
+use Rattle.std.specs.Prelude.{is_some, nat_lt}
+use Rattle.sb_journal.specs.Disks.{disks_of, Disks}
+use Rattle.sb_journal.specs.Journals.{journal_disk_a, journal_disk_b}
 use Rattle.sb_node.specs.Nodes.{node_disk_a, node_disk_b, node_disks, node_state, node_stopped, IsKept}
-use Rattle.sb_node.specs.Serving.{opened_disks, origin_of}
+use Rattle.sb_node.specs.Serving.{node_goes_on, opened_disks, origin_of, StandsFor}
 use Rattle.sb_node.proofs.Standing.{same_found}
 use Rattle.sb_desk.specs.Desks.{Open, below}
+use Rattle.sb_desk.specs.declared.report.Origin.{Origin}
 use Rattle.sb_server.specs.Serves.{Worker, Working}
 use Rattle.sb_server.specs.Works.{ServesBy}
 use Rattle.sb_app.specs.Checks.{IsLineTold}
@@ -27,19 +29,26 @@ returns-in-Err g c input =
     let was : Outside = record { input = input; output = output_of g.K.Sink c.args.output.now; disks = disks_of g.D.Disk c.args.disk_a c.args.disk_b } in
     let failed = c.in-Err.failed in
     let fails = c.in-Err.ensures.failed in
-    failed_call (g.C.Clock.reads c.args.clock.now) c.args.max_jump _ g.R.Door.count c.args.salt was (disks_of g.D.Disk failed.1 failed.2) (output_of g.K.Sink c.open_node.new.output) c.args.doors.now.items fails.0 failed.0 fails.1
+    failed_call (g.C.Clock.reads c.args.clock.now) c.args.max_jump (nat_lt 0 c.args.checkpoint_after) _ g.R.Door.count c.args.salt was (disks_of g.D.Disk failed.1 failed.2) (output_of g.K.Sink c.open_node.new.output) c.args.doors.now.items fails.0 failed.0 fails.1
 
 pub returns-in-Err-new : goal.returns-in-Err-new
 returns-in-Err-new g c input =
     let was : Outside = record { input = input; output = output_of g.K.Sink c.args.output.now; disks = disks_of g.D.Disk c.args.disk_a c.args.disk_b } in
     let works : Open → Worker g.row.R.Denot → Type 0 = λ desk. Working (ServesBy (g.C.Clock.reads c.args.clock.now) c.args.access.now c.args.limits g.R.Conn.Conn.left g.R.Conn.Conn.given g.R.Conn.Conn.reads g.R.Conn.Conn.writes) g.R.Door.left g.R.Door.taken g.R.Door.ended g.R.Door.count g.R.Door.out desk c.args.most in
+    let goes_on = nat_lt 0 c.args.checkpoint_after in
     let doors = c.args.doors.now.items in
     let node = c.in-Ok-open_node.node in
     let back = c.node_back.ensures ∙ c.in-Err-new.ensures.value in
-    let over = unserved_call (g.C.Clock.reads c.args.clock.now) c.args.max_jump works g.R.Door.count (IsKept node) c.args.salt was (node_disks node) doors (node_state node) c.in-Ok-open_node.ensures.opened (kept_recovers node c.args.salt) in
-    let unsaid = subst (λ o. IsServeCall (g.C.Clock.reads c.args.clock.now) c.args.max_jump works g.R.Door.count c.args.salt was (record was { output = output_of g.K.Sink o; disks = node_disks node }) doors doors 7) (sym c.in-Ok-open_node.ensures.unsaid) over in
-    subst (λ a. IsServeCall (g.C.Clock.reads c.args.clock.now) c.args.max_jump works g.R.Door.count c.args.salt was (record was { output = output_of g.K.Sink c.open_node.new.output; disks = disks_of g.D.Disk a c.close-disk_a-in-Err-new.result.1 }) doors doors 7) (sym (c.close-disk_a-in-Err-new.ensures.disk_a ∙ ap node_disk_a back))
-    (subst (λ b. IsServeCall (g.C.Clock.reads c.args.clock.now) c.args.max_jump works g.R.Door.count c.args.salt was (record was { output = output_of g.K.Sink c.open_node.new.output; disks = disks_of g.D.Disk (node_disk_a node) b }) doors doors 7) (sym (c.close-disk_a-in-Err-new.ensures.disk_b ∙ ap node_disk_b back)) unsaid)
+    let same = c.go_on_after.ensures.journal in
+    let over = unserved_call (g.C.Clock.reads c.args.clock.now) c.args.max_jump goes_on works g.R.Door.count (IsKept node) c.args.salt was (node_disks node) doors (node_state node) c.in-Ok-open_node.ensures.opened (kept_recovers node c.args.salt) in
+    let unsaid = subst (λ o. IsServeCall (g.C.Clock.reads c.args.clock.now) c.args.max_jump goes_on works g.R.Door.count c.args.salt was (record was { output = output_of g.K.Sink o; disks = node_disks node }) doors doors 7) (sym c.in-Ok-open_node.ensures.unsaid) over in
+    subst (λ a. IsServeCall (g.C.Clock.reads c.args.clock.now) c.args.max_jump goes_on works g.R.Door.count c.args.salt was (record was { output = output_of g.K.Sink c.open_node.new.output; disks = disks_of g.D.Disk a c.close-disk_a-in-Err-new.result.1 }) doors doors 7) (sym (c.close-disk_a-in-Err-new.ensures.disk_a ∙ ap node_disk_a back ∙ ap journal_disk_a same))
+    (subst (λ b. IsServeCall (g.C.Clock.reads c.args.clock.now) c.args.max_jump goes_on works g.R.Door.count c.args.salt was (record was { output = output_of g.K.Sink c.open_node.new.output; disks = disks_of g.D.Disk (node_disk_a node) b }) doors doors 7) (sym (c.close-disk_a-in-Err-new.ensures.disk_b ∙ ap node_disk_b back ∙ ap journal_disk_b same)) unsaid)
+
+pub new-requires-2-clause-stands : goal.new-requires-2-clause-stands
+new-requires-2-clause-stands g c =
+    let told_node = c.go_on_after.new.self in
+    subst (λ (s : State). StandsFor told_node s []) (sym c.go_on_after.ensures.state) (c.go_on_after.ensures.stands (node_state c.in-Ok-open_node.node) c.in-Ok-open_node.ensures.stands)
 
 pub serve-ending-requires-send-V : goal.serve-ending-requires-send-V
 serve-ending-requires-send-V g c κs within = param_send 0 _ (arg_send _ exit.no _ (node_send _ g.D.Disk c.type_bounds.send-D))
@@ -51,6 +60,7 @@ pub returns : goal.returns
 returns g c input =
     let was : Outside = record { input = input; output = output_of g.K.Sink c.args.output.now; disks = disks_of g.D.Disk c.args.disk_a c.args.disk_b } in
     let works : Open → Worker g.row.R.Denot → Type 0 = λ desk. Working (ServesBy (g.C.Clock.reads c.args.clock.now) c.args.access.now c.args.limits g.R.Conn.Conn.left g.R.Conn.Conn.given g.R.Conn.Conn.reads g.R.Conn.Conn.writes) g.R.Door.left g.R.Door.taken g.R.Door.ended g.R.Door.count g.R.Door.out desk c.args.most in
+    let goes_on = nat_lt 0 c.args.checkpoint_after in
     let doors = c.args.doors.now.items in
     let doors_now = c.serve-ending.new.doors.items in
     let first = c.in-Ok-open_node.node in
@@ -67,12 +77,18 @@ returns g c input =
     let told = c.tell_report-told.result in
     let output = c.tell_report-told.new.output in
     let now : Outside = record { input = input; output = output_of g.K.Sink output; disks = node_disks last } in
-    let from_here = same_found (opened_disks first) (opened_disks last) (ok.2 ∙ new.desk.1) ∙ opened.origin in
-    let opening = subst (IsOpened (IsKept first) c.args.salt was.disks (node_disks first)) (sym new.desk.0) opened.opened in
-    let moment = ap (λ (o : Summary). o.now) c.summary.ensures.numbers ∙ ap (λ (s : State). s.now) (sym new.desk.0) in
+    let told_node = c.go_on_after.new.self in
+    let as_told = c.go_on_after.ensures in
+    let same = ok.2 ∙ new.desk.1 in
+    let by_itself : node_goes_on last ≡ goes_on = ap (λ (o : Origin). o.goes_on) same ∙ as_told.goes_on in
+    let from_here = same_found (node_goes_on last) (node_goes_on told_node) (opened_disks told_node) (opened_disks last) same ∙ as_told.origin ∙ opened.origin in
+    let start = new.desk.0 ∙ as_told.state in
+    let opening = subst (IsOpened (IsKept first) c.args.salt was.disks (node_disks first)) (sym start) opened.opened in
+    let moment = ap (λ (o : Summary). o.now) c.summary.ensures.numbers ∙ ap (λ (s : State). s.now) (sym start) in
     let settled = subst (λ (m : ℕ). IsSettled (g.C.Clock.reads c.args.clock.now) c.args.max_jump m) moment c.in-Ok-hold_server.ensures.ok in
-    let closed = subst (λ d. IsClosed c.args.salt desk.start ok.0 d (node_disks last) stopped) from_here (closed_node last c.args.salt desk.start ok.0 ok.1) in
-    let origin = new.desk.1 ∙ ap origin_of opened.origin in
+    let closed = subst (λ b. IsClosed b c.args.salt desk.start ok.0 (node_disks first) (node_disks last) stopped) by_itself
+    (subst (λ d. IsClosed (node_goes_on last) c.args.salt desk.start ok.0 d (node_disks last) stopped) from_here (closed_node last c.args.salt desk.start ok.0 ok.1)) in
+    let origin = new.desk.1 ∙ ap₂ (λ (b : Bool) (d : Disks). origin_of b d) as_told.goes_on (as_told.origin ∙ opened.origin) in
     let worked : IsWorked works ok.0 desk passes passes_now doors doors_now ending =
     record {
       many = new.desk.2 ∙ c.at_least_one.ensures ∙ ap passes_for (c.len.ensures ∙ c.args.doors.now.ok.0);
@@ -84,16 +100,17 @@ returns g c input =
     }
     in
     let line = subst (λ o. IsLineTold (report_line report) (output_of g.K.Sink o) (output_of g.K.Sink output) told) opened.unsaid c.tell_report-told.ensures in
-    let over = served_call (g.C.Clock.reads c.args.clock.now) c.args.max_jump works g.R.Door.count (IsKept first) c.args.salt was now (node_disks first) doors doors_now ok.0 desk passes passes_now ending report stopped told (λ w does. does.stops.faults) opening settled origin worked ok.3 closed line refl in
+    let over = served_call (g.C.Clock.reads c.args.clock.now) c.args.max_jump goes_on works g.R.Door.count (IsKept first) c.args.salt was now (node_disks first) doors doors_now ok.0 desk passes passes_now ending report stopped told (λ w does. does.stops.faults) opening settled origin worked ok.3 closed line refl in
     let status = c.status_of-status.ensures ∙ ap (λ b. serve_status b ending told) c.stopped.ensures in
-    let told_so = subst (IsServeCall (g.C.Clock.reads c.args.clock.now) c.args.max_jump works g.R.Door.count c.args.salt was now doors doors_now) (sym status) over in
-    subst (λ a. IsServeCall (g.C.Clock.reads c.args.clock.now) c.args.max_jump works g.R.Door.count c.args.salt was (record now { disks = disks_of g.D.Disk a c.close-disk_a-2.result.1 }) doors doors_now c.status_of-status.result) (sym c.close-disk_a-2.ensures.disk_a)
-    (subst (λ b. IsServeCall (g.C.Clock.reads c.args.clock.now) c.args.max_jump works g.R.Door.count c.args.salt was (record now { disks = disks_of g.D.Disk (node_disk_a last) b }) doors doors_now c.status_of-status.result) (sym c.close-disk_a-2.ensures.disk_b) told_so)
+    let told_so = subst (IsServeCall (g.C.Clock.reads c.args.clock.now) c.args.max_jump goes_on works g.R.Door.count c.args.salt was now doors doors_now) (sym status) over in
+    subst (λ a. IsServeCall (g.C.Clock.reads c.args.clock.now) c.args.max_jump goes_on works g.R.Door.count c.args.salt was (record now { disks = disks_of g.D.Disk a c.close-disk_a-2.result.1 }) doors doors_now c.status_of-status.result) (sym c.close-disk_a-2.ensures.disk_a)
+    (subst (λ b. IsServeCall (g.C.Clock.reads c.args.clock.now) c.args.max_jump goes_on works g.R.Door.count c.args.salt was (record now { disks = disks_of g.D.Disk (node_disk_a last) b }) doors doors_now c.status_of-status.result) (sym c.close-disk_a-2.ensures.disk_b) told_so)
 
 pub returns-in-Err-hold_server : goal.returns-in-Err-hold_server
 returns-in-Err-hold_server g c input =
     let was : Outside = record { input = input; output = output_of g.K.Sink c.args.output.now; disks = disks_of g.D.Disk c.args.disk_a c.args.disk_b } in
     let works : Open → Worker g.row.R.Denot → Type 0 = λ desk. Working (ServesBy (g.C.Clock.reads c.args.clock.now) c.args.access.now c.args.limits g.R.Conn.Conn.left g.R.Conn.Conn.given g.R.Conn.Conn.reads g.R.Conn.Conn.writes) g.R.Door.left g.R.Door.taken g.R.Door.ended g.R.Door.count g.R.Door.out desk c.args.most in
+    let goes_on = nat_lt 0 c.args.checkpoint_after in
     let doors = c.args.doors.now.items in
     let node = c.in-Ok-open_node.node in
     let output = output_of g.K.Sink c.jump_status-status.new.output in
@@ -102,6 +119,6 @@ returns-in-Err-hold_server g c input =
     let moment = ap (λ (o : Summary). o.now) c.summary.ensures.numbers in
     let far = subst (λ (m : ℕ). IsOvertaken (g.C.Clock.reads c.args.clock.now) c.args.max_jump m jump) moment c.in-Err-hold_server.ensures.err in
     let told = subst (λ o. IsJumpStatus jump (output_of g.K.Sink o) output status) c.in-Ok-open_node.ensures.unsaid c.jump_status-status.ensures in
-    let over = jumped_call (g.C.Clock.reads c.args.clock.now) c.args.max_jump works g.R.Door.count (IsKept node) c.args.salt was (node_disks node) output doors (node_state node) jump status c.in-Ok-open_node.ensures.opened (kept_recovers node c.args.salt) far told in
-    subst (λ a. IsServeCall (g.C.Clock.reads c.args.clock.now) c.args.max_jump works g.R.Door.count c.args.salt was (record was { output = output; disks = disks_of g.D.Disk a c.close-disk_a.result.1 }) doors doors status) (sym c.close-disk_a.ensures.disk_a)
-    (subst (λ b. IsServeCall (g.C.Clock.reads c.args.clock.now) c.args.max_jump works g.R.Door.count c.args.salt was (record was { output = output; disks = disks_of g.D.Disk (node_disk_a node) b }) doors doors status) (sym c.close-disk_a.ensures.disk_b) over)
+    let over = jumped_call (g.C.Clock.reads c.args.clock.now) c.args.max_jump goes_on works g.R.Door.count (IsKept node) c.args.salt was (node_disks node) output doors (node_state node) jump status c.in-Ok-open_node.ensures.opened (kept_recovers node c.args.salt) far told in
+    subst (λ a. IsServeCall (g.C.Clock.reads c.args.clock.now) c.args.max_jump goes_on works g.R.Door.count c.args.salt was (record was { output = output; disks = disks_of g.D.Disk a c.close-disk_a.result.1 }) doors doors status) (sym c.close-disk_a.ensures.disk_a)
+    (subst (λ b. IsServeCall (g.C.Clock.reads c.args.clock.now) c.args.max_jump goes_on works g.R.Door.count c.args.salt was (record was { output = output; disks = disks_of g.D.Disk (node_disk_a node) b }) doors doors status) (sym c.close-disk_a.ensures.disk_b) over)

@@ -1,0 +1,215 @@
+// A server that makes a checkpoint by itself: the journal goes on with a file on the other disk, and what was
+// sent before and behind it is there. The lines were worked out by hand.
+use sb_app::NoWatcher;
+use sb_calls::{
+    ONE_EVENT, bytes_of, called_over, connection_of, disks_of, doors_of, ran_on_both, sink_of,
+};
+use sb_outside::{MemDisk, MemDoor, MemSink, MemSource, NoLink, PauseLobby, StepClock};
+use sb_rest::Access;
+use std::alloc::Global;
+use std::sync::Wait;
+use std::test::Fail;
+use std::thread::Threads;
+
+// By 150 bytes: the event of the queue takes 44 bytes, and that of each message 52; so a checkpoint is made
+// before the fourth message, and none behind it.
+const SERVE: [&str; 6] = [
+    "serve",
+    "--data",
+    "data",
+    "--port",
+    "8080",
+    "--checkpoint-after=150",
+];
+
+const SERVE_ALONE: [&str; 6] = [
+    "serve",
+    "--data",
+    "data",
+    "--port",
+    "8080",
+    "--checkpoint-after=0",
+];
+
+const CHECK: [&str; 2] = ["check", "--data=."];
+
+const RUN: [&str; 3] = ["run", "--data", "."];
+
+const SENDS: &str =
+    "POST /q/messages HTTP/1.1\r\nHost: h\r\nContent-Length: 2\r\n\r\nm1POST /q/messages HTTP/1.1\r\nHost: h\r\nContent-Length: 2\r\n\r\nm2POST /q/messages HTTP/1.1\r\nHost: h\r\nContent-Length: 2\r\n\r\nm3POST /q/messages HTTP/1.1\r\nHost: h\r\nContent-Length: 2\r\n\r\nm4POST /q/messages HTTP/1.1\r\nHost: h\r\nContent-Length: 2\r\n\r\nm5";
+
+const SERVED: &str = "{\"changing\":5,\"entries\":5,\"ok\":\"report\",\"refused\":0}\n";
+
+const CHECKED: &str =
+    "{\"copies\":5,\"entities\":1,\"events\":6,\"made\":5,\"now\":1000,\"ok\":\"check\"}\n";
+
+const RECEIVES: &str = r#"{"do":"receive","from":"q","mode":"delete"}
+{"do":"receive","from":"q","mode":"delete"}
+{"do":"receive","from":"q","mode":"delete"}
+{"do":"receive","from":"q","mode":"delete"}
+{"do":"receive","from":"q","mode":"delete"}
+"#;
+
+const RECEIVED: &str =
+    r#"{"message":{"body":"m1","delivery":1,"enqueued":1000,"enqueued_seq":1,"props":{},"seq":1,"sys":{}},"ok":"message"}
+{"message":{"body":"m2","delivery":1,"enqueued":1000,"enqueued_seq":2,"props":{},"seq":2,"sys":{}},"ok":"message"}
+{"message":{"body":"m3","delivery":1,"enqueued":1000,"enqueued_seq":3,"props":{},"seq":3,"sys":{}},"ok":"message"}
+{"message":{"body":"m4","delivery":1,"enqueued":1000,"enqueued_seq":4,"props":{},"seq":4,"sys":{}},"ok":"message"}
+{"message":{"body":"m5","delivery":1,"enqueued":1000,"enqueued_seq":5,"props":{},"seq":5,"sys":{}},"ok":"message"}
+"#;
+
+// What stands on two disks.
+#[derive(Drop)]
+struct Images {
+    disk_a: Vec<u8>,
+    disk_b: Vec<u8>,
+}
+
+// The bytes of two disks, which are let go.
+fn images_of(alloc: Global, disk_a: MemDisk, disk_b: MemDisk) -> Result<Images, Fail> {
+    let disk_a = bytes_of(alloc, disk_a);
+    let disk_b = bytes_of(alloc, disk_b);
+    Ok(Images {
+        disk_a: disk_a?,
+        disk_b: disk_b?,
+    })
+}
+
+// A door with one connection, which sends five messages.
+fn door(alloc: Global) -> Result<Vec<MemDoor>, Fail> {
+    let conn = connection_of(alloc, SENDS.as_bytes(), 7)?;
+    Ok(doors_of(alloc, vec![in alloc; conn]?)?)
+}
+
+// Serves these doors over the journal of the queue; the status, and the disks as it leaves them.
+fn served<T: Threads + Wait + Sync>(
+    rt: &HostRuntime,
+    threads: &T,
+    words: &[&str],
+    output: &mut MemSink,
+    doors: &mut Vec<MemDoor>,
+) -> Result<(u8, MemDisk, MemDisk), Fail> {
+    let alloc = rt.alloc();
+    let disks = disks_of(alloc, (&ONE_EVENT, &[]))?;
+    let access = Access::unlocked(alloc);
+    let clock = StepClock::new(1000, 0);
+    let mut input = MemSource::new(Vec::new(alloc), 1, Vec::new(alloc));
+    let ended = called_over(
+        threads,
+        alloc,
+        words,
+        &access,
+        disks,
+        &clock,
+        &mut input,
+        output,
+        doors,
+        &PauseLobby,
+        &mut NoLink::new(),
+        &NoWatcher,
+    );
+    drop(input);
+    drop(clock);
+    drop(access);
+    Ok(ended?)
+}
+
+// What is left on the disks once these doors were served and the numbers were told.
+fn left_by<T: Threads + Wait + Sync>(
+    rt: &HostRuntime,
+    threads: &T,
+    words: &[&str],
+    doors: &mut Vec<MemDoor>,
+) -> Result<Images, Fail> {
+    let mut output = sink_of(rt.alloc(), 256, &[])?;
+    let ended = served(rt, threads, words, &mut output, doors);
+    let is_told = output.bytes() == SERVED.as_bytes();
+    drop(output);
+    let (status, disk_a, disk_b) = ended?;
+    let images = images_of(rt.alloc(), disk_a, disk_b)?;
+    if status == 0 && is_told {
+        return Ok(images);
+    }
+    drop(images);
+    Err(Fail::from("another status, or another report"))
+}
+
+// The same of the door.
+fn images_left<T: Threads + Wait + Sync>(
+    rt: &HostRuntime,
+    threads: &T,
+    words: &[&str],
+) -> Result<Images, Fail> {
+    let mut doors = door(rt.alloc())?;
+    let left = left_by(rt, threads, words, &mut doors);
+    drop(doors);
+    left
+}
+
+// Makes a call over disks with these bytes, and gives the status.
+fn status_over(
+    alloc: Global,
+    words: &[&str],
+    bytes_a: &[u8],
+    bytes_b: &[u8],
+    script: &str,
+    output: &mut MemSink,
+) -> Result<u8, Fail> {
+    let (status, disk_a, disk_b) = ran_on_both(
+        alloc,
+        words,
+        (bytes_a, &[]),
+        (bytes_b, &[]),
+        script,
+        output,
+    )?;
+    drop(disk_a);
+    drop(disk_b);
+    Ok(status)
+}
+
+// Whether a call over disks with these bytes tells just this.
+fn tells(
+    alloc: Global,
+    words: &[&str],
+    bytes_a: &[u8],
+    bytes_b: &[u8],
+    script: &str,
+    told: &str,
+) -> Result<bool, Fail> {
+    let mut output = sink_of(alloc, 4096, &[])?;
+    let status = status_over(alloc, words, bytes_a, bytes_b, script, &mut output);
+    let is_told = output.bytes() == told.as_bytes();
+    drop(output);
+    Ok(status? == 0 && is_told)
+}
+
+// Whether a check tells the numbers of all that was sent, over both disks and over disk b alone, and a run
+// receives all of it.
+fn tried(alloc: Global, left: &Images) -> Result<(bool, bool, bool), Fail> {
+    let on_both = tells(alloc, &CHECK, &left.disk_a, &left.disk_b, "", CHECKED)?;
+    let on_b = tells(alloc, &CHECK, &[], &left.disk_b, "", CHECKED)?;
+    let received = tells(alloc, &RUN, &left.disk_a, &left.disk_b, RECEIVES, RECEIVED)?;
+    Ok((on_both, on_b, received))
+}
+
+// Disk b counts afterwards.
+#[test]
+fn a_server_goes_on_with_the_other_disk(rt: HostRuntime) -> Result<(), Fail> {
+    let left = images_left(&rt, &rt, &SERVE)?;
+    let tried = tried(rt.alloc(), &left);
+    drop(left);
+    assert_eq!(rt; tried?, (true, true, true));
+    Ok(())
+}
+
+// By 0 it makes none: disk b is as empty as it was.
+#[test]
+fn a_server_stays_with_its_disk(rt: HostRuntime) -> Result<(), Fail> {
+    let left = images_left(&rt, &rt, &SERVE_ALONE)?;
+    let is_left = left.disk_b.is_empty();
+    let tried = tried(rt.alloc(), &left);
+    drop(left);
+    assert_eq!(rt; (is_left, tried?), (true, (true, false, true)));
+    Ok(())
+}
