@@ -1,12 +1,14 @@
 #!/usr/bin/env python3
 """Kills a server under load, starts it again, and looks for what was lost or doubled.
 
-usage: tools/killed_server.py PROGRAM [ROUNDS]
+usage: tools/killed_server.py PROGRAM [ROUNDS [WORD ..]]
 
 PROGRAM is the built program (crates/sb_bus/out/sb_bus). Four callers number their sends and write down
 each that was acknowledged. In each round the server is killed with SIGKILL while they send; after the next
 start each caller repeats its last number, as it can't know whether that acted. At the end all messages are
 taken out of the queue: each acknowledged one must be there, and none twice. The exit status is 1 otherwise.
+The server gets the words behind ROUNDS, too; without any it makes a checkpoint after each 100,000 bytes of
+records, so that it is killed in the midst of some.
 """
 import json
 import os
@@ -51,13 +53,13 @@ def acknowledged(path):
     return [int(line) for line in lines]
 
 
-def killed(program, rounds, folder):
+def killed(program, rounds, more, folder):
     data = os.path.join(folder, "data")
     os.mkdir(data)
     names = [f"caller-{i}" for i in range(CALLERS)]
     logs = [os.path.join(folder, name) for name in names]
     port = lib.free_port()
-    server = lib.start(program, data, port, *WORKERS)
+    server = lib.start(program, data, port, *WORKERS, *more)
     with lib.Caller(port) as caller:
         caller.line({"do": "create-queue", "name": "q"})
     for _ in range(rounds):
@@ -74,7 +76,7 @@ def killed(program, rounds, folder):
         if any(os.waitpid(child, 0)[1] for child in children):
             for path in logs:
                 acknowledged(path)
-        server = lib.start(program, data, port, *WORKERS)
+        server = lib.start(program, data, port, *WORKERS, *more)
     bodies = lib.taken(port, "q")
     lib.stop(server)
     wrong = len(bodies) - len(set(bodies))
@@ -88,9 +90,10 @@ def killed(program, rounds, folder):
 
 
 def main():
-    program, more = lib.given_words(__doc__, most=2)
+    program, words = lib.given_words(__doc__, most=9)
+    rounds, more = int(words[0]) if words else 8, words[1:] or ["--checkpoint-after", "100000"]
     with tempfile.TemporaryDirectory() as folder:
-        lib.tell(lambda: killed(program, int(more[0]) if more else 8, folder))
+        lib.tell(lambda: killed(program, rounds, more, folder))
 
 
 if __name__ == "__main__":
