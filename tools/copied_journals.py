@@ -4,7 +4,8 @@
 usage: tools/copied_journals.py PROGRAM [COPIES]
 
 PROGRAM is the built program (crates/sb_bus/out/sb_bus). Four callers send while the journal is copied again
-and again, 1,000 times where nothing is said. `check --look` has to find each copy sound, with every message whose send
+and again, 1,000 times where nothing is said: the file that counts first, then the other one. The server makes a checkpoint
+after each 10,000 bytes of records. `check --look` has to find each copy sound, with every message whose send
 was acknowledged before the copying began, and none whose send began after it ended; it has to leave the copy as it is,
 and `check` has to tell the same. So it has to be of a look at the server's own folder, in which it makes no file, and
 the server goes on. The exit status is 1 where one is otherwise.
@@ -24,6 +25,8 @@ CALLERS = 4
 SENDS = 20  # for each copy, so that copies don't take longer and longer to open
 WAIT = 0.01  # s at most from where a copy's sends may begin to the copying, which falls among them
 BODY = "x" * 200
+FILES = ["a.journal", "b.journal"]
+WORDS = ("--workers", str(CALLERS + 1), "--checkpoint-after", "10000")
 
 
 class Load:
@@ -71,17 +74,25 @@ def content(path):
         return file.read()
 
 
+def counts(path):
+    """Whether a file begins with the byte 1."""
+    with open(path, "rb") as file:
+        return file.read(1) == b"\1"
+
+
 def copies_told(program, data):
     """How many messages a copy of the journal has, by a look at it and by a check."""
     with tempfile.TemporaryDirectory() as folder:
-        path = os.path.join(folder, "a.journal")
-        shutil.copyfile(os.path.join(data, "a.journal"), path)
-        os.chmod(path, 0o400)
-        before = content(path)
+        paths = [os.path.join(folder, name) for name in sorted(FILES, key=lambda name: not counts(os.path.join(data, name)))]
+        for path in paths:
+            shutil.copyfile(os.path.join(data, os.path.basename(path)), path)
+            os.chmod(path, 0o400)
+        before = [content(path) for path in paths]
         looked = told(program, folder, "--look")
-        lib.wants(os.listdir(folder) == ["a.journal"], f"a look made files: {os.listdir(folder)}")
-        lib.wants(content(path) == before, "a look changed the copy")
-        os.chmod(path, 0o600)
+        lib.wants(sorted(os.listdir(folder)) == FILES, f"a look made files: {os.listdir(folder)}")
+        lib.wants([content(path) for path in paths] == before, "a look changed the copy")
+        for path in paths:
+            os.chmod(path, 0o600)
         lib.wants(told(program, folder) == looked, f"a check doesn't tell the look's {looked}")
         return json.loads(looked)["copies"]
 
@@ -99,7 +110,7 @@ def is_within(load, number, what, find):
 
 def copied(program, copies):
     port = lib.free_port()
-    with tempfile.TemporaryDirectory() as data, lib.serving(program, data, port, "--workers", str(CALLERS + 1)):
+    with tempfile.TemporaryDirectory() as data, lib.serving(program, data, port, *WORDS):
         with lib.Caller(port) as caller:
             caller.line({"do": "create-queue", "name": "q"})
         names = sorted(os.listdir(data))
