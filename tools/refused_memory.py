@@ -10,7 +10,8 @@ journal that the first leaves, one that makes three queues, and one on the journ
 completes messages, commits a transaction and goes through a session; until no call is refused any more. Each run
 has to end with 0 and all replies, with 7 and the first replies (and the line of OutOfMemory behind them, or nothing),
 or with 11 and nothing; and the journal must open again, with all that stood there before the run, each
-acknowledged change, and at most the one more that wasn't acknowledged.
+acknowledged change, and at most the one more that wasn't acknowledged. Then a run with --checkpoint over the journal of
+the third has to end with 0, and the other file counts, or with 7 or 11, and the same counts; and the state is what it was.
 
 The same with a server, over which a message is sent, locked and completed by REST, a batch is sent, and a message of
 the largest body is received and deleted: each response is the one that is due, whole, or 503 with OutOfMemory, behind
@@ -187,6 +188,34 @@ class Trial:
             print(f"{name}: {runs:4} runs with status {status}, {count} replies, {line}")
         return wrong
 
+    def checked(self, folder):
+        """The line that a check of a folder tells."""
+        return subprocess.run([self.program, "check", "--data", folder], capture_output=True).stdout
+
+    def checkpoint_sweep(self, start):
+        """Checkpoints of a journal, with each growth refused: with 0 the other file counts, else the same; and the state is the same."""
+        wanted, classes, wrong, refused = self.checked(self.folder(start)), collections.Counter(), 0, 1
+        while True:
+            path = self.folder(start)
+            env = dict(os.environ, **self.refusing(refused))
+            words = [self.program, "run", "--data", path, "--checkpoint"]
+            ended = subprocess.run(words, stdin=subprocess.DEVNULL, capture_output=True, env=env)
+            if self.called() < refused:
+                break
+            status = ended.returncode
+            with open(f"{path}/b.journal", "rb") as file:
+                goes_on = file.read(1) == b"\1"
+            sound = status in (0, 7, 11) and not ended.stdout and goes_on == (status == 0)
+            sound = sound and self.checked(path) == wanted
+            classes[status] += 1
+            if not sound:
+                wrong += 1
+                print(f"WRONG: a checkpoint, growth {refused}: status {status}, {ended.stdout}, {self.checked(path)}")
+            refused += self.every
+        for status, runs in sorted(classes.items()):
+            print(f"checkpoint: {runs:4} runs with status {status}")
+        return wrong
+
     def served(self, base, refused, behind, count=None, size=0, rest=None):
         """The answers of a server over a copy of the base, with this call refused and so many behind it, to the first
         requests, where the caller rests before one of them if that is said; and whether it goes on behind them."""
@@ -342,6 +371,7 @@ def main():
         os.mkdir(made)
         trial.run(made, SETUP)
         wrong += trial.sweep("settled", made, settling(made))
+        wrong += trial.checkpoint_sweep(made)
     print(f"{wrong} runs ended otherwise")
     sys.exit(1 if wrong else 0)
 
