@@ -1,5 +1,5 @@
 -- A journal that goes on with a file whose base is the state's.
-use Rattle.std.proofs.Common.{◌≡◌, ◌⊎◌, inl, inr, ℕ, ◌+◌, ◌^◌, ◌≤◌, List, [], ◌∷◌, length, Bool, true, false, true≢false, Option, Some, None, Err, refl, sym, ◌∙◌, ap, subst, arith}
+use Rattle.std.proofs.Common.{◌≡◌, ◌⊎◌, inl, inr, ℕ, ◌+◌, ◌^◌, ◌≤◌, List, [], ◌∷◌, length, Bool, true, false, true≢false, Option, Some, None, Result, Err, refl, sym, ◌∙◌, ap, subst, arith}
 use Rattle.std.proofs.Math.Logic.{∥∥₁_elim}
 use Rattle.std.proofs.Props.{props}
 use Rattle.std.proofs.lemmas.Bool.Decides.{nat_tests}
@@ -15,6 +15,7 @@ use Rattle.sb_machine.specs.declared.state.State.{State}
 use Rattle.sb_snapshot.specs.Base.{base_of, parts, state_of, HasSpelling, IsSpellable}
 use Rattle.sb_snapshot.proofs.Asked.{state_written}
 use Rattle.sb_snapshot.proofs.Spelling.{reads_back}
+use Rattle.sb_checkpoint.specs.Refusals.{OnRefused}
 use Rattle.sb_checkpoint.specs.declared.pieces.Unput.{Unput}
 use Rattle.sb_checkpoint.specs.declared.pieces.Unput.TheVariants.{Memory, Refused}
 use Rattle.sb_recorder.specs.Recorders.{bytes_left, is_writing, recorder_journal, Begun, CountsStill, GoesOn, HasAccount, HasBase, HasTurned}
@@ -136,6 +137,10 @@ none_of (Some x) is = absurd cc
 -- one that isn't written on any more
 pub lost_failed : {D : Type 0} {B : Ghosts D} (r : Recorder D B) (begun : Begun B) → GoesOn r begun → is_writing r ≡ false → has_failed (recorder_journal r) ≡ true
 lost_failed r begun on lost = on.lost (none_of r.next lost)
+
+-- what holds where it was refused
+pub refused_by : (r : Result (Unit {0}) Unput) (e : Unput) (P : Type 0) → r ≡ Err e → OnRefused r P → e ≡ Refused → P
+refused_by r e P is holds same = subst (λ (x : Result (Unit {0}) Unput). OnRefused x P) (is ∙ ap Err same) holds
 
 -- the file still counts, for whatever reason
 pub left_turns : {D : Type 0} {B : Ghosts D} (s : State) (first : ℕ) (file : File) (was now : Journal D B) (e : Unput) → CountsStill file was now → Turns s first file was now (Err e)

@@ -83,25 +83,32 @@ fn write_whole<D: Disk>(held: &Held<'_>, recorder: &mut Recorder<D>) -> Result<(
     ensures account { (begun : Begun D.Disk) → begun_of recorder.old ≡ begun → HasAccount begun.journal (recorder_journal recorder.new) }
     ensures failed { FailsAs (has_failed (recorder_journal recorder.new)) result }
 {
-    let Ok(()) = write_base(recorder.alloc(), held, recorder) else {
-        return Err(give_up(recorder));
-    };
+    match write_base(recorder.alloc(), held, recorder) {
+        Ok(()) => {}
+        Err(unput) => return Err(give_up(recorder, unput)),
+    }
     match recorder.seal() {
         Ok(()) => Ok(()),
         Err(_) => Err(Unput::Refused),
     }
 }
 
-// Leaves a base that isn't written on, and says why it isn't: `Refused` where a call of a disk failed, else `Memory`.
-fn give_up<D: Disk>(recorder: &mut Recorder<D>) -> Unput
+// Leaves a base that isn't written on for this reason, and hands the reason on; it is `Refused` wherever a call of a disk failed.
+fn give_up<D: Disk>(recorder: &mut Recorder<D>, unput: Unput) -> Unput
     requires begun { GoesOn recorder.old (begun_of recorder.old) }
+    requires unwanted { unput ≡ Refused → has_failed (recorder_journal recorder.old) ≡ true }
     ensures journal { recorder_journal recorder.new ≡ recorder_journal recorder.old }
     ensures refused { result ≡ Refused → has_failed (recorder_journal recorder.new) ≡ true }
     ensures memory { result ≡ Memory → has_failed (recorder_journal recorder.new) ≡ false }
 {
-    if !recorder.is_writing() {
-        return Unput::Refused;
+    match unput {
+        Unput::Memory => {
+            if !recorder.is_writing() {
+                return Unput::Refused;
+            }
+            recorder.leave();
+            Unput::Memory
+        }
+        Unput::Refused => Unput::Refused,
     }
-    recorder.leave();
-    Unput::Memory
 }
