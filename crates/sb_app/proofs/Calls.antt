@@ -74,6 +74,9 @@ limits_are words f is = sym (ap (λ o. limits_for (request_time_of o) (idle_time
 pub bytes_in : (words : List (List ℕ)) (f : ReadForm) → form_in words ≡ Some (form_value f) → f.checkpoint_after ≡ checkpoint_after_in words
 bytes_in words f is = sym (ap checkpoint_after_of is)
 
+pub checkpoint_is : (words : List (List ℕ)) (f : ReadForm) → form_in words ≡ Some (form_value f) → f.checkpoint ≡ checkpoint_in words
+checkpoint_is words f is = sym (ap checkpoint_of is)
+
 -- words that couldn't be read name no task, or memory was wanting
 pub unnamed : (words : List (List ℕ)) (days : ℕ) (fault : WordsFault) → (fault ≡ BadWords → form_in words ≡ None) → IsNamed (task_in words) days (Err fault)
 unnamed words days BadWords bad = ap (option_and_then (task_of (checkpoint_in words) (look_in words) (count_in words) (seed_in words))) (no_form words (bad refl))

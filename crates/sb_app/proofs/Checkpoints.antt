@@ -10,13 +10,13 @@ use Rattle.sb_journal.specs.declared.found.Side.{Side}
 use Rattle.sb_journal.specs.declared.found.Side.TheVariants.{A, B as Other}
 use Rattle.sb_journal.specs.declared.journal.Journal.{Journal}
 use Rattle.sb_journal.specs.Choosing.{is_unshut, sided, turned}
-use Rattle.sb_journal.specs.Disks.{Disks, disks_of, opened_on, AreHonest, AreQuiet, HaveFailed, SameHonesty}
+use Rattle.sb_journal.specs.Disks.{Disks, disks_of, opened_on, AreHonest, AreQuiet, HaveFailed, KeepsAside, SameHonesty}
 use Rattle.sb_journal.specs.Framing.{Framing, Whole, framing}
 use Rattle.sb_journal.specs.Journals.{journal_disks, journal_side, HoldsFile}
 use Rattle.sb_journal.specs.Opened.{Stands, opened, opened_alone, placed}
 use Rattle.sb_journal.specs.Text.{File, may_go_on, next_file}
 use Rattle.sb_journal.proofs.Choices.{counts_here, not_created}
-use Rattle.sb_journal.proofs.Pairs.{both, opened_counts, sided_twice}
+use Rattle.sb_journal.proofs.Pairs.{both, kept_aside, keeps_still, opened_counts, sided_twice}
 use Rattle.sb_journal.proofs.Staging.{stages_read}
 use Rattle.sb_journal.proofs.Wholes.{headed_whole}
 use Rattle.sb_snapshot.specs.Base.{base_of}
@@ -166,19 +166,20 @@ is_whole (suc zero) few = (true, refl)
 is_whole (suc (suc n)) few = absurd (omega (arith, few))
 
 -- where no line was answered
-pub early_checkpoint : (clock : ℕ → Type 0) (days salt : ℕ) (was now : Outside) (status : ℕ) → 2 ≤ status → IsCarriedOut clock days (Some Run) salt was now status → IsCheckpointRun clock days salt was now status
-early_checkpoint clock days salt was now status low run = record {
+pub early_checkpoint : (clock : ℕ → Type 0) (days salt : ℕ) (was now : Outside) (status : ℕ) → 2 ≤ status → IsCarriedOut clock days (Some Run) salt was now status → (AreHonest was.disks → KeepsAside salt was.disks now.disks) → IsCheckpointRun clock days salt was now status
+early_checkpoint clock days salt was now status low run aside = record {
   ran = now.disks;
   run_status = status;
   run = run;
   whole = λ refused is. absurd (not_whole status low refused is);
   early = λ other. (refl, refl);
+  aside = aside;
 }
 
 pub unread_checkpoint : (clock : ℕ → Type 0) (days salt : ℕ) (was : Outside) → IsCheckpointRun clock days salt was was 7
-unread_checkpoint clock days salt was = early_checkpoint clock days salt was was 7 (omega arith) (unread_alone clock days (Some Run) salt was)
+unread_checkpoint clock days salt was = early_checkpoint clock days salt was was 7 (omega arith) (unread_alone clock days (Some Run) salt was) (λ honest. keeps_still salt was.disks was.disks ((refl, refl), (refl, refl)))
 
-failed_low : (status : ℕ) → IsFailedStatus status → 5 ≤ status
+pub failed_low : (status : ℕ) → IsFailedStatus status → 5 ≤ status
 failed_low status (inl five) = omega (arith, five)
 failed_low status (inr (inl six)) = omega (arith, six)
 failed_low status (inr (inr seven)) = omega (arith, seven)
@@ -189,6 +190,7 @@ pub unopened_checkpoint : (clock : ℕ → Type 0) (days salt : ℕ) (was : Outs
 unopened_checkpoint clock days salt was disks output why status fails =
     let low = failed_low status fails.known in
     early_checkpoint clock days salt was (record was { output = output; disks = disks }) status (omega (arith, low)) (not_opened clock days Run salt was disks output why status fails)
+    (λ honest side counts. kept_aside salt side was.disks disks counts (fails.keeps honest))
 
 pub unopened_usage : (salt : ℕ) (was now : Disks) (out out_after : Output) (why : OpenWhy) (status : ℕ) → IsFailed salt was now out out_after why status → status ≢ 2
 unopened_usage salt was now out out_after why status fails two = let low = failed_low status fails.known in omega (arith, low, two)
@@ -205,9 +207,10 @@ pub checkpoint_run : {D : Type 0} {B : Disk D} (clock : ℕ → Type 0) (days sa
     → ((refused : Bool) → run_status ≡ status_by refused → EndsCheckpoint (node_disks last) (node_disks after) run_status status)
     → ((refused : Bool) → run_status ≡ status_by refused → IsKept last → (s : ℕ) → HasCheckpoint s (node_disks last) (node_disks after) run_status status)
     → SameHonesty (node_disks last) (node_disks after)
+    → (AreHonest was.disks → KeepsAside salt was.disks (node_disks last))
     → a ≡ node_disk_a after → b ≡ node_disk_b after
     → IsCheckpointRun clock days salt was (record { input = input; output = output; disks = disks_of B a b }) status
-checkpoint_run {D} {B} clock days salt was input output last after a b run_status status run kept early ends has honesty is_a is_b =
+checkpoint_run {D} {B} clock days salt was input output last after a b run_status status run kept early ends has honesty aside is_a is_b =
     subst (λ (d : Disks). IsCheckpointRun clock days salt was (record { input = input; output = output; disks = d }) status) there
     (record {
       ran = node_disks last;
@@ -219,6 +222,7 @@ checkpoint_run {D} {B} clock days salt was input output last after a b run_statu
         honesty = honesty;
       };
       early = early;
+      aside = aside;
     })
   where
     there : node_disks after ≡ disks_of B a b
@@ -229,7 +233,7 @@ checkpoint_run {D} {B} clock days salt was input output last after a b run_statu
 no_task : Some Run ≡ None → ⊥
 no_task is = absurd cc
 
-ended_usage : (ran now : Disks) (run_status status : ℕ) → EndsCheckpoint ran now run_status status → run_status ≤ 1 → status ≢ 2
+pub ended_usage : (ran now : Disks) (run_status status : ℕ) → EndsCheckpoint ran now run_status status → run_status ≤ 1 → status ≢ 2
 ended_usage ran now run_status status (inl is) few two = let same = is.0 in omega (arith, same, few, two)
 ended_usage ran now run_status status (inr (inl is)) few two = let five = is.0 in omega (arith, five, two)
 ended_usage ran now run_status status (inr (inr is)) few two = let seven = is.0 in omega (arith, seven, two)

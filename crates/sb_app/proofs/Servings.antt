@@ -1,5 +1,5 @@
--- A server's call, on each of its ways.
-use Rattle.std.proofs.Common.{◌≡◌, ◌≢◌, ◌≤◌, ◌<◌, ◌⊎◌, inl, inr, ℕ, List, [], ◌∷◌, length, map, Bool, true, false, Option, Some, None, Err, refl, sym, ◌∙◌, ap, ap₂, subst, ⊎_elim, arith}
+-- A server's call, on each of its ways, up to the end of its workers.
+use Rattle.std.proofs.Common.{◌≡◌, ◌≢◌, ◌≤◌, ◌<◌, ◌⊎◌, inl, inr, ℕ, List, [], ◌∷◌, length, map, Bool, true, false, Option, Some, None, refl, sym, ◌∙◌, ap, ap₂, subst, ⊎_elim, arith}
 use Rattle.std.specs.Prelude.{if◌then◌else◌, is_some, ◌||◌}
 use Rattle.std.specs.List.{list_any}
 use Rattle.sb_outside.specs.Causes.{Rose}
@@ -28,15 +28,7 @@ use Rattle.sb_server.specs.declared.ending.ServeEnding.{ServeEnding}
 use Rattle.sb_server.specs.declared.ending.ServeEnding.TheVariants.{Done, DoorFault, OutOfMemory}
 use Rattle.sb_server.specs.declared.work.Stop.{Stop}
 use Rattle.sb_server.specs.declared.work.Stop.TheVariants.{Enough, Ended, Fault, Stopped, OutOfMemory as NoMemory}
-use Rattle.sb_words.specs.Words.{command_in, form_in}
-use Rattle.sb_words.specs.declared.command.Command.TheVariants.{Serve}
-use Rattle.sb_words.specs.declared.command.WordsFault.{WordsFault}
-use Rattle.sb_words.specs.declared.command.WordsFault.TheVariants.{BadWords, OutOfMemory as WordsUnread}
-use Rattle.sb_app.specs.Calls.{IsCall, IsNamed}
 use Rattle.sb_app.specs.Checks.{IsLineTold}
-use Rattle.sb_app.specs.Clients.{Exchanges}
-use Rattle.sb_app.specs.declared.task.Task.{Task}
-use Rattle.sb_app.proofs.Calls.{no_form, IsBadWords}
 use Rattle.sb_app.specs.Endings.{IsLineWritten}
 use Rattle.sb_app.specs.Held.{IsJumpStatus, IsOvertaken}
 use Rattle.sb_app.specs.Jumps.{jumps, jump_line, IsSettled}
@@ -502,19 +494,7 @@ module _ {R : Type 0} (clock : ℕ → Type 0) (days : ℕ) (goes_on : Bool) (Wo
         honesty = honest_on was.disks ready now.disks opening.honesty closed.honesty;
       }
 
--- ---- words that couldn't be read
-
--- they name a server, so memory was wanting, and nothing was done
-pub unread_serve : {R : Type 0} (clock : ℕ → Type 0) (days : ℕ) (goes_on : Bool) (Works : Open → Worker R → Type 0) (count : R → ℕ) (words : List (List ℕ)) (fault : WordsFault) (salt : ℕ) (was now : Outside) (link link_now : Exchanges) (doors : List R) (status : ℕ) → (fault ≡ BadWords → form_in words ≡ None)
-    → command_in words ≡ Some Serve → ((task : Option Task) (days : ℕ) → IsNamed task days (Err fault) → IsCall clock days task salt was now link link_now status) → (status ≡ 2 → IsBadWords (Err fault)) → IsServeCall clock days goes_on Works count salt was now doors doors status
-unread_serve clock days goes_on Works count words BadWords salt was now link link_now doors status bad serves done usage = let other : None ≡ Some Serve = sym (no_form words (bad refl)) ∙ serves in absurd cc
-unread_serve clock days goes_on Works count words WordsUnread salt was now link link_now doors status bad serves done usage = by_end (((done None days tt).carried_out (λ is. absurd cc) (λ is. absurd cc) (λ is. absurd cc)).unnamed refl)
-  where
-    by_end : (status ≡ 2) ⊎ ((status ≡ 7) × (now ≡ was)) → IsServeCall clock days goes_on Works count salt was now doors doors status
-    by_end (inl two) = let other = usage two in absurd cc
-    by_end (inr (seven, same)) =
-        subst (λ (n : ℕ). IsServeCall clock days goes_on Works count salt was now doors doors n) (sym seven)
-        (subst (λ (o : Outside). IsServeCall clock days goes_on Works count salt was o doors doors 7) (sym same) (unserved_at_once clock days goes_on Works count salt was doors))
+-- ---- statuses
 
 -- a server has no status 2
 pub no_two_serve : (status : ℕ) → IsServeStatus status → status ≡ 2 → ⊥

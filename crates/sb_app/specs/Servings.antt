@@ -1,4 +1,5 @@
--- What a server's call does: the connections of its doors are served over one history, whose numbers are told at the end.
+-- What a server's call does: the connections of its doors are served over one history, whose numbers are told at the end; and then a
+-- checkpoint is made, where that is asked for.
 use Rattle.std.specs.Prelude.{◌≡◌, ◌≢◌, ◌⊎◌, ℕ, ◌*◌, List, [], ◌∷◌, ◌++◌, codes, length, map, max, Bool, true, false}
 use Rattle.std.specs.Fmt.{decimal}
 use Rattle.sb_outside.specs.Causes.{Rose, RoseByOne}
@@ -22,6 +23,7 @@ use Rattle.sb_server.specs.declared.ending.ServeEnding.{ServeEnding}
 use Rattle.sb_server.specs.declared.ending.ServeEnding.TheVariants.{Done, DoorFault, OutOfMemory}
 use Rattle.sb_words.specs.Words.{idle_time_in, request_time_in}
 use Rattle.sb_app.specs.Backing.{IsBacked, IsChronicle, IsFound}
+use Rattle.sb_app.specs.Checkpoints.{IsCheckpointed}
 use Rattle.sb_app.specs.Checks.{IsLineTold}
 use Rattle.sb_app.specs.Endings.{IsLineWritten, status_of_end}
 use Rattle.sb_app.specs.Jumps.{jumps, jump_line, IsSettled}
@@ -184,3 +186,19 @@ pub record IsServeCall {R : Type 0} (reads : ℕ → Type 0) (days : ℕ) (goes_
   pub complete : AreHonest was.disks → IsFreeServing count salt was now doors doors_now → (status ≡ 0) ⊎ (status ≡ 7) ⊎ (status ≡ 14)
   pub unread : now.input ≡ was.input
   pub honesty : SameHonesty was.disks now.disks
+
+-- ---- a server with a checkpoint at its end
+
+-- The doors were served as any server does, which left the disks so, with this status. Then, where that was 0, a checkpoint was made, and
+-- nothing more was read or written.
+pub record IsCheckpointServer {R : Type 0} (reads : ℕ → Type 0) (days : ℕ) (goes_on : Bool) (Works : Open → Worker R → Type 0) (count : R → ℕ) (salt : ℕ) (was now : Outside) (doors doors_now : List R) (status : ℕ) : Type 0 where
+  pub served : Disks
+  pub served_status : ℕ
+  pub call : IsServeCall reads days goes_on Works count salt was (record now { disks = served }) doors doors_now served_status
+  pub whole : served_status ≡ 0 → IsCheckpointed salt served now.disks served_status status
+  pub early : served_status ≢ 0 → (status ≡ served_status) × (now.disks ≡ served)
+
+-- A server's call, by whether it makes a checkpoint at its end.
+abbrev pub IsServer : {R : Type 0} → (checkpoint : Bool) → (reads : ℕ → Type 0) → (days : ℕ) → (goes_on : Bool) → (Open → Worker R → Type 0) → (count : R → ℕ) → (salt : ℕ) → (was now : Outside) → (doors doors_now : List R) → (status : ℕ) → Type 0
+IsServer false reads days goes_on Works count salt was now doors doors_now status = IsServeCall reads days goes_on Works count salt was now doors doors_now status
+IsServer true reads days goes_on Works count salt was now doors doors_now status = IsCheckpointServer reads days goes_on Works count salt was now doors doors_now status

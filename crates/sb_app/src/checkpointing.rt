@@ -1,5 +1,5 @@
-// A run, and a checkpoint at its end.
-ghost use Rattle.std.specs.Prelude.{◌≡◌, ◌≢◌, ◌≤◌, ℕ, Bool, None};
+// A checkpoint at the end of a run, or of a server.
+ghost use Rattle.std.specs.Prelude.{◌≡◌, ◌≢◌, ◌≤◌, ℕ, Bool, false, true, None};
 ghost use Rattle.sb_journal.specs.Disks.{SameHonesty};
 ghost use Rattle.sb_node.specs.Nodes.{node_stopped, node_disks, IsKept};
 ghost use Rattle.sb_app.specs.Outside.{outside_of};
@@ -55,7 +55,23 @@ fn end_run<D: Disk>(node: &mut Node<D>, ran: u8) -> u8
     checkpoint_status(node, ran)
 }
 
-// Makes a checkpoint behind a run with the status 0 or 1, and gives the status that tells of both.
+/// Makes a checkpoint behind a server with this status, where one is asked for and it served to a good end,
+/// at 0. The status is the server's, or of the checkpoint 5 for a disk that failed and 7 for want of memory.
+pub fn end_server<D: Disk>(node: &mut Node<D>, served: u8, checkpoint: bool) -> u8
+    requires running { served ≡ 0 → node_stopped node.old ≡ None }
+    ensures unasked { checkpoint ≡ false → (result ≡ served) × (node_disks node.new ≡ node_disks node.old) }
+    ensures early { served ≢ 0 → (result ≡ served) × (node_disks node.new ≡ node_disks node.old) }
+    ensures ends { checkpoint ≡ true → served ≡ 0 → EndsCheckpoint (node_disks node.old) (node_disks node.new) served result }
+    ensures has { checkpoint ≡ true → served ≡ 0 → IsKept node.old → (salt : ℕ) → HasCheckpoint salt (node_disks node.old) (node_disks node.new) served result }
+    ensures honesty { SameHonesty (node_disks node.old) (node_disks node.new) }
+{
+    if checkpoint && served == 0 {
+        return checkpoint_status(node, served);
+    }
+    served
+}
+
+// Makes a checkpoint behind a run or a server with the status 0 or 1, and gives the status that tells of both.
 fn checkpoint_status<D: Disk>(node: &mut Node<D>, ran: u8) -> u8
     requires whole { ran ≤ 1 }
     requires running { node_stopped node.old ≡ None }

@@ -9,7 +9,7 @@ ghost use Rattle.sb_app.specs.Outside.{outside_of};
 ghost use Rattle.sb_app.specs.Clients.{exchanges_of};
 ghost use Rattle.sb_app.specs.Calls.{IsCall, IsNamed, task_in};
 ghost use Rattle.sb_app.specs.Calls as calls;
-ghost use Rattle.sb_app.specs.Servings.{IsServeCall, limits_for, limits_in};
+ghost use Rattle.sb_app.specs.Servings.{limits_for, limits_in, IsServer};
 
 use crate::alone::carry_out;
 use crate::notices::{Notice, Watcher};
@@ -67,7 +67,8 @@ pub fn top_alone<D: Disk, C: Clock, S: Source, K: Sink, N: Link>(
 /// doors to whom `access` lets in, each door by a worker, all in the calling thread,
 /// which waits in the lobby, and ends once all workers have; its status is 0, 4 to 8 or 14 as
 /// `serve_over` says, and the watcher is told of it; where the words let it make checkpoints by itself, all
-/// callers wait while one is written. All else is `top_alone`, and the doors, the lobby
+/// callers wait while one is written. Where they ask for one at the end it is made behind a status 0, and its
+/// fault, 5 or 7, is the status. All else is `top_alone`, and the doors, the lobby
 /// and the watcher aren't used.
 #[tactic(auto, using(crate::proofs::Calls::unnamed))]
 pub fn top<
@@ -102,7 +103,7 @@ where
     ensures done { command_in (map (λ w. w.now) words.now) ≢ Some Serve
         → IfSome result.1 (λ disks. IsCall (C.reads clock.now) (max_jump_in (map (λ w. w.now) words.now)) (task_in (map (λ w. w.now) words.now)) salt (outside_of D.Disk S.Source K.Sink disk_a disk_b input.old output.old) (outside_of D.Disk S.Source K.Sink disks.0 disks.1 input.new output.new) (exchanges_of key.now N.Link link.old) (exchanges_of key.now N.Link link.new) result.0) }
     ensures serves { command_in (map (λ w. w.now) words.now) ≡ Some Serve
-        → IfSome result.1 (λ disks. IsServeCall (C.reads clock.now) (max_jump_in (map (λ w. w.now) words.now)) (nat_lt 0 (checkpoint_after_in (map (λ w. w.now) words.now))) (λ desk. Working (ServesBy (C.reads clock.now) access.now (limits_in (map (λ w. w.now) words.now)) R.Conn.left R.Conn.given R.Conn.reads R.Conn.writes) R.left R.taken R.ended R.count R.out desk (connections_in (map (λ w. w.now) words.now))) R.count salt
+        → IfSome result.1 (λ disks. IsServer (checkpoint_in (map (λ w. w.now) words.now)) (C.reads clock.now) (max_jump_in (map (λ w. w.now) words.now)) (nat_lt 0 (checkpoint_after_in (map (λ w. w.now) words.now))) (λ desk. Working (ServesBy (C.reads clock.now) access.now (limits_in (map (λ w. w.now) words.now)) R.Conn.left R.Conn.given R.Conn.reads R.Conn.writes) R.left R.taken R.ended R.count R.out desk (connections_in (map (λ w. w.now) words.now))) R.count salt
         (outside_of D.Disk S.Source K.Sink disk_a disk_b input.old output.old) (outside_of D.Disk S.Source K.Sink disks.0 disks.1 input.new output.new) doors.old.items doors.new.items result.0) }
     ensures usage { result.0 ≡ 2 → command_in (map (λ w. w.now) words.now) ≡ None }
     ensures usage_alone { result.0 ≡ 2 → (result.1 ≡ Some (disk_a, disk_b)) × (input.new ≡ input.old) }
@@ -147,6 +148,7 @@ where
             form.connections,
             form.max_jump,
             form.checkpoint_after,
+            form.checkpoint,
             watcher,
         );
         watcher.tell(Notice::Ended { status });

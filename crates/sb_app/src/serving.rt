@@ -6,9 +6,10 @@ ghost use Rattle.sb_server.specs.Serves.{Working};
 ghost use Rattle.sb_server.specs.Works.{ServesBy};
 ghost use Rattle.sb_app.specs.Checks.{IsLineTold};
 ghost use Rattle.sb_app.specs.Outside.{Input, output_of};
-ghost use Rattle.sb_app.specs.Servings.{IsServeCall, serve_status};
+ghost use Rattle.sb_app.specs.Servings.{IsServer, serve_status};
 ghost use Rattle.sb_app.specs.Servings as servings;
 
+use crate::checkpointing::end_server;
 use crate::jump::{hold_server, jump_status};
 use crate::notices::Watcher;
 use crate::opening::open_node;
@@ -32,8 +33,9 @@ use std::thread::Threads;
 /// Once the records behind the base of its journal's file take more than `checkpoint_after` bytes, and at
 /// least twice the bytes of the base, the next call is preceded by a checkpoint: the state is written as the
 /// base of a new file on the other disk, with which the journal goes on. All callers wait meanwhile. By 0
-/// there is none.
-#[tactic(auto, using(crate::proofs::Servings::unserved_at_once))]
+/// there is none. With `checkpoint` one more is made behind a status 0, once all workers have ended and the
+/// numbers are told: then its fault, 5 or 7, is the status.
+#[tactic(auto, using(crate::proofs::Ends::unserved_server))]
 pub fn serve_over<
     T: Threads + Wait + Sync,
     D: Disk + Send,
@@ -57,11 +59,12 @@ pub fn serve_over<
     most: u64,
     max_jump: u32,
     checkpoint_after: u64,
+    checkpoint: bool,
     watcher: &W,
 ) -> (u8, D, D)
 where
     R::Conn: Send,
-    ensures { (input : Input) → IsServeCall (C.reads clock.now) max_jump (nat_lt 0 checkpoint_after) (λ desk. Working (ServesBy (C.reads clock.now) access.now limits R.Conn.left R.Conn.given R.Conn.reads R.Conn.writes) R.left R.taken R.ended R.count R.out desk most) R.count salt
+    ensures { (input : Input) → IsServer checkpoint (C.reads clock.now) max_jump (nat_lt 0 checkpoint_after) (λ desk. Working (ServesBy (C.reads clock.now) access.now limits R.Conn.left R.Conn.given R.Conn.reads R.Conn.writes) R.left R.taken R.ended R.count R.out desk most) R.count salt
         (record { input = input; output = output_of K.Sink output.old; disks = disks_of D.Disk disk_a disk_b }) (record { input = input; output = output_of K.Sink output.new; disks = disks_of D.Disk result.1 result.2 })
         doors.old.items doors.new.items result.0 }
 {
@@ -107,12 +110,13 @@ where
         most,
     );
     drop(routes);
-    let (node, report) = match desk.close(passes) {
+    let (mut node, report) = match desk.close(passes) {
         Ok(closed) => closed,
         Err(_fault) => unreachable!(),
     };
     let told = tell_report(alloc, output, report);
-    let status = status_of(node.stopped(), ending, told);
+    let served = status_of(node.stopped(), ending, told);
+    let status = end_server(&mut node, served, checkpoint);
     let (disk_a, disk_b) = node.close();
     (status, disk_a, disk_b)
 }

@@ -1,5 +1,5 @@
-// A server that makes a checkpoint by itself: the journal goes on with a file on the other disk, and what was
-// sent before and behind it is there. The lines were worked out by hand.
+// A server that makes a checkpoint by itself, and one that makes one at its end: the journal goes on with a file
+// on the other disk, and all that was sent is there. The lines were worked out by hand.
 use sb_app::NoWatcher;
 use sb_calls::{
     ONE_EVENT, bytes_of, called_over, connection_of, disks_of, doors_of, ran_on_both, sink_of,
@@ -29,6 +29,17 @@ const SERVE_ALONE: [&str; 6] = [
     "--port",
     "8080",
     "--checkpoint-after=0",
+];
+
+// At its end alone.
+const SERVE_TO_AN_END: [&str; 7] = [
+    "serve",
+    "--data",
+    "data",
+    "--port",
+    "8080",
+    "--checkpoint-after=0",
+    "--checkpoint",
 ];
 
 const CHECK: [&str; 2] = ["check", "--data=."];
@@ -211,5 +222,16 @@ fn a_server_stays_with_its_disk(rt: HostRuntime) -> Result<(), Fail> {
     let tried = tried(rt.alloc(), &left);
     drop(left);
     assert_eq!(rt; (is_left, tried?), (true, (true, false, true)));
+    Ok(())
+}
+
+// Its end is a checkpoint: disk b counts, and the file of disk a is closed.
+#[test]
+fn a_server_ends_with_a_checkpoint(rt: HostRuntime) -> Result<(), Fail> {
+    let left = images_left(&rt, &rt, &SERVE_TO_AN_END)?;
+    let is_closed = left.disk_a.first() == Some(&0);
+    let tried = tried(rt.alloc(), &left);
+    drop(left);
+    assert_eq!(rt; (is_closed, tried?), (true, (true, true, true)));
     Ok(())
 }

@@ -63,15 +63,17 @@ others = (run_with (codes "--max-jump=7"), record (over Run (codes "a")) { max_j
     ∷ (client_with (codes "--key=k"), record (with_port 80) { key_file = codes "k" }) ∷ (client_with (codes "--patience=7200"), record (with_port 80) { patience = 7200 })
     ∷ (client_with (codes "--patience=1"), record (with_port 80) { patience = 1 }) ∷ []
 
--- words of runs that make a checkpoint at their end, and the form
+-- words of runs and servers that make a checkpoint at their end, and the form
 abbrev pub checkpoints : List (List Text × Form)
 checkpoints = (run_with (codes "--checkpoint"), record (over Run (codes "a")) { checkpoint = true })
-    ∷ (codes "run" ∷ codes "--checkpoint" ∷ codes "--max-jump=7" ∷ codes "--data" ∷ codes "a" ∷ [], record (over Run (codes "a")) { max_jump = 7; checkpoint = true }) ∷ []
+    ∷ (codes "run" ∷ codes "--checkpoint" ∷ codes "--max-jump=7" ∷ codes "--data" ∷ codes "a" ∷ [], record (over Run (codes "a")) { max_jump = 7; checkpoint = true })
+    ∷ (serve_with (codes "--checkpoint" ∷ codes "--checkpoint-after=0" ∷ []), record (serving 1024 (2 ^ 64 - 1)) { checkpoint = true; checkpoint_after = 0 })
+    ∷ (codes "serve" ∷ codes "--checkpoint" ∷ codes "--data=a" ∷ codes "--port=80" ∷ [], record (serving 1024 (2 ^ 64 - 1)) { checkpoint = true }) ∷ []
 
 -- the flag with a value, given twice, alone, or with another command
 abbrev pub no_checkpoints : List (List Text)
 no_checkpoints = run_with (codes "--checkpoint=true") ∷ (codes "run" ∷ codes "--checkpoint" ∷ codes "--data=a" ∷ codes "--checkpoint" ∷ []) ∷ (codes "run" ∷ codes "--checkpoint" ∷ [])
-    ∷ check_with (codes "--checkpoint") ∷ client_with (codes "--checkpoint") ∷ serve_with (codes "--checkpoint" ∷ []) ∷ (codes "drill" ∷ codes "5" ∷ codes "7" ∷ codes "--checkpoint" ∷ []) ∷ []
+    ∷ check_with (codes "--checkpoint") ∷ client_with (codes "--checkpoint") ∷ serve_with (codes "--checkpoint=true" ∷ []) ∷ serve_with (codes "--checkpoint" ∷ codes "--checkpoint" ∷ []) ∷ (codes "drill" ∷ codes "5" ∷ codes "7" ∷ codes "--checkpoint" ∷ []) ∷ []
 
 -- the options of a server that say when it makes a checkpoint, and the form
 abbrev pub savers : List (List Text × Form)

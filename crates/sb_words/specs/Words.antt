@@ -57,13 +57,17 @@ client_command = (with_rule (with_rule (with_rule (new_app (codes "client")) por
 abbrev pub plain_server : App
 plain_server = with_rule (with_rule (with_rule (with_rule (new_app (codes "serve")) data_option) port_option) (value_option (codes "workers"))) (value_option (codes "threads"))
 
--- the same, with its limits, whether each call is told, and when it makes a checkpoint
+-- the same, with its limits, and whether each call is told
 abbrev pub limited_server : App
-limited_server = with_rule (with_rule (with_rule (with_rule plain_server (value_option (codes "connections"))) (value_option (codes "max-jump"))) (flag_option (codes "log"))) (value_option (codes "checkpoint-after"))
+limited_server = with_rule (with_rule (with_rule plain_server (value_option (codes "connections"))) (value_option (codes "max-jump"))) (flag_option (codes "log"))
+
+-- the same, with when it makes checkpoints
+abbrev pub saving_server : App
+saving_server = with_rule (with_rule limited_server (value_option (codes "checkpoint-after"))) (flag_option (codes "checkpoint"))
 
 -- the same, with its limits of time
 abbrev pub timed_server : App
-timed_server = with_rule (with_rule limited_server (value_option (codes "request-time"))) (value_option (codes "idle-time"))
+timed_server = with_rule (with_rule saving_server (value_option (codes "request-time"))) (value_option (codes "idle-time"))
 
 -- `serve`, with all its options
 abbrev pub serve_command : Shape
@@ -300,6 +304,11 @@ abbrev pub with_checkpoint_after : Option Form → Option ℕ → Option Form
 with_checkpoint_after (Some form) (Some checkpoint_after) = Some (record form { checkpoint_after = checkpoint_after })
 with_checkpoint_after _ _ = None
 
+-- whether it makes one at its end, in a form that is there
+abbrev pub with_checkpoint : Option Form → Bool → Option Form
+with_checkpoint None checkpoint = None
+with_checkpoint (Some form) checkpoint = Some (record form { checkpoint = checkpoint })
+
 -- all five have to be there
 abbrev pub open_server_at : Option Text → (port workers connections max_jump : Option ℕ) → Option Form
 open_server_at (Some folder) (Some port) (Some workers) (Some connections) (Some max_jump) = Some (record (form_of Serve) { folder = folder; port = port; workers = workers; connections = connections; max_jump = max_jump })
@@ -327,7 +336,7 @@ timed_server_in rows = with_times (open_server_in rows) (seconds_by 60 (first_of
 
 -- a server by what was found for its options
 abbrev pub serve_in : List Row → Option Form
-serve_in rows = with_checkpoint_after (with_threads (with_log (with_callers (timed_server_in rows) (hosts_by (all_of (codes "host") rows)) (key_by (first_of (codes "key") rows))) (flag_by (first_of (codes "log") rows))) (threads_by (first_of (codes "threads") rows))) (checkpoint_after_by (first_of (codes "checkpoint-after") rows))
+serve_in rows = with_checkpoint (with_checkpoint_after (with_threads (with_log (with_callers (timed_server_in rows) (hosts_by (all_of (codes "host") rows)) (key_by (first_of (codes "key") rows))) (flag_by (first_of (codes "log") rows))) (threads_by (first_of (codes "threads") rows))) (checkpoint_after_by (first_of (codes "checkpoint-after") rows))) (flag_by (first_of (codes "checkpoint") rows))
 
 -- a drill by what was found for its two words
 abbrev pub drill_in : List Row → Option Form
@@ -405,12 +414,12 @@ look_of (Some form) = form.look
 abbrev pub look_in : List Text → Bool
 look_in words = look_of (form_in words)
 
--- whether a form is a run with a checkpoint, if there is one
+-- whether a form is a run or a server with a checkpoint at its end, if there is one
 abbrev pub checkpoint_of : Option Form → Bool
 checkpoint_of None = false
 checkpoint_of (Some form) = form.checkpoint
 
--- a run is to make a checkpoint at its end, as they name it; false where they are no form
+-- a run or a server is to make a checkpoint at its end, as they name it; false where they are no form
 abbrev pub checkpoint_in : List Text → Bool
 checkpoint_in words = checkpoint_of (form_in words)
 

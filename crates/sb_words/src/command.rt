@@ -47,7 +47,7 @@ pub struct Form<'w> {
     pub patience: u16,
     /// A check is to write nothing.
     pub look: bool,
-    /// A run is to make a checkpoint at its end.
+    /// A run or a server is to make a checkpoint at its end.
     pub checkpoint: bool,
     /// A server makes a checkpoint once the records behind the last one take more than so many bytes, up to
     /// 2^62; at 0 it makes none.

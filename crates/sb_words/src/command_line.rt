@@ -93,17 +93,12 @@ fn run_command<'a>(alloc: Global) -> Result<clap::Command<'a>, AllocError>
         "DAYS",
         "The most days that the time of a line may be beyond the clock of the system: 0 to 100000; 0 is any number [default: 0]",
     );
-    let checkpoint = flag_option(
-        alloc,
-        "checkpoint",
-        "At the end write the whole state to the other file, and go on with that one",
-    );
     let about = "Answer the script lines of the input";
     let example = "Example: bus run --data data < orders.script";
     described(alloc, "run", about, example)
         .arg(data_option(alloc))?
         .arg(max_jump)?
-        .arg(checkpoint)
+        .arg(checkpoint_option(alloc))
 }
 
 fn check_command<'a>(alloc: Global) -> Result<clap::Command<'a>, AllocError>
@@ -170,10 +165,26 @@ fn timed_server<'a>(alloc: Global) -> Result<clap::Command<'a>, AllocError>
         "S",
         "For how many seconds a connection is kept without a request: 1 to 86400 [default: 600]",
     );
-    limited_server(alloc)?.arg(request_time)?.arg(idle_time)
+    saving_server(alloc)?.arg(request_time)?.arg(idle_time)
 }
 
-// The server with its limits, whether each call is told, and when it makes a checkpoint.
+// The server with its limits, whether each call is told, and when it makes checkpoints.
+fn saving_server<'a>(alloc: Global) -> Result<clap::Command<'a>, AllocError>
+    ensures app { IfOk result (λ c. app_of c ≡ line.saving_server) }
+    ensures local { IfOk result (λ c. (fields_of c).has_globals ≡ false) }
+{
+    let checkpoint_after = value_option(
+        alloc,
+        "checkpoint-after",
+        "BYTES",
+        "Make a checkpoint once the records behind the last one take more than BYTES, and at least twice the bytes of its base: 0 to 4611686018427387904; 0 is never [default: 268435456]",
+    );
+    limited_server(alloc)?
+        .arg(checkpoint_after)?
+        .arg(checkpoint_option(alloc))
+}
+
+// The server with its limits, and whether each call is told.
 fn limited_server<'a>(alloc: Global) -> Result<clap::Command<'a>, AllocError>
     ensures app { IfOk result (λ c. app_of c ≡ line.limited_server) }
     ensures local { IfOk result (λ c. (fields_of c).has_globals ≡ false) }
@@ -191,17 +202,10 @@ fn limited_server<'a>(alloc: Global) -> Result<clap::Command<'a>, AllocError>
         "The most days that the clock may be ahead of the journal as it opens: 0 to 100000; 0 is any number [default: 400]",
     );
     let log = flag_option(alloc, "log", "Tell each call in a line on standard error");
-    let checkpoint_after = value_option(
-        alloc,
-        "checkpoint-after",
-        "BYTES",
-        "Make a checkpoint once the records behind the last one take more than BYTES, and at least twice the bytes of its base: 0 to 4611686018427387904; 0 is never [default: 268435456]",
-    );
     plain_server(alloc)?
         .arg(connections)?
         .arg(max_jump)?
-        .arg(log)?
-        .arg(checkpoint_after)
+        .arg(log)
 }
 
 // The server with its folder, its port, its workers and its threads.
@@ -262,6 +266,18 @@ fn data_option<'a>(alloc: Global) -> Arg<'a>
         .value_name("DIR")
         .required(true)
         .help("The folder of the journal, which has to be there")
+}
+
+// By it a run or a server makes a checkpoint as it ends.
+fn checkpoint_option<'a>(alloc: Global) -> Arg<'a>
+    ensures rule { rule_of result ≡ line.flag_option (codes "checkpoint") }
+    ensures local { result.global ≡ false }
+{
+    flag_option(
+        alloc,
+        "checkpoint",
+        "At the end write the whole state to the other file, and go on with that one",
+    )
 }
 
 fn port_option<'a>(alloc: Global) -> Arg<'a>

@@ -31,8 +31,8 @@ pub fn worked_threads()
     ensures no_sharer { map form_in no_sharers ≡ nones no_sharers }
 {}
 
-/// Words with the option by which a run makes a checkpoint at its end, and that which says when a server
-/// makes one.
+/// Words with the option by which a run or a server makes a checkpoint at its end, and that which says
+/// when a server makes one by itself.
 pub fn worked_checkpoints()
     ensures checkpoints { map (λ row. form_in row.0) checkpoints ≡ map (λ row. Some row.1) checkpoints }
     ensures no_checkpoint { map form_in no_checkpoints ≡ nones no_checkpoints }

@@ -274,6 +274,7 @@ fn serve_form<'w>(alloc: Global, options: &ArgMatches<'w>) -> Result<Option<Form
     form.log = flag_of(word_of(options, "log"));
     form.threads = threads;
     form.checkpoint_after = checkpoint_after;
+    form.checkpoint = flag_of(word_of(options, "checkpoint"));
     Ok(Some(form))
 }
 

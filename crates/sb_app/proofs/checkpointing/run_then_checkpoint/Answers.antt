@@ -1,9 +1,9 @@
-use Rattle.std.proofs.Common.{subst}
+use Rattle.std.proofs.Common.{refl, subst}
 use Rattle.sb_journal.specs.Disks.{disks_of}
-use Rattle.sb_node.specs.Nodes.{node_state, node_disks, IsKept}
+use Rattle.sb_node.specs.Nodes.{node_disk_a, node_disk_b, node_disks, node_state, IsKept}
 use Rattle.sb_app.specs.Outside.{input_of, output_of, outside_of}
 use Rattle.sb_app.specs.Nodes.{outside_with}
-use Rattle.sb_app.proofs.Whole.{kept_recovers, kept_durable}
+use Rattle.sb_app.proofs.Whole.{closed_aside, kept_recovers, kept_durable}
 use Rattle.sb_app.proofs.Carried.{IsEnded, run_over}
 use Rattle.sb_app.proofs.Checkpoints.{checkpoint_run, no_two_checkpoint, unopened_checkpoint, unopened_usage}
 use Rattle.sb_app.proofs.checkpointing.run_then_checkpoint.Goals as goal
@@ -48,7 +48,8 @@ returns-clause-done g c =
     let over = run_over (g.C.Clock.reads c.args.clock.now) c.args.max_jump (IsKept first) c.args.salt was now (node_disks first) (node_state first) (node_state last) status c.in-Ok.ensures.opened from_here in
     let then_made = c.end_run-status.ensures in
     checkpoint_run (g.C.Clock.reads c.args.clock.now) c.args.max_jump c.args.salt was (input_of g.S.Source input) (output_of g.K.Sink output) last after c.close-disk_a.result.0 c.close-disk_a.result.1 status c.end_run-status.result over
-    (λ honest sound. ran.kept (c.in-Ok.ensures.opened.safe honest) sound) then_made.early then_made.ends then_made.has then_made.honesty c.close-disk_a.ensures.disk_a c.close-disk_a.ensures.disk_b
+    (λ honest sound. ran.kept (c.in-Ok.ensures.opened.safe honest) sound) then_made.early then_made.ends then_made.has then_made.honesty
+    (λ honest. closed_aside first last (node_disk_a last) (node_disk_b last) c.args.salt was.disks ran.aside refl refl (c.in-Ok.ensures.counts honest) (c.in-Ok.ensures.opened.opens honest)) c.close-disk_a.ensures.disk_a c.close-disk_a.ensures.disk_b
 
 pub returns-clause-usage : goal.returns-clause-usage
 returns-clause-usage g c = no_two_checkpoint _ _ _ _ _ _ (returns-clause-done g c)

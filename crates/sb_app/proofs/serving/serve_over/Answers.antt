@@ -18,9 +18,10 @@ use Rattle.sb_machine.specs.declared.state.State.{State}
 use Rattle.sb_app.specs.Held.{IsJumpStatus, IsOvertaken}
 use Rattle.sb_app.specs.Jumps.{IsSettled}
 use Rattle.sb_app.specs.Outside.{Outside, output_of}
-use Rattle.sb_app.specs.Servings.{IsServeCall, passes_for, report_line, serve_status}
+use Rattle.sb_app.specs.Servings.{passes_for, report_line, serve_status, IsServeCall, IsServer}
 use Rattle.sb_node.proofs.Crossing.{node_send}
-use Rattle.sb_app.proofs.Servings.{IsClosed, IsWorked, closed_node, each_of, failed_call, jumped_call, served_call, unserved_call}
+use Rattle.sb_app.proofs.Servings.{IsClosed, IsWorked, closed_node, each_of, jumped_call, served_call, unserved_call}
+use Rattle.sb_app.proofs.Ends.{ended_server, failed_server, not_served, served_runs, unmade}
 use Rattle.sb_app.proofs.Whole.{kept_recovers}
 use Rattle.sb_app.proofs.serving.serve_over.Goals as goal
 
@@ -29,7 +30,7 @@ returns-in-Err g c input =
     let was : Outside = record { input = input; output = output_of g.K.Sink c.args.output.now; disks = disks_of g.D.Disk c.args.disk_a c.args.disk_b } in
     let failed = c.in-Err.failed in
     let fails = c.in-Err.ensures.failed in
-    failed_call (g.C.Clock.reads c.args.clock.now) c.args.max_jump (nat_lt 0 c.args.checkpoint_after) _ g.R.Door.count c.args.salt was (disks_of g.D.Disk failed.1 failed.2) (output_of g.K.Sink c.open_node.new.output) c.args.doors.now.items fails.0 failed.0 fails.1
+    failed_server c.args.checkpoint (g.C.Clock.reads c.args.clock.now) c.args.max_jump (nat_lt 0 c.args.checkpoint_after) _ g.R.Door.count c.args.salt was (disks_of g.D.Disk failed.1 failed.2) (output_of g.K.Sink c.open_node.new.output) c.args.doors.now.items fails.0 failed.0 fails.1
 
 pub returns-in-Err-new : goal.returns-in-Err-new
 returns-in-Err-new g c input =
@@ -40,10 +41,11 @@ returns-in-Err-new g c input =
     let node = c.in-Ok-open_node.node in
     let back = c.node_back.ensures ∙ c.in-Err-new.ensures.value in
     let same = c.go_on_after.ensures.journal in
-    let over = unserved_call (g.C.Clock.reads c.args.clock.now) c.args.max_jump goes_on works g.R.Door.count (IsKept node) c.args.salt was (node_disks node) doors (node_state node) c.in-Ok-open_node.ensures.opened (kept_recovers node c.args.salt) in
-    let unsaid = subst (λ o. IsServeCall (g.C.Clock.reads c.args.clock.now) c.args.max_jump goes_on works g.R.Door.count c.args.salt was (record was { output = output_of g.K.Sink o; disks = node_disks node }) doors doors 7) (sym c.in-Ok-open_node.ensures.unsaid) over in
-    subst (λ a. IsServeCall (g.C.Clock.reads c.args.clock.now) c.args.max_jump goes_on works g.R.Door.count c.args.salt was (record was { output = output_of g.K.Sink c.open_node.new.output; disks = disks_of g.D.Disk a c.close-disk_a-in-Err-new.result.1 }) doors doors 7) (sym (c.close-disk_a-in-Err-new.ensures.disk_a ∙ ap node_disk_a back ∙ ap journal_disk_a same))
-    (subst (λ b. IsServeCall (g.C.Clock.reads c.args.clock.now) c.args.max_jump goes_on works g.R.Door.count c.args.salt was (record was { output = output_of g.K.Sink c.open_node.new.output; disks = disks_of g.D.Disk (node_disk_a node) b }) doors doors 7) (sym (c.close-disk_a-in-Err-new.ensures.disk_b ∙ ap node_disk_b back ∙ ap journal_disk_b same)) unsaid)
+    let call = unserved_call (g.C.Clock.reads c.args.clock.now) c.args.max_jump goes_on works g.R.Door.count (IsKept node) c.args.salt was (node_disks node) doors (node_state node) c.in-Ok-open_node.ensures.opened (kept_recovers node c.args.salt) in
+    let over = unmade c.args.checkpoint (g.C.Clock.reads c.args.clock.now) c.args.max_jump goes_on works g.R.Door.count c.args.salt was (record was { disks = node_disks node }) doors doors 7 (λ is. absurd cc) call in
+    let unsaid = subst (λ o. IsServer c.args.checkpoint (g.C.Clock.reads c.args.clock.now) c.args.max_jump goes_on works g.R.Door.count c.args.salt was (record was { output = output_of g.K.Sink o; disks = node_disks node }) doors doors 7) (sym c.in-Ok-open_node.ensures.unsaid) over in
+    subst (λ a. IsServer c.args.checkpoint (g.C.Clock.reads c.args.clock.now) c.args.max_jump goes_on works g.R.Door.count c.args.salt was (record was { output = output_of g.K.Sink c.open_node.new.output; disks = disks_of g.D.Disk a c.close-disk_a-in-Err-new.result.1 }) doors doors 7) (sym (c.close-disk_a-in-Err-new.ensures.disk_a ∙ ap node_disk_a back ∙ ap journal_disk_a same))
+    (subst (λ b. IsServer c.args.checkpoint (g.C.Clock.reads c.args.clock.now) c.args.max_jump goes_on works g.R.Door.count c.args.salt was (record was { output = output_of g.K.Sink c.open_node.new.output; disks = disks_of g.D.Disk (node_disk_a node) b }) doors doors 7) (sym (c.close-disk_a-in-Err-new.ensures.disk_b ∙ ap node_disk_b back ∙ ap journal_disk_b same)) unsaid)
 
 pub new-requires-2-clause-stands : goal.new-requires-2-clause-stands
 new-requires-2-clause-stands g c =
@@ -55,6 +57,11 @@ serve-ending-requires-send-V g c κs within = param_send 0 _ (arg_send _ exit.no
 
 pub serve-ending-requires-clause-desk : goal.serve-ending-requires-clause-desk
 serve-ending-requires-clause-desk g c κs within = each_of c.in-Ok-new.opened.0 _ c.in-Ok-new.ensures.passes.1
+
+pub end_server-status-requires : goal.end_server-status-requires
+end_server-status-requires g c =
+    let status = c.status_of-served.ensures ∙ ap (λ b. serve_status b c.serve-ending.result c.tell_report-told.result) c.stopped.ensures in
+    record { running = λ is. served_runs (node_stopped c.in-Ok-close.closed.0) c.serve-ending.result c.tell_report-told.result (sym status ∙ is) }
 
 pub returns : goal.returns
 returns g c input =
@@ -101,10 +108,11 @@ returns g c input =
     in
     let line = subst (λ o. IsLineTold (report_line report) (output_of g.K.Sink o) (output_of g.K.Sink output) told) opened.unsaid c.tell_report-told.ensures in
     let over = served_call (g.C.Clock.reads c.args.clock.now) c.args.max_jump goes_on works g.R.Door.count (IsKept first) c.args.salt was now (node_disks first) doors doors_now ok.0 desk passes passes_now ending report stopped told (λ w does. does.stops.faults) opening settled origin worked ok.3 closed line refl in
-    let status = c.status_of-status.ensures ∙ ap (λ b. serve_status b ending told) c.stopped.ensures in
+    let status = c.status_of-served.ensures ∙ ap (λ b. serve_status b ending told) c.stopped.ensures in
     let told_so = subst (IsServeCall (g.C.Clock.reads c.args.clock.now) c.args.max_jump goes_on works g.R.Door.count c.args.salt was now doors doors_now) (sym status) over in
-    subst (λ a. IsServeCall (g.C.Clock.reads c.args.clock.now) c.args.max_jump goes_on works g.R.Door.count c.args.salt was (record now { disks = disks_of g.D.Disk a c.close-disk_a-2.result.1 }) doors doors_now c.status_of-status.result) (sym c.close-disk_a-2.ensures.disk_a)
-    (subst (λ b. IsServeCall (g.C.Clock.reads c.args.clock.now) c.args.max_jump goes_on works g.R.Door.count c.args.salt was (record now { disks = disks_of g.D.Disk (node_disk_a last) b }) doors doors_now c.status_of-status.result) (sym c.close-disk_a-2.ensures.disk_b) told_so)
+    let end = c.end_server-status.ensures in
+    ended_server c.args.checkpoint (g.C.Clock.reads c.args.clock.now) c.args.max_jump goes_on works g.R.Door.count c.args.salt was input (output_of g.K.Sink output) doors doors_now last c.end_server-status.new.node c.close-disk_a-2.result.0 c.close-disk_a-2.result.1 c.status_of-served.result c.end_server-status.result told_so
+    (λ honest is. ok.1.kept honest (served_runs (node_stopped last) ending told (sym status ∙ is))) end.unasked end.early end.ends end.has end.honesty c.close-disk_a-2.ensures.disk_a c.close-disk_a-2.ensures.disk_b
 
 pub returns-in-Err-hold_server : goal.returns-in-Err-hold_server
 returns-in-Err-hold_server g c input =
@@ -119,6 +127,7 @@ returns-in-Err-hold_server g c input =
     let moment = ap (λ (o : Summary). o.now) c.summary.ensures.numbers in
     let far = subst (λ (m : ℕ). IsOvertaken (g.C.Clock.reads c.args.clock.now) c.args.max_jump m jump) moment c.in-Err-hold_server.ensures.err in
     let told = subst (λ o. IsJumpStatus jump (output_of g.K.Sink o) output status) c.in-Ok-open_node.ensures.unsaid c.jump_status-status.ensures in
-    let over = jumped_call (g.C.Clock.reads c.args.clock.now) c.args.max_jump goes_on works g.R.Door.count (IsKept node) c.args.salt was (node_disks node) output doors (node_state node) jump status c.in-Ok-open_node.ensures.opened (kept_recovers node c.args.salt) far told in
-    subst (λ a. IsServeCall (g.C.Clock.reads c.args.clock.now) c.args.max_jump goes_on works g.R.Door.count c.args.salt was (record was { output = output; disks = disks_of g.D.Disk a c.close-disk_a.result.1 }) doors doors status) (sym c.close-disk_a.ensures.disk_a)
-    (subst (λ b. IsServeCall (g.C.Clock.reads c.args.clock.now) c.args.max_jump goes_on works g.R.Door.count c.args.salt was (record was { output = output; disks = disks_of g.D.Disk (node_disk_a node) b }) doors doors status) (sym c.close-disk_a.ensures.disk_b) over)
+    let call = jumped_call (g.C.Clock.reads c.args.clock.now) c.args.max_jump goes_on works g.R.Door.count (IsKept node) c.args.salt was (node_disks node) output doors (node_state node) jump status c.in-Ok-open_node.ensures.opened (kept_recovers node c.args.salt) far told in
+    let over = unmade c.args.checkpoint (g.C.Clock.reads c.args.clock.now) c.args.max_jump goes_on works g.R.Door.count c.args.salt was (record was { output = output; disks = node_disks node }) doors doors status (not_served jump _ output status told) call in
+    subst (λ a. IsServer c.args.checkpoint (g.C.Clock.reads c.args.clock.now) c.args.max_jump goes_on works g.R.Door.count c.args.salt was (record was { output = output; disks = disks_of g.D.Disk a c.close-disk_a.result.1 }) doors doors status) (sym c.close-disk_a.ensures.disk_a)
+    (subst (λ b. IsServer c.args.checkpoint (g.C.Clock.reads c.args.clock.now) c.args.max_jump goes_on works g.R.Door.count c.args.salt was (record was { output = output; disks = disks_of g.D.Disk (node_disk_a node) b }) doors doors status) (sym c.close-disk_a.ensures.disk_b) over)
