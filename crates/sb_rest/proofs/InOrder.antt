@@ -1,5 +1,5 @@
 -- The lists of a call that a request asks for stand in their order.
-use Rattle.std.proofs.Common.{ℕ, suc, Bool, true, false, List, [], ◌∷◌, Option, Some, None, refl, subst}
+use Rattle.std.proofs.Common.{ℕ, Bool, true, false, List, [], ◌∷◌, Option, Some, None, refl, subst}
 use Rattle.std.specs.Prelude.{codes, bytes_eq, if◌then◌else◌, Result, Ok, Err, IfOk}
 use Rattle.std.specs.Str.{str_to_ascii_lowercase}
 use Rattle.serde_json.specs.Data.{Data, Items, no_items, item, Members, no_members, member}
@@ -11,9 +11,8 @@ use Rattle.sb_model.specs.declared.message.SystemName.TheVariants.{ContentType}
 use Rattle.sb_machine.specs.Each.{Each}
 use Rattle.sb_machine.specs.Ordered.{IsActInOrder}
 use Rattle.sb_machine.specs.declared.call.Act.{Act}
-use Rattle.sb_machine.specs.declared.call.Act.TheVariants.{Cancel, Receive, ReceiveDeferred, Renew}
+use Rattle.sb_machine.specs.declared.call.Act.TheVariants.{Accept, Cancel, Receive, ReceiveDeferred, Renew, SessionClose, SessionRenew, SessionSet, SessionState}
 use Rattle.sb_machine.specs.declared.call.How.TheVariants.{Complete}
-use Rattle.sb_machine.specs.declared.call.Mode.{Mode}
 use Rattle.sb_machine.specs.declared.call.Which.TheVariants.{Id}
 use Rattle.sb_http.specs.Fields.{Field, same_word}
 use Rattle.sb_http.specs.Messages.{RequestMessage}
@@ -32,6 +31,8 @@ use Rattle.sb_rest.specs.declared.asked.Asked.{Asked}
 use Rattle.sb_rest.specs.declared.asked.Asked.TheVariants as asked
 use Rattle.sb_rest.specs.declared.asked.PathAct.{PathAct}
 use Rattle.sb_rest.specs.declared.asked.PathAct.TheVariants as act
+use Rattle.sb_rest.specs.declared.asked.Scope.{Scope}
+use Rattle.sb_rest.specs.declared.asked.Scope.TheVariants as scope
 use Rattle.sb_rest.specs.declared.call.RestFault.{RestFault}
 use Rattle.sb_rest.specs.declared.call.RestFault.TheVariants.{Foreign, NoKey, BadMethod, Script}
 use Rattle.sb_rest.specs.declared.call.Wanted.{Wanted}
@@ -42,7 +43,7 @@ use Rattle.sb_rest.specs.Batches as batches
 use Rattle.sb_rest.specs.Headers as headers
 use Rattle.sb_rest.specs.Calls as calls
 use Rattle.sb_rest.specs.Callers.{is_foreign, has_key}
-use Rattle.sb_rest.specs.Dispositions.{disposition_in, how_of}
+use Rattle.sb_rest.specs.Dispositions.{disposition_in, how_of, unless_empty}
 use Rattle.sb_rest.specs.Lifetimes.{lifetime_in}
 use Rattle.sb_rest.specs.Repeats.{by_of}
 use Rattle.sb_rest.specs.Reserved.{is_reserved}
@@ -176,16 +177,25 @@ asked_holds_with query fields act holds =
     known_holds IsWantedInOrder (calls.beside query fields) (λ b. Ok (calls.in_time b.1 a b.0)) (λ b. is))
 
 act_holds : (a : PathAct) (path : List ℕ) → Holds IsActInOrder (calls.act_in a path)
-act_holds (act.Take a mode) path = known_holds IsActInOrder (calls.address_in a path) (λ from. Ok (Receive from mode None)) (λ from. tt)
-act_holds (act.TakeDeferred a mode) path = known_holds IsActInOrder (calls.numbered_in a path) (λ x. Ok (ReceiveDeferred x.0 x.1 mode None)) (λ x. tt)
-act_holds (act.Complete a) path = known_holds IsActInOrder (calls.locked_in a path) (λ l. Ok (calls.settled Complete l)) (λ l. tt)
-act_holds (act.Renew a) path = known_holds IsActInOrder (calls.locked_in a path) (λ l. Ok (Renew l.0 (Id l.1) l.2)) (λ l. tt)
-act_holds (act.Cancel a) path = known_holds IsActInOrder (calls.numbered_in a path) (λ x. Ok (Cancel x.0 x.1)) (λ x. tt)
+act_holds (act.Take a s mode) path = known_holds IsActInOrder (calls.scope_in a s path) (λ x. Ok (Receive x.0 mode x.1)) (λ x. tt)
+act_holds (act.TakeDeferred a s mode) path = known_holds IsActInOrder (calls.numbered_in a s path) (λ x. Ok (ReceiveDeferred x.0 x.2 mode x.1)) (λ x. tt)
+act_holds (act.Complete a s) path = known_holds IsActInOrder (calls.locked_in a s path) (λ l. Ok (calls.settled Complete l)) (λ l. tt)
+act_holds (act.Renew a) path = known_holds IsActInOrder (calls.locked_in a scope.Whole path) (λ l. Ok (Renew l.0 (Id l.2) l.3)) (λ l. tt)
+act_holds (act.Cancel a) path = known_holds IsActInOrder (calls.numbered_in a scope.Whole path) (λ x. Ok (Cancel x.0 x.2)) (λ x. tt)
+act_holds (act.AcceptNext a) path = known_holds IsActInOrder (calls.address_in a path) (λ from. Ok (Accept from None)) (λ from. tt)
+act_holds (act.AcceptNamed a) path =
+    known_holds IsActInOrder (calls.address_in a path) _ (λ from. known_holds IsActInOrder (calls.text_in (calls.id_place a) path) (λ id. Ok (Accept from (Some id))) (λ id. tt))
+act_holds (act.RenewSession a) path = known_holds IsActInOrder (calls.held_in a path) (λ h. Ok (SessionRenew h.0 h.1)) (λ h. tt)
+act_holds (act.CloseSession a) path = known_holds IsActInOrder (calls.held_in a path) (λ h. Ok (SessionClose h.0 h.1)) (λ h. tt)
+act_holds (act.ReadState a) path = known_holds IsActInOrder (calls.held_in a path) (λ h. Ok (SessionState h.0 h.1)) (λ h. tt)
 
-put_holds : (a : Address) (path query : List ℕ) (fields : List Field) → Holds IsWantedInOrder (calls.put a path query fields)
+state_holds : (a : Address) (path body : List ℕ) → Holds IsActInOrder (calls.remembered a path body)
+state_holds a path body = known_holds IsActInOrder (calls.held_in a path) (λ h. Ok (SessionSet h.0 h.1 (unless_empty body))) (λ h. tt)
+
+put_holds : (a : Address) (s : Scope) (path query : List ℕ) (fields : List Field) → Holds IsWantedInOrder (calls.put a s path query fields)
 unfolding calls.put
-put_holds a path query fields =
-    known_holds IsWantedInOrder (calls.locked_in a path) _ (λ l.
+put_holds a s path query fields =
+    known_holds IsWantedInOrder (calls.locked_in a s path) _ (λ l.
     known_holds IsWantedInOrder (timeout_in query) _ (λ timeout.
     known_holds IsWantedInOrder (disposition_in query) _ (λ disposition.
     known_holds IsWantedInOrder (by_of fields) _ (λ by.
@@ -194,7 +204,8 @@ put_holds a path query fields =
 wanted_holds : (a : Asked) (path query : List ℕ) (fields : List Field) (body : List ℕ) → Holds IsWantedInOrder (calls.wanted_by a path query fields body)
 unfolding calls.wanted_by
 wanted_holds asked.Send path query fields body = sent_holds path query fields body
-wanted_holds (asked.Put a) path query fields body = put_holds a path query fields
+wanted_holds (asked.Put a s) path query fields body = put_holds a s path query fields
+wanted_holds (asked.Remember a) path query fields body = asked_holds_with query fields (calls.remembered a path body) (state_holds a path body)
 wanted_holds (asked.Do a) path query fields body = asked_holds_with query fields (calls.act_in a path) (act_holds a path)
 
 -- ---- requests
@@ -217,11 +228,18 @@ script_holds false = tt
 
 route_holds : (o : Option Route) (m : RequestMessage) → AreInOrder (calls.on_route o m)
 route_holds None m = tt
-route_holds (Some route.Messages) m = asked_holds route.Messages (calls.if_post m.head.method asked.Send) m
-route_holds (Some (route.Head a)) m = asked_holds (route.Head a) (calls.at_head a m.head.method) m
-route_holds (Some (route.Deferred a)) m = asked_holds (route.Deferred a) (calls.at_deferred a m.head.method) m
-route_holds (Some (route.Locked a)) m = asked_holds (route.Locked a) (calls.at_locked a m.head.method) m
-route_holds (Some (route.Scheduled a)) m = asked_holds (route.Scheduled a) (calls.at_scheduled a m.head.method) m
+route_holds (Some route.Messages) m = asked_holds route.Messages (calls.asked_at route.Messages m.head.method) m
+route_holds (Some (route.Head a)) m = asked_holds (route.Head a) (calls.asked_at (route.Head a) m.head.method) m
+route_holds (Some (route.Deferred a)) m = asked_holds (route.Deferred a) (calls.asked_at (route.Deferred a) m.head.method) m
+route_holds (Some (route.Locked a)) m = asked_holds (route.Locked a) (calls.asked_at (route.Locked a) m.head.method) m
+route_holds (Some (route.Scheduled a)) m = asked_holds (route.Scheduled a) (calls.asked_at (route.Scheduled a) m.head.method) m
+route_holds (Some (route.NextSession a)) m = asked_holds (route.NextSession a) (calls.asked_at (route.NextSession a) m.head.method) m
+route_holds (Some (route.NamedSession a)) m = asked_holds (route.NamedSession a) (calls.asked_at (route.NamedSession a) m.head.method) m
+route_holds (Some (route.HeldSession a)) m = asked_holds (route.HeldSession a) (calls.asked_at (route.HeldSession a) m.head.method) m
+route_holds (Some (route.SessionState a)) m = asked_holds (route.SessionState a) (calls.asked_at (route.SessionState a) m.head.method) m
+route_holds (Some (route.SessionHead a)) m = asked_holds (route.SessionHead a) (calls.asked_at (route.SessionHead a) m.head.method) m
+route_holds (Some (route.SessionDeferred a)) m = asked_holds (route.SessionDeferred a) (calls.asked_at (route.SessionDeferred a) m.head.method) m
+route_holds (Some (route.SessionLocked a)) m = asked_holds (route.SessionLocked a) (calls.asked_at (route.SessionLocked a) m.head.method) m
 route_holds (Some route.Script) m = script_holds (bytes_eq m.head.method (codes "POST"))
 
 calls_hold : (foreign keyed : Bool) (m : RequestMessage) → AreInOrder (if foreign then Err Foreign else (if keyed then calls.routed m else Err NoKey))

@@ -3,47 +3,69 @@ use Rattle.std.proofs.Common.{◌≡◌, ℕ, Bool, true, false, ◌||◌, List,
 use Rattle.std.specs.Prelude.{codes, bytes_eq, is_some, Some, None, Err, if◌then◌else◌}
 use Rattle.std.specs.List.{list_any}
 use Rattle.sb_machine.specs.declared.call.Mode.TheVariants.{Lock, Delete}
-use Rattle.sb_routes.specs.declared.routes.Address.{Address}
 use Rattle.sb_routes.specs.declared.routes.Route.{Route}
 use Rattle.sb_routes.specs.declared.routes.Route.TheVariants as route
 use Rattle.sb_rest.specs.declared.asked.Asked.{Asked}
 use Rattle.sb_rest.specs.declared.asked.Asked.TheVariants as asked
 use Rattle.sb_rest.specs.declared.asked.PathAct.TheVariants as act
+use Rattle.sb_rest.specs.declared.asked.Scope.TheVariants as scope
 use Rattle.sb_rest.specs.declared.call.RestFault.TheVariants.{Foreign, NoKey}
 use Rattle.sb_rest.specs.Calls.{methods_of, takes, routed, NoneIsForeign, NoneIsKeyless}
 use Rattle.sb_rest.specs.Callers.{has_key}
 
+one : (p : Bool) (x : Asked) → is_some (if p then Some x else None) ≡ (p || false)
+one true x = refl
+one false x = refl
+
+two : (d p : Bool) (x y : Asked) → is_some (if d then Some x else (if p then Some y else None)) ≡ (d || (p || false))
+two true p x y = refl
+two false true x y = refl
+two false false x y = refl
+
+two_turned : (u d : Bool) (x y : Asked) → is_some (if u then Some x else (if d then Some y else None)) ≡ (d || (u || false))
+two_turned true true x y = refl
+two_turned true false x y = refl
+two_turned false true x y = refl
+two_turned false false x y = refl
+
+three : (u d p : Bool) (x y z : Asked) → is_some (if u then Some x else (if d then Some y else (if p then Some z else None))) ≡ (d || (p || (u || false)))
+three true true p x y z = refl
+three true false true x y z = refl
+three true false false x y z = refl
+three false true p x y z = refl
+three false false true x y z = refl
+three false false false x y z = refl
+
+alone : (p : Bool) → p ≡ (p || false)
+alone true = refl
+alone false = refl
+
+abbrev is_get : List ℕ → Bool
+is_get method = bytes_eq method (codes "GET")
+
+abbrev is_post : List ℕ → Bool
+is_post method = bytes_eq method (codes "POST")
+
+abbrev is_put : List ℕ → Bool
+is_put method = bytes_eq method (codes "PUT")
+
+abbrev is_delete : List ℕ → Bool
+is_delete method = bytes_eq method (codes "DELETE")
+
 pub all_methods : (r : Route) (method : List ℕ) → takes r method ≡ list_any (bytes_eq method) (methods_of r)
-all_methods route.Messages method = by_post (bytes_eq method (codes "POST")) where
-  by_post : (p : Bool) → is_some (if p then Some asked.Send else None) ≡ (p || false)
-  by_post true = refl
-  by_post false = refl
-all_methods (route.Head a) method = by_both (bytes_eq method (codes "DELETE")) (bytes_eq method (codes "POST")) where
-  by_both : (d p : Bool) → is_some (if d then Some (asked.Do (act.Take a Delete)) else (if p then Some (asked.Do (act.Take a Lock)) else None)) ≡ (d || (p || false))
-  by_both true p = refl
-  by_both false true = refl
-  by_both false false = refl
-all_methods (route.Deferred a) method = by_both (bytes_eq method (codes "DELETE")) (bytes_eq method (codes "POST")) where
-  by_both : (d p : Bool) → is_some (if d then Some (asked.Do (act.TakeDeferred a Delete)) else (if p then Some (asked.Do (act.TakeDeferred a Lock)) else None)) ≡ (d || (p || false))
-  by_both true p = refl
-  by_both false true = refl
-  by_both false false = refl
-all_methods (route.Locked a) method = by_all (bytes_eq method (codes "PUT")) (bytes_eq method (codes "DELETE")) (bytes_eq method (codes "POST")) where
-  by_all : (u d p : Bool) → is_some (if u then Some (asked.Put a) else (if d then Some (asked.Do (act.Complete a)) else (if p then Some (asked.Do (act.Renew a)) else None))) ≡ (d || (p || (u || false)))
-  by_all true true p = refl
-  by_all true false true = refl
-  by_all true false false = refl
-  by_all false true p = refl
-  by_all false false true = refl
-  by_all false false false = refl
-all_methods (route.Scheduled a) method = by_delete (bytes_eq method (codes "DELETE")) where
-  by_delete : (d : Bool) → is_some (if d then Some (asked.Do (act.Cancel a)) else None) ≡ (d || false)
-  by_delete true = refl
-  by_delete false = refl
-all_methods route.Script method = by_post (bytes_eq method (codes "POST")) where
-  by_post : (p : Bool) → p ≡ (p || false)
-  by_post true = refl
-  by_post false = refl
+all_methods route.Messages method = one (is_post method) asked.Send
+all_methods (route.Head a) method = two (is_delete method) (is_post method) (asked.Do (act.Take a scope.Whole Delete)) (asked.Do (act.Take a scope.Whole Lock))
+all_methods (route.Deferred a) method = two (is_delete method) (is_post method) (asked.Do (act.TakeDeferred a scope.Whole Delete)) (asked.Do (act.TakeDeferred a scope.Whole Lock))
+all_methods (route.Locked a) method = three (is_put method) (is_delete method) (is_post method) (asked.Put a scope.Whole) (asked.Do (act.Complete a scope.Whole)) (asked.Do (act.Renew a))
+all_methods (route.Scheduled a) method = one (is_delete method) (asked.Do (act.Cancel a))
+all_methods (route.NextSession a) method = one (is_post method) (asked.Do (act.AcceptNext a))
+all_methods (route.NamedSession a) method = one (is_post method) (asked.Do (act.AcceptNamed a))
+all_methods (route.HeldSession a) method = two (is_delete method) (is_post method) (asked.Do (act.CloseSession a)) (asked.Do (act.RenewSession a))
+all_methods (route.SessionState a) method = two (is_get method) (is_put method) (asked.Do (act.ReadState a)) (asked.Remember a)
+all_methods (route.SessionHead a) method = two (is_delete method) (is_post method) (asked.Do (act.Take a scope.Session Delete)) (asked.Do (act.Take a scope.Session Lock))
+all_methods (route.SessionDeferred a) method = two (is_delete method) (is_post method) (asked.Do (act.TakeDeferred a scope.Session Delete)) (asked.Do (act.TakeDeferred a scope.Session Lock))
+all_methods (route.SessionLocked a) method = two_turned (is_put method) (is_delete method) (asked.Put a scope.Session) (asked.Do (act.Complete a scope.Session))
+all_methods route.Script method = alone (is_post method)
 
 -- ---- who made a request
 

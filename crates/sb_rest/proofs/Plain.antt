@@ -1,5 +1,5 @@
 -- Escapes are ASCII.
-use Rattle.std.proofs.Common.{◌≡◌, ◌≤◌, ◌%◌, ◌/◌, ◌+◌, ◌<◌, ◌&&◌, ◌∙◌, ap₂, ℕ, List, [], ◌∷◌, ◌++◌, Bool, true, false, cond, nat_lt, nat_le, refl, arith, codes, flat_map, chars}
+use Rattle.std.proofs.Common.{◌≡◌, ◌%◌, ◌/◌, ◌<◌, ◌&&◌, ◌∙◌, ap₂, ℕ, List, [], ◌∷◌, ◌++◌, Bool, true, false, nat_le, refl, arith, flat_map, chars}
 use Rattle.std.specs.Prelude.{if◌then◌else◌}
 use Rattle.std.proofs.lemmas.Bool.Decides.{nat_tests}
 use Rattle.std.specs.List.{list_all}

@@ -9,6 +9,7 @@ use Rattle.sb_machine.specs.declared.reply.Showing.{Showing}
 use Rattle.sb_machine.specs.declared.reply.Showing.TheVariants.{Removed, Locked, Browsed}
 use Rattle.sb_lines.specs.Tokens.{token_text}
 use Rattle.sb_lines.proofs.Floats.{put_whole}
+use Rattle.sb_rest.specs.Sessions.{session_members}
 use Rattle.sb_rest.specs.Shown.{is_shown, with_shown, with_texts, with_ttl, with_lock, broker_members}
 
 either_text : (b : Bool) (t : SystemText) (ms : Members) → members_have_float ms ≡ false → members_have_float (if b then put (system_name t.name) (string t.text) ms else ms) ≡ false
@@ -40,3 +41,7 @@ broker_whole texts enqueued until c =
     (put_whole (codes "EnqueuedTimeUtc") (string enqueued) m2 refl
     (put_whole (codes "EnqueuedSequenceNumber") (number (unsigned c.enqueued_seq)) m1 refl
     (put_whole (codes "DeliveryCount") (number (unsigned c.delivery)) m0 refl (texts_whole texts no_members refl))))))
+
+pub session_whole : (id until : List ℕ) → has_float (object (session_members id until)) ≡ false
+session_whole id until =
+    put_whole (codes "SessionId") (string id) (put (codes "LockedUntilUtc") (string until) no_members) refl (put_whole (codes "LockedUntilUtc") (string until) no_members refl refl)

@@ -4,7 +4,7 @@ use Rattle.std.specs.List.{list_any}
 use Rattle.std.specs.Str.{str_to_ascii_lowercase}
 use Rattle.percent_encoding.specs.Percent.{percent_decode}
 use Rattle.sb_machine.specs.declared.call.Act.{Act}
-use Rattle.sb_machine.specs.declared.call.Act.TheVariants.{Cancel, Receive, ReceiveDeferred, Settle, Renew, Send}
+use Rattle.sb_machine.specs.declared.call.Act.TheVariants.{Cancel, Receive, ReceiveDeferred, Settle, Renew, Send, Accept, SessionRenew, SessionClose, SessionSet, SessionState}
 use Rattle.sb_machine.specs.declared.call.By.{By}
 use Rattle.sb_machine.specs.declared.call.How.{How}
 use Rattle.sb_machine.specs.declared.call.How.TheVariants.{Complete}
@@ -30,13 +30,15 @@ use Rattle.sb_rest.specs.declared.asked.Asked.{Asked}
 use Rattle.sb_rest.specs.declared.asked.Asked.TheVariants as asked
 use Rattle.sb_rest.specs.declared.asked.PathAct.{PathAct}
 use Rattle.sb_rest.specs.declared.asked.PathAct.TheVariants as act
+use Rattle.sb_rest.specs.declared.asked.Scope.{Scope}
+use Rattle.sb_rest.specs.declared.asked.Scope.TheVariants as scope
 use Rattle.sb_rest.specs.declared.call.RestFault.{RestFault}
 use Rattle.sb_rest.specs.declared.call.RestFault.TheVariants.{Foreign, NoKey, NoRoute, BadMethod, Bad, Script, OutOfMemory}
 use Rattle.sb_rest.specs.declared.call.Wanted.{Wanted}
 use Rattle.sb_rest.specs.declared.access.Access.{Access}
 use Rattle.sb_rest.specs.Callers.{is_foreign, has_key}
 use Rattle.sb_rest.specs.Batches as batches
-use Rattle.sb_rest.specs.Dispositions.{disposition_in, how_of}
+use Rattle.sb_rest.specs.Dispositions.{disposition_in, how_of, unless_empty}
 use Rattle.sb_rest.specs.Headers.{message_in}
 use Rattle.sb_rest.specs.Repeats.{by_of, number_in}
 use Rattle.sb_rest.specs.Timeouts.{timeout_in}
@@ -47,23 +49,37 @@ use Rattle.sb_rest.specs.Timeouts.{timeout_in}
 abbrev pub if_post : List ℕ → Asked → Option Asked
 if_post method a = if bytes_eq method (codes "POST") then Some a else None
 
--- what the head of an entity is asked for, by the method
-abbrev pub at_head : Address → List ℕ → Option Asked
-at_head a method = if bytes_eq method (codes "DELETE") then Some (asked.Do (act.Take a Delete)) else if_post method (asked.Do (act.Take a Lock))
+-- what the head of an entity or a session is asked for, by the method
+abbrev pub at_head : Address → Scope → List ℕ → Option Asked
+at_head a s method = if bytes_eq method (codes "DELETE") then Some (asked.Do (act.Take a s Delete)) else if_post method (asked.Do (act.Take a s Lock))
 
 -- what a deferred message is asked for, by the method
-abbrev pub at_deferred : Address → List ℕ → Option Asked
-at_deferred a method = if bytes_eq method (codes "DELETE") then Some (asked.Do (act.TakeDeferred a Delete)) else if_post method (asked.Do (act.TakeDeferred a Lock))
+abbrev pub at_deferred : Address → Scope → List ℕ → Option Asked
+at_deferred a s method = if bytes_eq method (codes "DELETE") then Some (asked.Do (act.TakeDeferred a s Delete)) else if_post method (asked.Do (act.TakeDeferred a s Lock))
 
 -- what a message under a lock is asked for, by the method
 abbrev pub at_locked : Address → List ℕ → Option Asked
 at_locked a method =
-    if bytes_eq method (codes "PUT") then Some (asked.Put a)
-    else (if bytes_eq method (codes "DELETE") then Some (asked.Do (act.Complete a)) else if_post method (asked.Do (act.Renew a)))
+    if bytes_eq method (codes "PUT") then Some (asked.Put a scope.Whole)
+    else (if bytes_eq method (codes "DELETE") then Some (asked.Do (act.Complete a scope.Whole)) else if_post method (asked.Do (act.Renew a)))
+
+-- the same of a session's message, whose lock lives as long as the session's
+abbrev pub at_session_locked : Address → List ℕ → Option Asked
+at_session_locked a method =
+    if bytes_eq method (codes "PUT") then Some (asked.Put a scope.Session)
+    else (if bytes_eq method (codes "DELETE") then Some (asked.Do (act.Complete a scope.Session)) else None)
 
 -- what a scheduled message is asked for, by the method
 abbrev pub at_scheduled : Address → List ℕ → Option Asked
 at_scheduled a method = if bytes_eq method (codes "DELETE") then Some (asked.Do (act.Cancel a)) else None
+
+-- what a session that is held is asked for, by the method
+abbrev pub at_held : Address → List ℕ → Option Asked
+at_held a method = if bytes_eq method (codes "DELETE") then Some (asked.Do (act.CloseSession a)) else if_post method (asked.Do (act.RenewSession a))
+
+-- what is asked for of what a session remembers, by the method
+abbrev pub at_state : Address → List ℕ → Option Asked
+at_state a method = if bytes_eq method (codes "GET") then Some (asked.Do (act.ReadState a)) else (if bytes_eq method (codes "PUT") then Some (asked.Remember a) else None)
 
 -- the methods of a route
 abbrev pub methods_of : Route → List (List ℕ)
@@ -72,16 +88,35 @@ methods_of (route.Head a) = codes "DELETE" ∷ codes "POST" ∷ []
 methods_of (route.Deferred a) = codes "DELETE" ∷ codes "POST" ∷ []
 methods_of (route.Locked a) = codes "DELETE" ∷ codes "POST" ∷ codes "PUT" ∷ []
 methods_of (route.Scheduled a) = codes "DELETE" ∷ []
+methods_of (route.NextSession a) = codes "POST" ∷ []
+methods_of (route.NamedSession a) = codes "POST" ∷ []
+methods_of (route.HeldSession a) = codes "DELETE" ∷ codes "POST" ∷ []
+methods_of (route.SessionState a) = codes "GET" ∷ codes "PUT" ∷ []
+methods_of (route.SessionHead a) = codes "DELETE" ∷ codes "POST" ∷ []
+methods_of (route.SessionDeferred a) = codes "DELETE" ∷ codes "POST" ∷ []
+methods_of (route.SessionLocked a) = codes "DELETE" ∷ codes "PUT" ∷ []
 methods_of route.Script = codes "POST" ∷ []
+
+-- what a route of calls is asked for, by the method
+abbrev pub asked_at : Route → List ℕ → Option Asked
+asked_at route.Messages method = if_post method asked.Send
+asked_at (route.Head a) method = at_head a scope.Whole method
+asked_at (route.Deferred a) method = at_deferred a scope.Whole method
+asked_at (route.Locked a) method = at_locked a method
+asked_at (route.Scheduled a) method = at_scheduled a method
+asked_at (route.NextSession a) method = if_post method (asked.Do (act.AcceptNext a))
+asked_at (route.NamedSession a) method = if_post method (asked.Do (act.AcceptNamed a))
+asked_at (route.HeldSession a) method = at_held a method
+asked_at (route.SessionState a) method = at_state a method
+asked_at (route.SessionHead a) method = at_head a scope.Session method
+asked_at (route.SessionDeferred a) method = at_deferred a scope.Session method
+asked_at (route.SessionLocked a) method = at_session_locked a method
+asked_at route.Script method = None
 
 -- whether a route takes this method
 abbrev pub takes : Route → List ℕ → Bool
-takes route.Messages method = is_some (if_post method asked.Send)
-takes (route.Head a) method = is_some (at_head a method)
-takes (route.Deferred a) method = is_some (at_deferred a method)
-takes (route.Locked a) method = is_some (at_locked a method)
-takes (route.Scheduled a) method = is_some (at_scheduled a method)
 takes route.Script method = bytes_eq method (codes "POST")
+takes r method = is_some (asked_at r method)
 
 -- those are all
 abbrev pub MethodsAreAll : Type 0
@@ -109,63 +144,94 @@ behind_part Main n = n
 behind_part Dead n = suc n
 behind_part Transfer n = suc (suc n)
 
--- how many slashes stand before the id or the number of a message
+-- how many slashes stand before the id of a session, and before the id or the number of a message that is in none
 abbrev pub id_place : Address → ℕ
 id_place (Entity part) = behind_part part 3
 id_place (Subscription part) = behind_part part 5
+
+-- how many slashes stand before the id or the number of a message
+abbrev pub message_place : Address → Scope → ℕ
+message_place a scope.Whole = id_place a
+message_place a scope.Session = suc (suc (suc (id_place a)))
 
 -- the sequence number in a path, in decimal digits
 abbrev pub number_at : ℕ → List ℕ → Result ℕ (List ℕ)
 number_at n path = then_by (text_in n path) (λ text. or_key (codes "seq") (number_in text))
 
--- the lock token in a path
+-- the token of a lock in a path
 abbrev pub token_at : ℕ → List ℕ → Result Token (List ℕ)
 token_at n path = then_by (text_in n path) (λ text. or_key (codes "token") (token_in text))
 
+-- a session that is held: whose it is, and its token, which alone says which one
+abbrev pub held_in : Address → List ℕ → Result (Path × Token) (List ℕ)
+held_in a path = then_by (address_in a path) (λ from. then_by (token_at (suc (id_place a)) path) (λ session. Ok (from, session)))
+
+-- whose messages are meant, and the token of the session that they are in
+abbrev pub scope_in : Address → Scope → List ℕ → Result (Path × Option Token) (List ℕ)
+scope_in a scope.Whole path = then_by (address_in a path) (λ from. Ok (from, None))
+scope_in a scope.Session path = then_by (held_in a path) (λ h. Ok (h.0, Some h.1))
+
 -- ---- the acts
 
--- a message under a lock: whose it is, its id and its token
-abbrev pub locked_in : Address → List ℕ → Result (Path × List ℕ × Token) (List ℕ)
-locked_in a path =
-    then_by (address_in a path) (λ from.
-    then_by (text_in (id_place a) path) (λ id.
-    then_by (token_at (suc (id_place a)) path) (λ token. Ok (from, id, token))))
+-- a message under a lock: whose it is, the session it is in, its id and its token
+abbrev pub locked_in : Address → Scope → List ℕ → Result (Path × Option Token × List ℕ × Token) (List ℕ)
+locked_in a s path =
+    then_by (scope_in a s path) (λ x.
+    then_by (text_in (message_place a s) path) (λ id.
+    then_by (token_at (suc (message_place a s)) path) (λ token. Ok (x.0, x.1, id, token))))
 
 -- the settlement of a message that is held under a lock
-abbrev pub settled : How → Path × List ℕ × Token → Act
-settled how l = Settle l.0 (Id l.1) l.2 None how None
+abbrev pub settled : How → Path × Option Token × List ℕ × Token → Act
+settled how l = Settle l.0 (Id l.2) l.3 l.1 how None
 
 -- its completion
-abbrev pub completed : Address → List ℕ → Result Act (List ℕ)
-completed a path = then_by (locked_in a path) (λ l. Ok (settled Complete l))
+abbrev pub completed : Address → Scope → List ℕ → Result Act (List ℕ)
+completed a s path = then_by (locked_in a s path) (λ l. Ok (settled Complete l))
 
 -- the renewal of its lock
 abbrev pub renewed : Address → List ℕ → Result Act (List ℕ)
-renewed a path = then_by (locked_in a path) (λ l. Ok (Renew l.0 (Id l.1) l.2))
+renewed a path = then_by (locked_in a scope.Whole path) (λ l. Ok (Renew l.0 (Id l.2) l.3))
 
--- a message that its number names: whose it is, and the number
-abbrev pub numbered_in : Address → List ℕ → Result (Path × ℕ) (List ℕ)
-numbered_in a path = then_by (address_in a path) (λ from. then_by (number_at (id_place a) path) (λ number. Ok (from, number)))
+-- a message that its number names: whose it is, the session it is in, and the number
+abbrev pub numbered_in : Address → Scope → List ℕ → Result (Path × Option Token × ℕ) (List ℕ)
+numbered_in a s path = then_by (scope_in a s path) (λ x. then_by (number_at (message_place a s) path) (λ number. Ok (x.0, x.1, number)))
 
 -- a receive of a deferred message
-abbrev pub taken_deferred : Address → Mode → List ℕ → Result Act (List ℕ)
-taken_deferred a mode path = then_by (numbered_in a path) (λ x. Ok (ReceiveDeferred x.0 x.1 mode None))
+abbrev pub taken_deferred : Address → Scope → Mode → List ℕ → Result Act (List ℕ)
+taken_deferred a s mode path = then_by (numbered_in a s path) (λ x. Ok (ReceiveDeferred x.0 x.2 mode x.1))
 
 -- taking a scheduled message back
 abbrev pub cancelled : Address → List ℕ → Result Act (List ℕ)
-cancelled a path = then_by (numbered_in a path) (λ x. Ok (Cancel x.0 x.1))
+cancelled a path = then_by (numbered_in a scope.Whole path) (λ x. Ok (Cancel x.0 x.2))
 
 -- a receive of each mode
-abbrev pub taken : Address → Mode → List ℕ → Result Act (List ℕ)
-taken a mode path = then_by (address_in a path) (λ from. Ok (Receive from mode None))
+abbrev pub taken : Address → Scope → Mode → List ℕ → Result Act (List ℕ)
+taken a s mode path = then_by (scope_in a s path) (λ x. Ok (Receive x.0 mode x.1))
+
+-- accepting the next session that nobody holds
+abbrev pub accepted_next : Address → List ℕ → Result Act (List ℕ)
+accepted_next a path = then_by (address_in a path) (λ from. Ok (Accept from None))
+
+-- accepting the session of this id
+abbrev pub accepted_named : Address → List ℕ → Result Act (List ℕ)
+accepted_named a path = then_by (address_in a path) (λ from. then_by (text_in (id_place a) path) (λ id. Ok (Accept from (Some id))))
 
 -- the act that path and method say whole
 abbrev pub act_in : PathAct → List ℕ → Result Act (List ℕ)
-act_in (act.Take a mode) path = taken a mode path
-act_in (act.TakeDeferred a mode) path = taken_deferred a mode path
-act_in (act.Complete a) path = completed a path
+act_in (act.Take a s mode) path = taken a s mode path
+act_in (act.TakeDeferred a s mode) path = taken_deferred a s mode path
+act_in (act.Complete a s) path = completed a s path
 act_in (act.Renew a) path = renewed a path
 act_in (act.Cancel a) path = cancelled a path
+act_in (act.AcceptNext a) path = accepted_next a path
+act_in (act.AcceptNamed a) path = accepted_named a path
+act_in (act.RenewSession a) path = then_by (held_in a path) (λ h. Ok (SessionRenew h.0 h.1))
+act_in (act.CloseSession a) path = then_by (held_in a path) (λ h. Ok (SessionClose h.0 h.1))
+act_in (act.ReadState a) path = then_by (held_in a path) (λ h. Ok (SessionState h.0 h.1))
+
+-- that a session remembers the body, and at none forgets
+abbrev pub remembered : Address → List ℕ → List ℕ → Result Act (List ℕ)
+remembered a path body = then_by (held_in a path) (λ h. Ok (SessionSet h.0 h.1 (unless_empty body)))
 
 -- a call that may wait so many seconds
 abbrev pub in_time : Option By → Act → ℕ → Wanted
@@ -180,9 +246,9 @@ abbrev pub asked_with : List ℕ → List Field → Result Act (List ℕ) → Re
 asked_with query fields act = then_by act (λ a. then_by (beside query fields) (λ b. Ok (in_time b.1 a b.0)))
 
 -- what the query says becomes of a message under a lock is judged behind how long it may wait, and BrokerProperties behind the number of the call
-unfoldable pub put : Address → List ℕ → List ℕ → List Field → Result Wanted (List ℕ)
-put a path query fields =
-    then_by (locked_in a path) (λ l.
+unfoldable pub put : Address → Scope → List ℕ → List ℕ → List Field → Result Wanted (List ℕ)
+put a s path query fields =
+    then_by (locked_in a s path) (λ l.
     then_by (timeout_in query) (λ timeout.
     then_by (disposition_in query) (λ disposition.
     then_by (by_of fields) (λ by.
@@ -210,7 +276,8 @@ or_bad (Ok w) = Ok w
 -- the path, the query, the headers and the body together
 unfoldable pub wanted_by : Asked → List ℕ → List ℕ → List Field → List ℕ → Result Wanted (List ℕ)
 wanted_by asked.Send path query fields body = sent path query fields body
-wanted_by (asked.Put a) path query fields body = put a path query fields
+wanted_by (asked.Put a s) path query fields body = put a s path query fields
+wanted_by (asked.Remember a) path query fields body = asked_with query fields (remembered a path body)
 wanted_by (asked.Do a) path query fields body = asked_with query fields (act_in a path)
 
 -- the call of a route, unless its method is another
@@ -225,12 +292,8 @@ on_script method = if bytes_eq method (codes "POST") then Err Script else Err (B
 -- the call of each route
 abbrev pub on_route : Option Route → RequestMessage → Result Wanted RestFault
 on_route None m = Err NoRoute
-on_route (Some route.Messages) m = on_asked route.Messages (if_post m.head.method asked.Send) m
-on_route (Some (route.Head a)) m = on_asked (route.Head a) (at_head a m.head.method) m
-on_route (Some (route.Deferred a)) m = on_asked (route.Deferred a) (at_deferred a m.head.method) m
-on_route (Some (route.Locked a)) m = on_asked (route.Locked a) (at_locked a m.head.method) m
-on_route (Some (route.Scheduled a)) m = on_asked (route.Scheduled a) (at_scheduled a m.head.method) m
 on_route (Some route.Script) m = on_script m.head.method
+on_route (Some r) m = on_asked r (asked_at r m.head.method) m
 
 -- by its path, then its method, then the first key at fault
 abbrev pub routed : RequestMessage → Result Wanted RestFault

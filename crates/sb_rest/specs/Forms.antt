@@ -2,7 +2,6 @@
 use Rattle.std.specs.Prelude.{ℕ, Bool, true, false, not, nat_le, ◌&&◌, List, [], ◌∷◌, ◌++◌, codes, length, drop}
 use Rattle.std.specs.List.{flat_map, list_any, position_or_len}
 use Rattle.form_urlencoded.specs.Form.{split, split_once}
-use Rattle.sb_machine.specs.declared.call.Path.{Path}
 use Rattle.sb_machine.specs.declared.reply.CopyShown.{CopyShown}
 use Rattle.sb_http.specs.Fields.{Field, same_word}
 use Rattle.sb_http.specs.Responses.{field_line}
@@ -41,9 +40,9 @@ wants_json fields = list_any is_json_asked fields
 -- ---- what it says
 
 -- the message is in the body, and BrokerProperties has its numbers, moments and token alone
-abbrev pub json_fields : List ℕ → List ℕ → List ℕ → Path → CopyShown → List Field
-json_fields host enqueued until from c =
-    (codes "BrokerProperties", broker_text [] enqueued until c) ∷ (location_under c.showing host from c.number ++ (codes "Content-Type", json_type) ∷ [])
+abbrev pub json_fields : List ℕ → List ℕ → List ℕ → List ℕ → CopyShown → List Field
+json_fields host enqueued until place c =
+    (codes "BrokerProperties", broker_text [] enqueued until c) ∷ (location_under c.showing host place c.number ++ (codes "Content-Type", json_type) ∷ [])
 
 -- the form was not asked for
 abbrev pub unasked : Bool → List Field

@@ -1,5 +1,5 @@
 -- REST, in the order to read it: Queries, Timeouts, Values, Lifetimes, Brokers, Reserved, Headers, Batches, Repeats, Dispositions, Callers (the parts of
--- a request); Lines, Calls (which request asks for which call); Moments, Escapes, Shown, Responses (what answers it); Worked.
+-- a request); Lines, Calls (which request asks for which call); Moments, Escapes, Shown, Forms, Sessions, Responses (what answers it); Worked.
 pub mod Queries
 pub mod Timeouts
 pub mod Values
@@ -17,5 +17,6 @@ pub mod Moments
 pub mod Escapes
 pub mod Shown
 pub mod Forms
+pub mod Sessions
 pub mod Responses
 pub mod Worked

@@ -3,10 +3,11 @@ use Rattle.std.specs.Prelude.{◌≡◌, ℕ, Bool, true, false, not, ◌&&◌, 
 use Rattle.std.specs.Fmt.{decimal}
 use Rattle.serde_json.specs.Written.{compact_text}
 use Rattle.sb_machine.specs.declared.call.Act.{Act}
-use Rattle.sb_machine.specs.declared.call.Act.TheVariants.{Send, Cancel, Receive, ReceiveDeferred, Settle, Renew}
+use Rattle.sb_machine.specs.declared.call.Act.TheVariants.{Send, Cancel, Receive, ReceiveDeferred, Settle, Renew, Accept, SessionRenew, SessionClose, SessionSet, SessionState}
 use Rattle.sb_machine.specs.declared.call.Mode.{Mode}
 use Rattle.sb_machine.specs.declared.call.Mode.TheVariants.{Lock, Delete}
 use Rattle.sb_machine.specs.declared.call.Path.{Path}
+use Rattle.sb_machine.specs.declared.call.Token.{Token}
 use Rattle.sb_machine.specs.declared.reply.Answered.{Answered}
 use Rattle.sb_machine.specs.declared.reply.Answered.TheVariants.{New, Kept}
 use Rattle.sb_machine.specs.declared.reply.CopyShown.{CopyShown}
@@ -15,7 +16,7 @@ use Rattle.sb_machine.specs.declared.reply.Receipt.TheVariants.{Number, Duplicat
 use Rattle.sb_machine.specs.declared.reply.Refusal.{Refusal}
 use Rattle.sb_machine.specs.declared.reply.Refusal.TheVariants as refusal
 use Rattle.sb_machine.specs.declared.reply.Reply.{Reply}
-use Rattle.sb_machine.specs.declared.reply.Reply.TheVariants.{Done, Sent, Message, Empty, Expired, Renewed}
+use Rattle.sb_machine.specs.declared.reply.Reply.TheVariants.{Done, Sent, Message, Empty, Expired, Renewed, Session, State}
 use Rattle.sb_model.specs.declared.message.Message as message
 use Rattle.sb_http.specs.declared.response.Status.{Status}
 use Rattle.sb_http.specs.declared.response.Status.TheVariants as status
@@ -29,7 +30,8 @@ use Rattle.sb_rest.specs.declared.call.RestFault.TheVariants.{Foreign, NoKey, No
 use Rattle.sb_rest.specs.Calls.{methods_of}
 use Rattle.sb_rest.specs.Forms.{json_fields, unasked, fits_head}
 use Rattle.sb_rest.specs.Moments.{IsTime, IsUntil}
-use Rattle.sb_rest.specs.Shown.{message_fields}
+use Rattle.sb_rest.specs.Sessions.{accepted_fields}
+use Rattle.sb_rest.specs.Shown.{message_fields, place_of, place_text}
 
 -- a status alone
 abbrev pub bare : Status → ResponseMessage
@@ -43,12 +45,15 @@ refusal_status (refusal.BadCall key) = status.BadRequest
 refusal_status refusal.BadName = status.BadRequest
 refusal_status refusal.WrongKind = status.BadRequest
 refusal_status refusal.SessionRequired = status.BadRequest
+refusal_status refusal.SessionNotAllowed = status.BadRequest
 refusal_status refusal.EntityNotFound = status.Gone
 refusal_status (refusal.TooLarge size) = status.Forbidden
 refusal_status (refusal.QuotaExceeded copies adds) = status.Forbidden
 refusal_status refusal.LockLost = status.NotFound
+refusal_status refusal.SessionLost = status.NotFound
 refusal_status refusal.NotDeferred = status.NotFound
 refusal_status refusal.NotScheduled = status.NotFound
+refusal_status (refusal.SessionHeld until) = status.Conflict
 refusal_status (refusal.TxnPending txn) = status.Conflict
 refusal_status (refusal.StaleNumber kept) = status.Conflict
 refusal_status refusal.NumberReused = status.Conflict
@@ -70,6 +75,21 @@ refusal_ends _ = false
 -- the response to a refused call
 abbrev pub refusal_response : Refusal → ResponseMessage
 refusal_response r = record { status = refusal_status r; fields = (codes "Content-Type", codes "application/json") ∷ []; body = refusal_text r; ends = refusal_ends r }
+
+-- somebody holds the session: with the text of the moment from which on it may be asked for again (RFC 9110, 10.2.3)
+abbrev pub held_response : ℕ → List ℕ → ResponseMessage
+held_response until moment = record { status = status.Conflict; fields = (codes "Content-Type", codes "application/json") ∷ (codes "Retry-After", moment) ∷ []; body = refusal_text (refusal.SessionHeld until); ends = false }
+
+-- this is that response
+pub record GivesHeld (until : ℕ) (r : ResponseMessage) : Type 0 where
+  pub moment : List ℕ
+  pub lives : IsTime until moment
+  pub whole : r ≡ held_response until moment
+
+-- this is the response to a call that was refused
+abbrev pub GivesRefusal : Refusal → ResponseMessage → Type 0
+GivesRefusal (refusal.SessionHeld until) r = GivesHeld until r
+GivesRefusal refused r = r ≡ refusal_response refused
 
 -- words behind each other, as lists of header fields have them (RFC 9110, 5.6.1)
 abbrev pub and_later : List (List ℕ) → List ℕ
@@ -130,12 +150,12 @@ abbrev pub sent_response : List message.Message → Reply → ResponseMessage
 sent_response messages (Sent receipts) = record { status = status.Created; fields = sent_fields (is_one_scheduled messages) receipts; body = []; ends = false }
 sent_response messages _ = bare status.InternalServerError
 
--- the status of a settlement, and of a cancel
+-- the status of a settlement, of a cancel, and of what is done with a session that is held
 abbrev pub settled_status : Reply → Status
 settled_status Done = status.Ok
 settled_status _ = status.InternalServerError
 
--- the status of a renewal
+-- the status of a renewal, of a message's lock or a session's
 abbrev pub renewed_status : Reply → Status
 renewed_status (Renewed until) = status.Ok
 renewed_status _ = status.InternalServerError
@@ -145,42 +165,73 @@ abbrev pub taken_status : Mode → Status
 taken_status Lock = status.Created
 taken_status Delete = status.Ok
 
--- a message whose texts and properties are fields, with the texts of its moments
-abbrev pub plain_message : Path → Mode → List ℕ → List ℕ → List ℕ → CopyShown → ResponseMessage
-plain_message from mode host enqueued until c = record { status = taken_status mode; fields = message_fields host enqueued until from c; body = c.message.body; ends = false }
+-- a message whose texts and properties are fields, with the texts of its moments and of the place where it was received
+abbrev pub plain_message : List ℕ → Mode → List ℕ → List ℕ → List ℕ → CopyShown → ResponseMessage
+plain_message place mode host enqueued until c = record { status = taken_status mode; fields = message_fields host enqueued until place c; body = c.message.body; ends = false }
 
 -- a message that is all in the body, asked for or not
-abbrev pub json_message : Bool → Path → Mode → List ℕ → List ℕ → List ℕ → CopyShown → ResponseMessage
-json_message json from mode host enqueued until c = record { status = taken_status mode; fields = json_fields host enqueued until from c ++ unasked json; body = message_text c; ends = false }
+abbrev pub json_message : Bool → List ℕ → Mode → List ℕ → List ℕ → List ℕ → CopyShown → ResponseMessage
+json_message json place mode host enqueued until c = record { status = taken_status mode; fields = json_fields host enqueued until place c ++ unasked json; body = message_text c; ends = false }
 
 -- JSON where that is asked for, or where the head would be too large without it
-abbrev pub message_response : Bool → Path → Mode → List ℕ → List ℕ → List ℕ → CopyShown → ResponseMessage
-message_response json from mode host enqueued until c =
-    if not json && fits_head (message_fields host enqueued until from c) then plain_message from mode host enqueued until c else json_message json from mode host enqueued until c
+abbrev pub message_response : Bool → List ℕ → Mode → List ℕ → List ℕ → List ℕ → CopyShown → ResponseMessage
+message_response json place mode host enqueued until c =
+    if not json && fits_head (message_fields host enqueued until place c) then plain_message place mode host enqueued until c else json_message json place mode host enqueued until c
 
--- this is the response with a message that was received there
-pub record GivesMessage (from : Path) (mode : Mode) (host : List ℕ) (json : Bool) (c : CopyShown) (r : ResponseMessage) : Type 0 where
+-- this is the response with a message that was received there, under the token of its session, if under one
+pub record GivesMessage (from : Path) (session : Option Token) (mode : Mode) (host : List ℕ) (json : Bool) (c : CopyShown) (r : ResponseMessage) : Type 0 where
   pub enqueued : List ℕ
   pub until : List ℕ
   pub entered : IsTime c.enqueued enqueued
   pub locked : IsUntil c.showing until
-  pub whole : r ≡ message_response json from mode host enqueued until c
+  pub whole : r ≡ message_response json (place_of from session c.message) mode host enqueued until c
 
 -- this is the response to a receive that was accepted
-abbrev pub GivesTaken : Path → Mode → List ℕ → Bool → Reply → ResponseMessage → Type 0
-GivesTaken from mode host json (Message c) r = GivesMessage from mode host json c r
-GivesTaken from mode host json Empty r = r ≡ bare status.NoContent
-GivesTaken from mode host json (Expired n) r = r ≡ bare status.NoContent
-GivesTaken from mode host json _ r = r ≡ bare status.InternalServerError
+abbrev pub GivesTaken : Path → Option Token → Mode → List ℕ → Bool → Reply → ResponseMessage → Type 0
+GivesTaken from session mode host json (Message c) r = GivesMessage from session mode host json c r
+GivesTaken from session mode host json Empty r = r ≡ bare status.NoContent
+GivesTaken from session mode host json (Expired n) r = r ≡ bare status.NoContent
+GivesTaken from session mode host json _ r = r ≡ bare status.InternalServerError
+
+-- a session that was accepted, with the text of the moment up to which its lock lives
+abbrev pub accepted_response : Path → List ℕ → List ℕ → Token → List ℕ → ResponseMessage
+accepted_response from host id token until = record { status = status.Created; fields = accepted_fields host (place_text from (Some token) id) id until; body = []; ends = false }
+
+-- this is that response
+pub record GivesSession (from : Path) (host id : List ℕ) (token : Token) (moment : ℕ) (r : ResponseMessage) : Type 0 where
+  pub until : List ℕ
+  pub lives : IsTime moment until
+  pub whole : r ≡ accepted_response from host id token until
+
+-- this is the response where a session was asked for
+abbrev pub GivesAccepted : Path → List ℕ → Reply → ResponseMessage → Type 0
+GivesAccepted from host (Session id token moment) r = GivesSession from host id token moment r
+GivesAccepted from host Empty r = r ≡ bare status.NoContent
+GivesAccepted from host _ r = r ≡ bare status.InternalServerError
+
+-- these bytes as they are (RFC 2046, 4.5.1)
+abbrev pub bytes_response : List ℕ → ResponseMessage
+bytes_response bytes = record { status = status.Ok; fields = (codes "Content-Type", codes "application/octet-stream") ∷ []; body = bytes; ends = false }
+
+-- what a session remembers
+abbrev pub state_response : Reply → ResponseMessage
+state_response (State None) = bare status.NoContent
+state_response (State (Some bytes)) = bytes_response bytes
+state_response _ = bare status.InternalServerError
 
 -- this is the response to a call that was accepted
 abbrev pub GivesReply : Act → List ℕ → Bool → Reply → ResponseMessage → Type 0
 GivesReply (Send to messages txn) host json reply r = r ≡ sent_response messages reply
 GivesReply (Cancel from number) host json reply r = r ≡ bare (settled_status reply)
-GivesReply (Receive from mode session) host json reply r = GivesTaken from mode host json reply r
-GivesReply (ReceiveDeferred from number mode session) host json reply r = GivesTaken from mode host json reply r
+GivesReply (Receive from mode session) host json reply r = GivesTaken from session mode host json reply r
+GivesReply (ReceiveDeferred from number mode session) host json reply r = GivesTaken from session mode host json reply r
 GivesReply (Settle from which token session how txn) host json reply r = r ≡ bare (settled_status reply)
 GivesReply (Renew from which token) host json reply r = r ≡ bare (renewed_status reply)
+GivesReply (Accept from id) host json reply r = GivesAccepted from host reply r
+GivesReply (SessionRenew from session) host json reply r = r ≡ bare (renewed_status reply)
+GivesReply (SessionClose from session) host json reply r = r ≡ bare (settled_status reply)
+GivesReply (SessionSet from session state) host json reply r = r ≡ bare (settled_status reply)
+GivesReply (SessionState from session) host json reply r = r ≡ state_response reply
 GivesReply _ host json reply r = r ≡ bare status.InternalServerError
 
 -- ---- answers
@@ -195,7 +246,7 @@ GivesKept act host json reply r = (first : ResponseMessage) × GivesReply act ho
 
 -- this is the response to a call that is answered so; host is that of the request, and json whether it asks for messages as JSON
 abbrev pub Gives : Act → Result Answered Refusal → List ℕ → Bool → ResponseMessage → Type 0
-Gives act (Err refused) host json r = r ≡ refusal_response refused
+Gives act (Err refused) host json r = GivesRefusal refused r
 Gives act (Ok (Kept reply)) host json r = GivesKept act host json reply r
 Gives act (Ok (New reply)) host json r = GivesReply act host json reply r
 

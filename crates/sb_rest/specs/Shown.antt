@@ -4,13 +4,18 @@ use Rattle.std.specs.List.{list_all, flat_map}
 use Rattle.std.specs.Fmt.{decimal, signed_decimal}
 use Rattle.json.specs.Print.{quoted}
 use Rattle.httparse.specs.Grammar.{is_token}
+use Rattle.percent_encoding.specs.declared.ascii_set.TheConstants.{NON_ALPHANUMERIC}
+use Rattle.percent_encoding.specs.Percent.{percent_encode}
 use Rattle.serde_json.specs.Data.{number, unsigned, string, object, Members, no_members, put}
 use Rattle.serde_json.specs.Written.{compact_text}
 use Rattle.sb_model.specs.SystemNames.{system_name, system_code}
+use Rattle.sb_model.specs.declared.message.Message.{Message}
 use Rattle.sb_model.specs.declared.message.Property.{Property}
 use Rattle.sb_model.specs.declared.message.PropertyValue.{PropertyValue}
 use Rattle.sb_model.specs.declared.message.PropertyValue.TheVariants.{Int, Text, Bool as Truth}
+use Rattle.sb_model.specs.declared.message.SystemName.TheVariants.{SessionId}
 use Rattle.sb_model.specs.declared.message.SystemText.{SystemText}
+use Rattle.sb_machine.specs.Messages.{text_of}
 use Rattle.sb_machine.specs.declared.reply.CopyShown.{CopyShown}
 use Rattle.sb_machine.specs.declared.reply.Showing.{Showing}
 use Rattle.sb_machine.specs.declared.reply.Showing.TheVariants.{Removed, Locked, Browsed}
@@ -22,6 +27,7 @@ use Rattle.sb_http.specs.Fields.{Field}
 use Rattle.sb_lines.specs.Tokens.{token_text}
 use Rattle.sb_rest.specs.Escapes.{ascii_json}
 use Rattle.sb_rest.specs.Reserved.{is_hidden}
+use Rattle.sb_rest.specs.Values.{or_that}
 
 -- ---- texts that may stand in a header as they are
 
@@ -85,15 +91,36 @@ part_text Transfer = codes "/$transfer/$deadletterqueue"
 abbrev pub address_text : Path → List ℕ
 address_text path = base_text path path.subscription ++ part_text path.part
 
+-- what tells a session of this id, and the token of its holder: all but letters and digits is escaped in the id (RFC 3986, 2.1)
+abbrev pub session_part : Option Token → List ℕ → List ℕ
+session_part None id = []
+session_part (Some token) id = codes "/sessions/" ++ percent_encode NON_ALPHANUMERIC id ++ codes "/" ++ token_text token
+
+-- where messages are received: an address, or a session there
+abbrev pub place_text : Path → Option Token → List ℕ → List ℕ
+place_text from session id = address_text from ++ session_part session id
+
+-- the id of the session that a message is of; of none it is empty
+abbrev pub session_of : Message → List ℕ
+session_of m = or_that [] (text_of SessionId m)
+
+-- where a message was received, under the token of its session, if under one
+abbrev pub place_of : Path → Option Token → Message → List ℕ
+place_of from session m = place_text from session (session_of m)
+
+-- the URL of a place
+abbrev pub url_text : List ℕ → List ℕ → List ℕ
+url_text host place = codes "http://" ++ host ++ codes "/" ++ place
+
 -- where a message under a lock is renewed and settled
-unfoldable pub location_text : List ℕ → Path → ℕ → Token → List ℕ
-location_text host from n token = codes "http://" ++ host ++ codes "/" ++ address_text from ++ codes "/messages/" ++ decimal n ++ codes "/" ++ token_text token
+unfoldable pub location_text : List ℕ → List ℕ → ℕ → Token → List ℕ
+location_text host place n token = codes "http://" ++ host ++ codes "/" ++ place ++ codes "/messages/" ++ decimal n ++ codes "/" ++ token_text token
 
 -- under a lock alone
-abbrev pub location_under : Showing → List ℕ → Path → ℕ → List Field
-location_under (Locked token until) host from n = (codes "Location", location_text host from n token) ∷ []
-location_under Removed host from n = []
-location_under (Browsed state) host from n = []
+abbrev pub location_under : Showing → List ℕ → List ℕ → ℕ → List Field
+location_under (Locked token until) host place n = (codes "Location", location_text host place n token) ∷ []
+location_under Removed host place n = []
+location_under (Browsed state) host place n = []
 
 -- ---- Content-Type
 
@@ -124,7 +151,7 @@ property_fields p = if stands p then (p.name, value_text p.value) ∷ [] else []
 
 -- ---- all headers
 
--- with the texts of the message's moments
-abbrev pub message_fields : List ℕ → List ℕ → List ℕ → Path → CopyShown → List Field
-message_fields host enqueued until from c =
-    (codes "BrokerProperties", broker_text c.message.sys enqueued until c) ∷ (location_under c.showing host from c.number ++ flat_map type_fields c.message.sys ++ flat_map property_fields c.message.props)
+-- with the texts of the message's moments and of the place where it was received
+abbrev pub message_fields : List ℕ → List ℕ → List ℕ → List ℕ → CopyShown → List Field
+message_fields host enqueued until place c =
+    (codes "BrokerProperties", broker_text c.message.sys enqueued until c) ∷ (location_under c.showing host place c.number ++ flat_map type_fields c.message.sys ++ flat_map property_fields c.message.props)

@@ -1,5 +1,6 @@
 -- Requests that were worked out by hand, and what they ask for.
-use Rattle.std.specs.Prelude.{ℕ, List, [], ◌∷◌, codes, Some, None, Result, Ok}
+use Rattle.std.specs.Prelude.{ℕ, List, [], ◌∷◌, ◌++◌, codes, Some, None, Result, Ok}
+use Rattle.sb_machine.specs.declared.call.Act.{Act}
 use Rattle.sb_machine.specs.declared.call.Act.TheVariants.{Cancel, Receive, ReceiveDeferred, Send, Settle}
 use Rattle.sb_machine.specs.declared.call.How.{How}
 use Rattle.sb_machine.specs.declared.call.Mode.{Mode}
@@ -11,14 +12,17 @@ use Rattle.sb_machine.specs.declared.call.Which.TheVariants.{Id}
 use Rattle.sb_machine.specs.declared.reply.CopyShown.{CopyShown}
 use Rattle.sb_machine.specs.declared.reply.Showing.TheVariants.{Locked}
 use Rattle.sb_model.specs.declared.message.Message.{Message}
+use Rattle.sb_model.specs.declared.message.SystemName.TheVariants.{SessionId}
 use Rattle.sb_routes.specs.declared.routes.Address.TheVariants.{Entity}
+use Rattle.sb_routes.specs.declared.routes.Route.{Route}
 use Rattle.sb_http.specs.Fields.{Field}
 use Rattle.sb_http.specs.Messages.{RequestMessage}
 use Rattle.sb_rest.specs.declared.access.Access.{Access}
+use Rattle.sb_rest.specs.declared.asked.Scope.TheVariants as scope
 use Rattle.sb_rest.specs.declared.call.RestFault.{RestFault}
 use Rattle.sb_rest.specs.declared.call.Wanted.{Wanted}
 use Rattle.sb_rest.specs.declared.draft.Broker.{Broker}
-use Rattle.sb_rest.specs.Calls.{in_time, put}
+use Rattle.sb_rest.specs.Calls.{in_time, on_route, put}
 
 -- this request of HTTP/1.1 to the host h
 abbrev pub request : List ℕ → List ℕ → List Field → List ℕ → RequestMessage
@@ -77,7 +81,7 @@ first_token = record { salt = 11651590505119483672; lock = 1 }
 
 -- a PUT on the first message of q, with a query
 abbrev pub puts : List ℕ → List Field → Result Wanted (List ℕ)
-puts query fields = put (Entity Main) (codes "/q/messages/1/a1b2c3d4-e5f6-0718-0000-000000000001") query fields
+puts query fields = put (Entity Main) scope.Whole (codes "/q/messages/1/a1b2c3d4-e5f6-0718-0000-000000000001") query fields
 
 -- this becomes of it
 abbrev pub settles : How → Result Wanted (List ℕ)
@@ -86,6 +90,24 @@ settles how = Ok (in_time None (Settle q (Id (codes "1")) first_token None how N
 -- why it is a dead letter, by BrokerProperties
 abbrev pub why : List ℕ → List Field
 why text = (codes "BrokerProperties", text) ∷ []
+
+-- ---- a session
+
+-- a message of the session "a b"
+abbrev pub of_session : Message
+of_session = record { body = codes "hi"; sys = record { name = SessionId; text = codes "a b" } ∷ []; props = []; ttl = None; schedule = None }
+
+-- a path at the session s of q, which first_token holds
+abbrev pub held : List ℕ → List ℕ
+held rest = codes "/q/sessions/s/a1b2c3d4-e5f6-0718-0000-000000000001" ++ rest
+
+-- a request on this route, without fields
+abbrev pub on : Route → List ℕ → List ℕ → List ℕ → Result Wanted RestFault
+on r method target body = on_route (Some r) (request method target [] body)
+
+-- this call, which may wait 60 s
+abbrev pub makes : Act → Result Wanted RestFault
+makes act = Ok (in_time None act 60)
 
 -- ---- who may call
 

@@ -8,8 +8,8 @@ ghost use Rattle.sb_routes.specs.Paths.{path_of, query_of};
 ghost use Rattle.sb_rest.specs.Calls as calls;
 
 use crate::access::{Access, has_key, is_foreign};
-use crate::act::{act_in, locked_in, settled};
-use crate::asked::{Asked, PathAct, at_deferred, at_head, at_locked, at_scheduled, if_post, is};
+use crate::act::{act_in, locked_in, remembered, settled};
+use crate::asked::{Asked, PathAct, Scope, asked_at, is};
 use crate::batch::{is_batch, messages_in as batch_in};
 use crate::disposition::{disposition_in, how_of};
 use crate::header::message_in;
@@ -152,25 +152,44 @@ fn done(
     finish(alloc, act, query, text, lines)
 }
 
-// A message under a lock goes where the query says.
-#[tactic(auto, unfolding(crate::specs::Calls::put))]
-fn put(
+// A session remembers the body.
+fn remember(
     alloc: Global,
     address: Address,
     path: &[u8],
     query: &[u8],
     text: &[u8],
     lines: &[HeaderSpan],
+    body: &[u8],
 ) -> Result<Wanted, LineFault>
     requires { All (IsHeaderWithin (length text.now)) lines.now }
-    ensures { Answers result (calls.put address path.now query.now (map (header_bytes text.now) lines.now)) }
+    ensures { Answers result (calls.asked_with query.now (map (header_bytes text.now) lines.now) (calls.remembered address path.now body.now)) }
 {
-    let (from, id, token) = locked_in(alloc, address, path)?;
+    let act = remembered(alloc, address, path, body)?;
+    finish(alloc, act, query, text, lines)
+}
+
+// A message under a lock goes where the query says.
+#[tactic(auto, unfolding(crate::specs::Calls::put))]
+fn put(
+    alloc: Global,
+    address: Address,
+    scope: Scope,
+    path: &[u8],
+    query: &[u8],
+    text: &[u8],
+    lines: &[HeaderSpan],
+) -> Result<Wanted, LineFault>
+    requires { All (IsHeaderWithin (length text.now)) lines.now }
+    ensures { Answers result (calls.put address scope path.now query.now (map (header_bytes text.now) lines.now)) }
+{
+    let (from, session, id, token) = locked_in(alloc, address, scope, path)?;
     let timeout = timeout_in(alloc, query)?;
     let disposition = disposition_in(alloc, query)?;
     let by = by_in(alloc, text, lines)?;
     let how = how_of(alloc, disposition, text, lines)?;
-    Ok(in_time(by, settled(how, from, id, token), timeout))
+    let act = settled(how, from, session, id, token);
+    Ok(in_time(by, act, timeout))
 }
 
 // A method and a path that go together, before the query, the headers and the body.
@@ -187,7 +206,10 @@ fn wanted_by(
     let (text, lines) = (request.text, request.lines);
     match asked {
         Asked::Send => sent(alloc, path, query, text, lines, request.body),
-        Asked::Put(address) => put(alloc, address, path, query, text, lines),
+        Asked::Put(address, scope) => put(alloc, address, scope, path, query, text, lines),
+        Asked::Remember(address) => {
+            remember(alloc, address, path, query, text, lines, request.body)
+        }
         Asked::Do(act) => done(alloc, act, path, query, text, lines),
     }
 }
@@ -237,15 +259,13 @@ fn on_route(
     requires query { query.now ≡ query_of request.now.target.now }
     ensures { calls.Answers result (calls.on_route (Some route) (said_by request.now)) }
 {
-    let asked = match route {
-        Route::Messages => if_post(request.method, Asked::Send),
-        Route::Head(address) => at_head(address, request.method),
-        Route::Deferred(address) => at_deferred(address, request.method),
-        Route::Locked(address) => at_locked(address, request.method),
-        Route::Scheduled(address) => at_scheduled(address, request.method),
-        Route::Script => return on_script(request.method),
-    };
-    on_asked(alloc, route, asked, path, query, request)
+    match route {
+        Route::Script => on_script(request.method),
+        _ => {
+            let asked = asked_at(route, request.method);
+            on_asked(alloc, route, asked, path, query, request)
+        }
+    }
 }
 
 fn routed(alloc: Global, routes: &Routes, request: &Request) -> Result<Wanted, RestFault>

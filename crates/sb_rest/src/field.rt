@@ -13,7 +13,7 @@ use crate::reserved::is_hidden;
 use crate::shown::{broker_text, json_line};
 use httparse::is_token;
 use sb_http::Header;
-use sb_machine::{CopyShown, Path, Showing};
+use sb_machine::{CopyShown, Showing};
 use sb_model::{Property, PropertyValue, SystemText};
 use serde_json::Value;
 use std::alloc::{AllocError, Global};
@@ -80,15 +80,15 @@ pub(crate) fn push_location(
     alloc: Global,
     headers: &mut Vec<Header>,
     host: &[u8],
-    from: &Path,
+    place: &str,
     copy: &CopyShown,
 ) -> Result<(), AllocError>
     ensures { OnOk result (map field_in headers.new.items
-        ≡ map field_in headers.old.items ++ shown.location_under copy.now.showing host.now from.now copy.now.number) }
+        ≡ map field_in headers.old.items ++ shown.location_under copy.now.showing host.now place.now copy.now.number) }
 {
     match copy.showing {
         Showing::Locked { token, .. } => {
-            let location = location_text(alloc, host, from, copy.number, token)?;
+            let location = location_text(alloc, host, place, copy.number, token)?;
             push_field(alloc, headers, b"Location", &location)
         }
         Showing::Removed | Showing::Browsed(_) => Ok(()),
@@ -171,23 +171,23 @@ fn push_properties(
     Ok(())
 }
 
-/// The headers of a message that was received there, with the texts of its moments.
+/// The headers of a message that was received there, with the texts of its moments and of the place.
 pub(crate) fn message_fields(
     alloc: Global,
     host: &[u8],
     enqueued: &str,
     until: &str,
-    from: &Path,
+    place: &str,
     copy: &CopyShown,
 ) -> Result<Vec<Header>, AllocError>
     ensures { IfOk result (λ v. map field_in v.items
-        ≡ shown.message_fields host.now enqueued.now until.now from.now copy.now) }
+        ≡ shown.message_fields host.now enqueued.now until.now place.now copy.now) }
 {
     let mut headers = Vec::new(alloc);
     let texts = copy.message.sys.as_slice();
     let broker = broker_text(alloc, texts, enqueued, until, copy)?;
     push_field(alloc, &mut headers, b"BrokerProperties", &broker)?;
-    push_location(alloc, &mut headers, host, from, copy)?;
+    push_location(alloc, &mut headers, host, place, copy)?;
     push_types(alloc, &mut headers, texts)?;
     push_properties(alloc, &mut headers, copy.message.props.as_slice())?;
     Ok(headers)

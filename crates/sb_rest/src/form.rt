@@ -10,7 +10,7 @@ use crate::media::{is_blank, is_media_word};
 use crate::shown::broker_text;
 use httparse::spans::HeaderSpan;
 use sb_http::{Header, Request, is_word};
-use sb_machine::{CopyShown, Path};
+use sb_machine::CopyShown;
 use sb_routes::cut;
 use std::alloc::{AllocError, Global};
 
@@ -103,22 +103,23 @@ pub fn wants_json(request: &Request) -> bool
 
 // ---- what it says
 
-/// The headers of a message that is all in the body, with the texts of its moments.
+/// The headers of a message that is all in the body, with the texts of its moments and of the place
+/// where it was received.
 pub(crate) fn json_fields(
     alloc: Global,
     host: &[u8],
     enqueued: &str,
     until: &str,
-    from: &Path,
+    place: &str,
     copy: &CopyShown,
 ) -> Result<Vec<Header>, AllocError>
     ensures { IfOk result (λ v. map field_in v.items
-        ≡ forms.json_fields host.now enqueued.now until.now from.now copy.now) }
+        ≡ forms.json_fields host.now enqueued.now until.now place.now copy.now) }
 {
     let mut headers = Vec::new(alloc);
     let broker = broker_text(alloc, &[], enqueued, until, copy)?;
     push_field(alloc, &mut headers, b"BrokerProperties", &broker)?;
-    push_location(alloc, &mut headers, host, from, copy)?;
+    push_location(alloc, &mut headers, host, place, copy)?;
     push_field(alloc, &mut headers, b"Content-Type", JSON_TYPE)?;
     Ok(headers)
 }

@@ -42,6 +42,7 @@ mod query;
 mod repeat;
 mod reserved;
 mod response;
+mod session;
 mod shown;
 mod timeout;
 mod value;
@@ -55,5 +56,5 @@ pub use media::has_media_type;
 pub use response::{fault_response, host_of, line_response, response_of};
 pub use worked::{
     worked_callers, worked_calls, worked_dispositions, worked_forms, worked_numbers, worked_parts,
-    worked_responses,
+    worked_responses, worked_session_responses, worked_sessions,
 };

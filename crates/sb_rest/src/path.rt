@@ -3,6 +3,7 @@ ghost use Rattle.std.specs.Prelude.{◌≡◌};
 ghost use Rattle.sb_lines.specs.Faults.{Answers};
 ghost use Rattle.sb_rest.specs.Calls as calls;
 
+use crate::asked::Scope;
 use crate::repeat::decimal_in;
 use percent_encoding::percent_decode;
 use sb_lines::{LineFault, bad, token_of};
@@ -58,7 +59,8 @@ pub(crate) fn address_in(alloc: Global, address: Address, path: &[u8]) -> Result
     }
 }
 
-/// How many slashes stand before the id or the number of a message.
+/// How many slashes stand before the id of a session, and before the id or the number of a message that
+/// is in none.
 pub(crate) fn id_place(address: Address) -> usize
     ensures { result ≡ calls.id_place address }
 {
@@ -69,6 +71,16 @@ pub(crate) fn id_place(address: Address) -> usize
         Address::Subscription(Part::Main) => 5,
         Address::Subscription(Part::Dead) => 6,
         Address::Subscription(Part::Transfer) => 7,
+    }
+}
+
+/// How many slashes stand before the id or the number of a message.
+pub(crate) fn message_place(address: Address, scope: Scope) -> usize
+    ensures { result ≡ calls.message_place address scope }
+{
+    match scope {
+        Scope::Whole => id_place(address),
+        Scope::Session => id_place(address) + 3,
     }
 }
 
@@ -83,7 +95,7 @@ pub(crate) fn number_at(alloc: Global, path: &[u8], n: usize) -> Result<u64, Lin
     }
 }
 
-/// The token that a segment is.
+/// The token of a lock that a segment is.
 pub(crate) fn token_at(alloc: Global, path: &[u8], n: usize) -> Result<Token, LineFault>
     ensures { Answers result (calls.token_at n path.now) }
 {
@@ -91,5 +103,39 @@ pub(crate) fn token_at(alloc: Global, path: &[u8], n: usize) -> Result<Token, Li
     match token_of(text.as_str()) {
         Some(token) => Ok(token),
         None => bad(alloc, "token"),
+    }
+}
+
+/// Whose a session that is held is, and its token.
+pub(crate) fn held_in(
+    alloc: Global,
+    address: Address,
+    path: &[u8],
+) -> Result<(Path, Token), LineFault>
+    ensures { Answers result (calls.held_in address path.now) }
+{
+    let from = address_in(alloc, address, path)?;
+    let session = token_at(alloc, path, id_place(address) + 1)?;
+    Ok((from, session))
+}
+
+/// Whose messages a path names, and the token of the session that they are in, where they are in one.
+pub(crate) fn scope_in(
+    alloc: Global,
+    address: Address,
+    scope: Scope,
+    path: &[u8],
+) -> Result<(Path, Option<Token>), LineFault>
+    ensures { Answers result (calls.scope_in address scope path.now) }
+{
+    match scope {
+        Scope::Whole => {
+            let from = address_in(alloc, address, path)?;
+            Ok((from, None))
+        }
+        Scope::Session => {
+            let (from, session) = held_in(alloc, address, path)?;
+            Ok((from, Some(session)))
+        }
     }
 }

@@ -11,12 +11,16 @@ ghost use Rattle.sb_rest.specs.Responses as responses;
 use crate::call::RestFault;
 use crate::field::{message_fields, push_field};
 use crate::form::{fits_head, json_fields, push_unasked};
+use crate::location::{place_of, place_text};
 use crate::moment::{time_text, until_text};
+use crate::session::accepted_fields;
 use crate::shown::json_line;
 use httparse::spans::HeaderSpan;
 use sb_http::{Header, Request, Response, Status, is_word};
 use sb_lines::{message_text, refusal_value};
-use sb_machine::{Act, Answer, Answered, Call, CopyShown, Mode, Path, Receipt, Refusal, Reply};
+use sb_machine::{
+    Act, Answer, Answered, Call, CopyShown, Mode, Path, Receipt, Refusal, Reply, Token,
+};
 use sb_model::Message;
 use sb_routes::Route;
 use std::alloc::{AllocError, Global};
@@ -41,11 +45,14 @@ fn refusal_status(refusal: &Refusal) -> Status
         Refusal::BadCall { .. }
         | Refusal::BadName
         | Refusal::WrongKind
-        | Refusal::SessionRequired => Status::BadRequest,
+        | Refusal::SessionRequired
+        | Refusal::SessionNotAllowed => Status::BadRequest,
         Refusal::EntityNotFound => Status::Gone,
         Refusal::TooLarge { .. } | Refusal::QuotaExceeded { .. } => Status::Forbidden,
-        Refusal::LockLost | Refusal::NotDeferred | Refusal::NotScheduled => Status::NotFound,
-        Refusal::TxnPending { .. }
+        Refusal::LockLost | Refusal::SessionLost | Refusal::NotDeferred | Refusal::NotScheduled =>
+            Status::NotFound,
+        Refusal::SessionHeld { .. }
+        | Refusal::TxnPending { .. }
         | Refusal::StaleNumber { .. }
         | Refusal::NumberReused
         | Refusal::ClientsFull => Status::Conflict,
@@ -100,6 +107,38 @@ fn refusal_response(alloc: Global, refusal: &Refusal) -> Result<Response, AllocE
     })
 }
 
+// Somebody holds the session: it may be asked for again from a moment on, in ms since 1970.
+fn held_response(alloc: Global, until: u64) -> Result<Response, AllocError>
+    ensures { IfOk result (λ r. responses.GivesHeld until (said_in r)) }
+{
+    let moment = time_text(alloc, until)?;
+    timed_refusal(alloc, until, moment.as_str())
+}
+
+// The same with the text of that moment.
+fn timed_refusal(alloc: Global, until: u64, moment: &str) -> Result<Response, AllocError>
+    ensures { IfOk result (λ r. said_in r ≡ responses.held_response until moment.now) }
+{
+    let mut response = refusal_response(alloc, &Refusal::SessionHeld { until })?;
+    push_field(
+        alloc,
+        &mut response.headers,
+        b"Retry-After",
+        moment.as_bytes(),
+    )?;
+    Ok(response)
+}
+
+// The response to a call that was refused.
+fn refused_response(alloc: Global, refusal: &Refusal) -> Result<Response, AllocError>
+    ensures { IfOk result (λ r. responses.GivesRefusal refusal.now (said_in r)) }
+{
+    match refusal {
+        Refusal::SessionHeld { until } => held_response(alloc, *until),
+        _ => refusal_response(alloc, refusal),
+    }
+}
+
 // The methods of a route as a list.
 fn allowed(route: Route) -> &'static [u8]
     ensures { result.now ≡ responses.listed (methods_of route) }
@@ -110,6 +149,11 @@ fn allowed(route: Route) -> &'static [u8]
         Route::Deferred(_) => b"DELETE, POST",
         Route::Locked(_) => b"DELETE, POST, PUT",
         Route::Scheduled(_) => b"DELETE",
+        Route::NextSession(_) | Route::NamedSession(_) => b"POST",
+        Route::HeldSession(_) => b"DELETE, POST",
+        Route::SessionState(_) => b"GET, PUT",
+        Route::SessionHead(_) | Route::SessionDeferred(_) => b"DELETE, POST",
+        Route::SessionLocked(_) => b"DELETE, PUT",
         Route::Script => b"POST",
     }
 }
@@ -284,7 +328,7 @@ fn plain_message(
 // A message that is all in the body.
 fn json_message(
     alloc: Global,
-    from: &Path,
+    place: &str,
     mode: Mode,
     host: &[u8],
     json: bool,
@@ -292,9 +336,9 @@ fn json_message(
     until: &str,
     copy: &CopyShown,
 ) -> Result<Response, AllocError>
-    ensures { IfOk result (λ r. said_in r ≡ responses.json_message json from.now mode host.now enqueued.now until.now copy.now) }
+    ensures { IfOk result (λ r. said_in r ≡ responses.json_message json place.now mode host.now enqueued.now until.now copy.now) }
 {
-    let mut headers = json_fields(alloc, host, enqueued, until, from, copy)?;
+    let mut headers = json_fields(alloc, host, enqueued, until, place, copy)?;
     push_unasked(alloc, &mut headers, json)?;
     let body = message_text(alloc, copy)?;
     Ok(Response {
@@ -305,10 +349,10 @@ fn json_message(
     })
 }
 
-// A message with the texts of its moments.
+// A message with the texts of its moments and of the place where it was received.
 fn timed_message(
     alloc: Global,
-    from: &Path,
+    place: &str,
     mode: Mode,
     host: &[u8],
     json: bool,
@@ -316,51 +360,139 @@ fn timed_message(
     until: &str,
     copy: &CopyShown,
 ) -> Result<Response, AllocError>
-    ensures { IfOk result (λ r. said_in r ≡ responses.message_response json from.now mode host.now enqueued.now until.now copy.now) }
+    ensures { IfOk result (λ r. said_in r ≡ responses.message_response json place.now mode host.now enqueued.now until.now copy.now) }
 {
     if json {
-        return json_message(alloc, from, mode, host, json, enqueued, until, copy);
+        return json_message(alloc, place, mode, host, json, enqueued, until, copy);
     }
-    let headers = message_fields(alloc, host, enqueued, until, from, copy)?;
+    let headers = message_fields(alloc, host, enqueued, until, place, copy)?;
     if fits_head(&headers) {
         return plain_message(alloc, mode, headers, copy);
     }
     drop(headers);
-    json_message(alloc, from, mode, host, json, enqueued, until, copy)
+    json_message(alloc, place, mode, host, json, enqueued, until, copy)
 }
 
 fn message_response(
     alloc: Global,
     from: &Path,
+    session: Option<Token>,
     mode: Mode,
     host: &[u8],
     json: bool,
     copy: &CopyShown,
 ) -> Result<Response, AllocError>
-    ensures { IfOk result (λ r. responses.GivesMessage from.now mode host.now json copy.now (said_in r)) }
+    ensures { IfOk result (λ r. responses.GivesMessage from.now session mode host.now json copy.now (said_in r)) }
 {
     let enqueued = time_text(alloc, copy.enqueued)?;
     let until = until_text(alloc, copy.showing)?;
-    let (enqueued, until) = (enqueued.as_str(), until.as_str());
-    timed_message(alloc, from, mode, host, json, enqueued, until, copy)
+    let place = place_of(alloc, from, session, &copy.message)?;
+    let (place, enqueued, until) = (place.as_str(), enqueued.as_str(), until.as_str());
+    timed_message(alloc, place, mode, host, json, enqueued, until, copy)
 }
 
 fn taken_response(
     alloc: Global,
     from: &Path,
+    session: Option<Token>,
     mode: Mode,
     host: &[u8],
     json: bool,
     reply: &Reply,
 ) -> Result<Response, AllocError>
-    ensures { IfOk result (λ r. responses.GivesTaken from.now mode host.now json reply.now (said_in r)) }
+    ensures { IfOk result (λ r. responses.GivesTaken from.now session mode host.now json reply.now (said_in r)) }
 {
     match reply {
-        Reply::Message(copy) => message_response(alloc, from, mode, host, json, copy),
+        Reply::Message(copy) => message_response(alloc, from, session, mode, host, json, copy),
         Reply::Empty | Reply::Expired { .. } => Ok(bare(alloc, Status::NoContent)),
         _ => Ok(bare(alloc, Status::InternalServerError)),
     }
 }
+
+// ---- sessions
+
+// A session that was accepted, with the text of the moment up to which its lock lives.
+fn timed_session(
+    alloc: Global,
+    from: &Path,
+    host: &[u8],
+    id: &str,
+    token: Token,
+    until: &str,
+) -> Result<Response, AllocError>
+    ensures { IfOk result (λ r. said_in r ≡ responses.accepted_response from.now host.now id.now token until.now) }
+{
+    let place = place_text(alloc, from, Some(token), id)?;
+    Ok(Response {
+        status: Status::Created,
+        headers: accepted_fields(alloc, host, place.as_str(), id, until)?,
+        body: Vec::new(alloc),
+        closes: false,
+    })
+}
+
+// A session that was accepted, whose lock lives until this moment, in ms since 1970.
+fn session_response(
+    alloc: Global,
+    from: &Path,
+    host: &[u8],
+    id: &str,
+    token: Token,
+    moment: u64,
+) -> Result<Response, AllocError>
+    ensures { IfOk result (λ r. responses.GivesSession from.now host.now id.now token moment (said_in r)) }
+{
+    let until = time_text(alloc, moment)?;
+    timed_session(alloc, from, host, id, token, until.as_str())
+}
+
+fn accepted_response(
+    alloc: Global,
+    from: &Path,
+    host: &[u8],
+    reply: &Reply,
+) -> Result<Response, AllocError>
+    ensures { IfOk result (λ r. responses.GivesAccepted from.now host.now reply.now (said_in r)) }
+{
+    match reply {
+        Reply::Session { id, session, until } => {
+            session_response(alloc, from, host, id.as_str(), *session, *until)
+        }
+        Reply::Empty => Ok(bare(alloc, Status::NoContent)),
+        _ => Ok(bare(alloc, Status::InternalServerError)),
+    }
+}
+
+// The bytes that a session remembers.
+fn bytes_response(alloc: Global, bytes: &[u8]) -> Result<Response, AllocError>
+    ensures { IfOk result (λ r. said_in r ≡ responses.bytes_response bytes.now) }
+{
+    let mut headers = Vec::new(alloc);
+    push_field(
+        alloc,
+        &mut headers,
+        b"Content-Type",
+        b"application/octet-stream",
+    )?;
+    Ok(Response {
+        status: Status::Ok,
+        headers,
+        body: bytes.to_vec(alloc)?,
+        closes: false,
+    })
+}
+
+fn state_response(alloc: Global, reply: &Reply) -> Result<Response, AllocError>
+    ensures { IfOk result (λ r. said_in r ≡ responses.state_response reply.now) }
+{
+    match reply {
+        Reply::State(Some(bytes)) => bytes_response(alloc, bytes.as_slice()),
+        Reply::State(None) => Ok(bare(alloc, Status::NoContent)),
+        _ => Ok(bare(alloc, Status::InternalServerError)),
+    }
+}
+
+// ---- acts
 
 fn reply_response(
     alloc: Global,
@@ -373,11 +505,24 @@ fn reply_response(
 {
     match act {
         Act::Send { messages, .. } => sent_response(alloc, messages.as_slice(), reply),
-        Act::Receive { from, mode, .. } | Act::ReceiveDeferred { from, mode, .. } => {
-            taken_response(alloc, from, *mode, host, json, reply)
+        Act::Receive {
+            from,
+            mode,
+            session,
         }
-        Act::Settle { .. } | Act::Cancel { .. } => Ok(bare(alloc, settled_status(reply))),
-        Act::Renew { .. } => Ok(bare(alloc, renewed_status(reply))),
+        | Act::ReceiveDeferred {
+            from,
+            mode,
+            session,
+            ..
+        } => taken_response(alloc, from, *session, *mode, host, json, reply),
+        Act::Settle { .. }
+        | Act::Cancel { .. }
+        | Act::SessionClose { .. }
+        | Act::SessionSet { .. } => Ok(bare(alloc, settled_status(reply))),
+        Act::Renew { .. } | Act::SessionRenew { .. } => Ok(bare(alloc, renewed_status(reply))),
+        Act::Accept { from, .. } => accepted_response(alloc, from, host, reply),
+        Act::SessionState { .. } => state_response(alloc, reply),
         _ => Ok(bare(alloc, Status::InternalServerError)),
     }
 }
@@ -403,7 +548,8 @@ fn kept_response(
 /// whether that asks for messages as JSON (`wants_json`). A message that is received has its texts
 /// and properties as fields, or is all in the body as JSON where that is asked for, or where an
 /// ordinary client could not take the head (64 lines of fields, 16,384 bytes). The send of one
-/// scheduled message is answered with its number. A reply that no call of a route is answered is an error
+/// scheduled message is answered with its number, an accepted session with its place, and the call for a
+/// session that somebody holds with the moment up to which the lock lives. A reply that no call of a route is answered is an error
 /// of the server's own. It fails for want of memory alone.
 pub fn response_of(
     alloc: Global,
@@ -417,7 +563,7 @@ pub fn response_of(
     match answer {
         Ok(Answered::New(reply)) => reply_response(alloc, &call.act, host, json, reply),
         Ok(Answered::Kept(reply)) => kept_response(alloc, &call.act, host, json, reply),
-        Err(refusal) => refusal_response(alloc, refusal),
+        Err(refusal) => refused_response(alloc, refusal),
     }
 }
 

@@ -20,7 +20,13 @@ fn is_shown(text: &SystemText) -> bool
     text.name.code() != 8
 }
 
-fn put_text(members: &mut Members, alloc: Global, key: &str, text: &str) -> Result<(), AllocError>
+/// Puts a text at a key.
+pub(crate) fn put_text(
+    members: &mut Map<String, Value>,
+    alloc: Global,
+    key: &str,
+    text: &str,
+) -> Result<(), AllocError>
     ensures { OnOk result (members_view members.new.entries
         ≡ with_member key.now (string text.now) (members_view members.old.entries)) }
 {

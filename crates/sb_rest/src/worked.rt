@@ -2,15 +2,18 @@
 ghost use Rattle.std.specs.Prelude.{◌≡◌, ◌∷◌, [], codes, true, false, replicate, Err, None, Ok, Some, pos, neg_ℤ};
 ghost use Rattle.serde_json.specs.Data.{string};
 ghost use Rattle.serde_json.specs.Read.{read};
-ghost use Rattle.sb_machine.specs.declared.reply.Refusal.TheVariants.{BadCall, NotDeferred, NotScheduled, Stopped};
+ghost use Rattle.sb_machine.specs.declared.reply.Refusal.TheVariants.{BadCall, NotDeferred, NotScheduled, SessionLost, SessionNotAllowed, Stopped};
 ghost use Rattle.sb_model.specs.declared.message.PropertyValue.TheVariants.{Int, Text};
+ghost use Rattle.sb_machine.specs.declared.call.Act.TheVariants as act;
 ghost use Rattle.sb_machine.specs.declared.call.How.TheVariants as how;
 ghost use Rattle.sb_machine.specs.declared.call.Mode.TheVariants as mode;
 ghost use Rattle.sb_machine.specs.declared.call.Part.TheVariants.{Main};
+ghost use Rattle.sb_machine.specs.declared.call.Which.TheVariants.{Id};
 ghost use Rattle.sb_machine.specs.declared.reply.Receipt.TheVariants.{Number, Duplicate};
-ghost use Rattle.sb_machine.specs.declared.reply.Reply.TheVariants.{Sent};
+ghost use Rattle.sb_machine.specs.declared.reply.Reply.TheVariants.{Sent, State};
 ghost use Rattle.sb_routes.specs.declared.routes.Address.TheVariants.{Entity};
 ghost use Rattle.sb_routes.specs.declared.routes.Route.TheVariants.{Messages, Deferred, Locked, Scheduled};
+ghost use Rattle.sb_routes.specs.declared.routes.Route.TheVariants.{NamedSession, HeldSession, SessionState, SessionHead, SessionDeferred, SessionLocked};
 ghost use Rattle.sb_http.specs.declared.response.Status.TheVariants as status;
 ghost use Rattle.sb_rest.specs.declared.call.RestFault.TheVariants.{Foreign, NoKey, NoRoute, BadMethod, Bad, Script};
 ghost use Rattle.sb_rest.specs.Batches as batches;
@@ -18,6 +21,7 @@ ghost use Rattle.sb_rest.specs.Brokers.{broker_in};
 ghost use Rattle.sb_rest.specs.Calls.{call_of, at_locked, number_at};
 ghost use Rattle.sb_rest.specs.Callers.{is_foreign, has_key, is_known, shows};
 ghost use Rattle.sb_rest.specs.declared.asked.Asked.TheVariants.{Put};
+ghost use Rattle.sb_rest.specs.declared.asked.Scope.TheVariants as scope;
 ghost use Rattle.sb_rest.specs.Dispositions.{how_of};
 ghost use Rattle.sb_rest.specs.declared.disposition.Disposition.TheVariants.{DeadLetter};
 ghost use Rattle.sb_rest.specs.Escapes.{ascii_json};
@@ -25,9 +29,10 @@ ghost use Rattle.sb_rest.specs.Forms.{fits_head, is_json_asked, lists_json, unas
 ghost use Rattle.sb_rest.specs.Lifetimes.{span_in};
 ghost use Rattle.sb_rest.specs.Values.{header_value};
 ghost use Rattle.sb_rest.specs.Repeats as repeats;
-ghost use Rattle.sb_rest.specs.Responses.{refusal_status, refusal_text, method_response, key_response, sent_response};
-ghost use Rattle.sb_rest.specs.Shown.{broker_text, location_text, property_fields};
+ghost use Rattle.sb_rest.specs.Responses.{refusal_status, refusal_text, method_response, key_response, sent_response, accepted_response, held_response, state_response};
+ghost use Rattle.sb_rest.specs.Shown.{broker_text, location_text, place_of, property_fields};
 ghost use Rattle.sb_rest.specs.Worked.{request, sends, takes, takes_as, living, text_alone, q, unlocked, hosted, keyed, showing, waiting, takes_deferred, cancels, puts, settles, why, first_token, first_copy, with_umlaut, smile};
+ghost use Rattle.sb_rest.specs.Worked.{held, makes, of_session, on};
 
 /// The definitions say of these requests what was worked out by hand.
 pub fn worked_calls()
@@ -105,7 +110,7 @@ pub fn worked_parts()
 
 /// The same of what becomes of a message under a lock.
 pub fn worked_dispositions()
-    ensures method { at_locked (Entity Main) (codes "PUT") ≡ Some (Put (Entity Main)) }
+    ensures method { at_locked (Entity Main) (codes "PUT") ≡ Some (Put (Entity Main) scope.Whole) }
     ensures abandon { puts [] (why (codes "7")) ≡ settles how.Abandon }
     ensures defer { puts (codes "a=b&disposition=defer&disposition=x") (why (codes "7")) ≡ settles how.Defer }
     ensures dead_letter { puts (codes "disposition=dead-letter") (why (codes "{\"DeadLetterReason\":\"r\"}")) ≡ settles (how.DeadLetter (Some (codes "r")) None) }
@@ -142,7 +147,7 @@ pub fn worked_numbers()
 pub fn worked_responses()
     ensures broker { broker_text [] (codes "Thu, 01 Jan 1970 00:00:01 GMT") (codes "Thu, 01 Jan 1970 00:01:01 GMT") first_copy
         ≡ codes "{\"DeliveryCount\":1,\"EnqueuedSequenceNumber\":1,\"EnqueuedTimeUtc\":\"Thu, 01 Jan 1970 00:00:01 GMT\",\"LockToken\":\"a1b2c3d4-e5f6-0718-0000-000000000001\",\"LockedUntilUtc\":\"Thu, 01 Jan 1970 00:01:01 GMT\",\"SequenceNumber\":1}" }
-    ensures location { location_text (codes "h") q 1 first_token ≡ codes "http://h/q/messages/1/a1b2c3d4-e5f6-0718-0000-000000000001" }
+    ensures location { location_text (codes "h") (place_of q None (text_alone [])) 1 first_token ≡ codes "http://h/q/messages/1/a1b2c3d4-e5f6-0718-0000-000000000001" }
     ensures refused { refusal_text (BadCall (codes "TimeToLive")) ≡ codes "{\"key\":\"TimeToLive\",\"refused\":\"BadCall\"}" }
     ensures stopped { refusal_text (Stopped 1) ≡ codes "{\"refused\":\"Stopped\"}" }
     ensures property { property_fields (record { name = codes "a"; value = Text (codes "x") }) ≡ (codes "a", codes "\"x\"") ∷ [] }
@@ -178,4 +183,45 @@ pub fn worked_forms()
     ensures many { fits_head (replicate 61 (codes "a", [])) ≡ true }
     ensures too_many { fits_head (replicate 62 (codes "a", [])) ≡ false }
     ensures unasked { unasked false ≡ (codes "Message-Form", codes "json") ∷ [] }
+{}
+
+/// The same of sessions.
+pub fn worked_sessions()
+    ensures next { call_of unlocked (request (codes "POST") (codes "/q/sessions/head") [] []) ≡ makes (act.Accept q None) }
+    ensures named { on (NamedSession (Entity Main)) (codes "POST") (codes "/q/sessions/%68Ead") [] ≡ makes (act.Accept q (Some (codes "hEad"))) }
+    ensures no_text { on (NamedSession (Entity Main)) (codes "POST") (codes "/q/sessions/%FF") [] ≡ Err (Bad (codes "path")) }
+    ensures renewed { on (HeldSession (Entity Main)) (codes "POST") (held []) [] ≡ makes (act.SessionRenew q first_token) }
+    ensures closed { on (HeldSession (Entity Main)) (codes "DELETE") (held []) [] ≡ makes (act.SessionClose q first_token) }
+    ensures no_token { on (HeldSession (Entity Main)) (codes "DELETE") (codes "/q/sessions/s/1") [] ≡ Err (Bad (codes "token")) }
+    ensures read { on (SessionState (Entity Main)) (codes "GET") (held (codes "/state")) [] ≡ makes (act.SessionState q first_token) }
+    ensures remembered { on (SessionState (Entity Main)) (codes "PUT") (held (codes "/state")) (codes "hi") ≡ makes (act.SessionSet q first_token (Some (codes "hi"))) }
+    ensures forgotten { on (SessionState (Entity Main)) (codes "PUT") (held (codes "/state")) [] ≡ makes (act.SessionSet q first_token None) }
+    ensures received { on (SessionHead (Entity Main)) (codes "POST") (held (codes "/messages/head")) [] ≡ makes (act.Receive q mode.Lock (Some first_token)) }
+    ensures deleted { on (SessionHead (Entity Main)) (codes "DELETE") (held (codes "/messages/head")) [] ≡ makes (act.Receive q mode.Delete (Some first_token)) }
+    ensures deferred { on (SessionDeferred (Entity Main)) (codes "POST") (held (codes "/messages/7")) [] ≡ makes (act.ReceiveDeferred q 7 mode.Lock (Some first_token)) }
+    ensures deferred_deleted { on (SessionDeferred (Entity Main)) (codes "DELETE") (held (codes "/messages/7")) [] ≡ makes (act.ReceiveDeferred q 7 mode.Delete (Some first_token)) }
+    ensures completed { on (SessionLocked (Entity Main)) (codes "DELETE") (held (codes "/messages/1/a1b2c3d4-e5f6-0718-0000-000000000001")) [] ≡ makes (act.Settle q (Id (codes "1")) first_token (Some first_token) how.Complete None) }
+    ensures abandoned { on (SessionLocked (Entity Main)) (codes "PUT") (held (codes "/messages/1/a1b2c3d4-e5f6-0718-0000-000000000001")) [] ≡ makes (act.Settle q (Id (codes "1")) first_token (Some first_token) how.Abandon None) }
+    ensures no_renewal { on (SessionLocked (Entity Main)) (codes "POST") (held (codes "/messages/1/a1b2c3d4-e5f6-0718-0000-000000000001")) [] ≡ Err (BadMethod (SessionLocked (Entity Main))) }
+{}
+
+/// The same of the responses to calls for sessions.
+pub fn worked_session_responses()
+    ensures accepted { (accepted_response q (codes "h") (codes "a b") first_token (codes "Thu, 01 Jan 1970 00:01:01 GMT")).fields
+        ≡ (codes "BrokerProperties", codes "{\"LockedUntilUtc\":\"Thu, 01 Jan 1970 00:01:01 GMT\",\"SessionId\":\"a b\"}")
+        ∷ (codes "Location", codes "http://h/q/sessions/a%20b/a1b2c3d4-e5f6-0718-0000-000000000001") ∷ [] }
+    ensures location { location_text (codes "h") (place_of q (Some first_token) of_session) 1 first_token
+        ≡ codes "http://h/q/sessions/a%20b/a1b2c3d4-e5f6-0718-0000-000000000001/messages/1/a1b2c3d4-e5f6-0718-0000-000000000001" }
+    ensures held { held_response 1000 (codes "d") ≡ record {
+      status = status.Conflict;
+      fields = (codes "Content-Type", codes "application/json") ∷ (codes "Retry-After", codes "d") ∷ [];
+      body = codes "{\"refused\":\"SessionHeld\",\"until\":1000}";
+      ends = false;
+    } }
+    ensures lost { refusal_status SessionLost ≡ status.NotFound }
+    ensures not_allowed { refusal_status SessionNotAllowed ≡ status.BadRequest }
+    ensures state { (state_response (State (Some (codes "hi")))).body ≡ codes "hi" }
+    ensures no_state { (state_response (State None)).status ≡ status.NoContent }
+    ensures allow_state { (method_response (SessionState (Entity Main))).fields ≡ (codes "Allow", codes "GET, PUT") ∷ [] }
+    ensures allow_locked { (method_response (SessionLocked (Entity Main))).fields ≡ (codes "Allow", codes "DELETE, PUT") ∷ [] }
 {}

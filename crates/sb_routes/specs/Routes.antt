@@ -11,18 +11,35 @@ use Rattle.sb_routes.specs.declared.routes.Address.{Address}
 use Rattle.sb_routes.specs.declared.routes.Address.TheVariants.{Entity, Subscription}
 use Rattle.sb_routes.specs.declared.routes.Route.{Route}
 use Rattle.sb_routes.specs.declared.routes.Route.TheVariants.{Messages, Head, Deferred, Locked, Scheduled, Script}
+use Rattle.sb_routes.specs.declared.routes.Route.TheVariants.{NextSession, NamedSession, HeldSession, SessionState, SessionHead, SessionDeferred, SessionLocked}
 use Rattle.sb_routes.specs.Paths.{looked_up, as_text}
 
 -- ---- the table
 
--- of an address, whose paths begin so
-unfoldable pub of_address : List ℕ → Address → List (List ℕ × Route)
-of_address front a =
+-- of the messages of an address, whose paths begin so
+unfoldable pub of_messages : List ℕ → Address → List (List ℕ × Route)
+of_messages front a =
     (front ++ codes "/messages/head", Head a)
     ∷ (front ++ codes "/messages/{seq}", Deferred a)
     ∷ (front ++ codes "/messages/{id}/{token}", Locked a)
     ∷ (front ++ codes "/scheduled/{seq}", Scheduled a)
     ∷ []
+
+-- of its sessions: the next one, one by its id, and one that is held under a token, with its messages
+unfoldable pub of_sessions : List ℕ → Address → List (List ℕ × Route)
+of_sessions front a =
+    (front ++ codes "/sessions/head", NextSession a)
+    ∷ (front ++ codes "/sessions/{session}", NamedSession a)
+    ∷ (front ++ codes "/sessions/{session}/{held}", HeldSession a)
+    ∷ (front ++ codes "/sessions/{session}/{held}/state", SessionState a)
+    ∷ (front ++ codes "/sessions/{session}/{held}/messages/head", SessionHead a)
+    ∷ (front ++ codes "/sessions/{session}/{held}/messages/{seq}", SessionDeferred a)
+    ∷ (front ++ codes "/sessions/{session}/{held}/messages/{id}/{token}", SessionLocked a)
+    ∷ []
+
+-- of an address
+unfoldable pub of_address : List ℕ → Address → List (List ℕ × Route)
+of_address front a = of_messages front a ++ of_sessions front a
 
 -- how the paths of each address begin: of queues and topics, and of subscriptions
 unfoldable pub addresses : List (List ℕ × Address)

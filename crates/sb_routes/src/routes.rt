@@ -1,7 +1,7 @@
 // The routes, and the one that a path has.
 ghost use Rattle.std.specs.Prelude.{◌≡◌, [], ◌++◌, fold, OnOk, IfOk, option_map};
 ghost use Rattle.matchit.specs.Seek.{first};
-ghost use Rattle.sb_routes.specs.Routes.{with_route, with_rows, with_address, of_address, addresses, others, table, route_at, route_of};
+ghost use Rattle.sb_routes.specs.Routes.{with_route, with_rows, with_address, of_messages, of_sessions, of_address, addresses, others, table, route_at, route_of};
 
 use crate::path::{looked, text_of};
 use matchit::Router;
@@ -30,6 +30,20 @@ pub enum Route {
     Locked(Address),
     /// A scheduled message, by its number.
     Scheduled(Address),
+    /// The next session that nobody holds.
+    NextSession(Address),
+    /// A session, by its id.
+    NamedSession(Address),
+    /// A session that is held.
+    HeldSession(Address),
+    /// What a session remembers that is held.
+    SessionState(Address),
+    /// The first message of a session that is held.
+    SessionHead(Address),
+    /// A deferred message of a session that is held, by its number.
+    SessionDeferred(Address),
+    /// A message under a lock, of a session that is held.
+    SessionLocked(Address),
     /// Where script lines go.
     Script,
 }
@@ -75,15 +89,15 @@ fn add_at(
     add(router, text.as_str(), route)
 }
 
-// The routes of an address, whose paths begin so.
-#[tactic(auto, unfolding(crate::specs::Routes::of_address))]
-fn add_address(
+// The routes of the messages of an address, whose paths begin so.
+#[tactic(auto, unfolding(crate::specs::Routes::of_messages))]
+fn add_messages(
     alloc: Global,
     router: &mut Router<Route>,
     front: &str,
     address: Address,
 ) -> Result<(), AllocError>
-    ensures { OnOk result (router.new ≡ with_rows (of_address front.now address) router.old) }
+    ensures { OnOk result (router.new ≡ with_rows (of_messages front.now address) router.old) }
 {
     add_at(alloc, router, front, "/messages/head", Route::Head(address))?;
     add_at(
@@ -107,6 +121,54 @@ fn add_address(
         "/scheduled/{seq}",
         Route::Scheduled(address),
     )?;
+    Ok(())
+}
+
+// The routes of its sessions.
+#[tactic(auto, unfolding(crate::specs::Routes::of_sessions))]
+fn add_sessions(
+    alloc: Global,
+    router: &mut Router<Route>,
+    front: &str,
+    address: Address,
+) -> Result<(), AllocError>
+    ensures { OnOk result (router.new ≡ with_rows (of_sessions front.now address) router.old) }
+{
+    let next = "/sessions/head";
+    let named = "/sessions/{session}";
+    let held = "/sessions/{session}/{held}";
+    let state = "/sessions/{session}/{held}/state";
+    let head = "/sessions/{session}/{held}/messages/head";
+    let deferred = "/sessions/{session}/{held}/messages/{seq}";
+    let locked = "/sessions/{session}/{held}/messages/{id}/{token}";
+    add_at(alloc, router, front, next, Route::NextSession(address))?;
+    add_at(alloc, router, front, named, Route::NamedSession(address))?;
+    add_at(alloc, router, front, held, Route::HeldSession(address))?;
+    add_at(alloc, router, front, state, Route::SessionState(address))?;
+    add_at(alloc, router, front, head, Route::SessionHead(address))?;
+    add_at(
+        alloc,
+        router,
+        front,
+        deferred,
+        Route::SessionDeferred(address),
+    )?;
+    add_at(alloc, router, front, locked, Route::SessionLocked(address))?;
+    Ok(())
+}
+
+// The routes of an address, whose paths begin so.
+#[tactic(auto, unfolding(crate::specs::Routes::of_address))]
+fn add_address(
+    alloc: Global,
+    router: &mut Router<Route>,
+    front: &str,
+    address: Address,
+) -> Result<(), AllocError>
+    ensures { OnOk result (router.new ≡ with_rows (of_address front.now address) router.old) }
+{
+    add_messages(alloc, router, front, address)?;
+    add_sessions(alloc, router, front, address)?;
     Ok(())
 }
 

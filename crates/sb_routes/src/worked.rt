@@ -1,8 +1,9 @@
 // Paths and their routes, worked out by hand.
 ghost use Rattle.std.specs.Prelude.{◌≡◌, codes, Some, None};
-ghost use Rattle.sb_machine.specs.declared.call.Part.TheVariants.{Main};
-ghost use Rattle.sb_routes.specs.declared.routes.Address.TheVariants.{Entity};
+ghost use Rattle.sb_machine.specs.declared.call.Part.TheVariants.{Main, Dead};
+ghost use Rattle.sb_routes.specs.declared.routes.Address.TheVariants.{Entity, Subscription};
 ghost use Rattle.sb_routes.specs.declared.routes.Route.TheVariants.{Messages, Head, Deferred, Locked, Scheduled, Script};
+ghost use Rattle.sb_routes.specs.declared.routes.Route.TheVariants.{NextSession, NamedSession, HeldSession, SessionState, SessionHead, SessionDeferred, SessionLocked};
 ghost use Rattle.sb_routes.specs.Routes.{route_of};
 ghost use Rattle.sb_routes.specs.Paths.{path_of, query_of, segment};
 
@@ -14,6 +15,13 @@ pub fn worked_routes()
     ensures locked { route_of (codes "/q/messages/7/x") ≡ Some (Locked (Entity Main)) }
     ensures scheduled { route_of (codes "/Q/Scheduled/7") ≡ Some (Scheduled (Entity Main)) }
     ensures no_number { route_of (codes "/q/scheduled") ≡ None }
+    ensures next { route_of (codes "/q/Sessions/head") ≡ Some (NextSession (Entity Main)) }
+    ensures named_head { route_of (codes "/q/sessions/%68ead") ≡ Some (NamedSession (Entity Main)) }
+    ensures held_head { route_of (codes "/q/sessions/head/x") ≡ Some (HeldSession (Entity Main)) }
+    ensures state { route_of (codes "/q/sessions/a/x/state") ≡ Some (SessionState (Entity Main)) }
+    ensures session_head { route_of (codes "/t/subscriptions/q/sessions/a/x/messages/head") ≡ Some (SessionHead (Subscription Main)) }
+    ensures session_deferred { route_of (codes "/q/%24deadletterqueue/sessions/a/x/messages/7") ≡ Some (SessionDeferred (Entity Dead)) }
+    ensures session_locked { route_of (codes "/q/sessions/a/x/messages/7/y") ≡ Some (SessionLocked (Entity Main)) }
     ensures script { route_of (codes "/$script") ≡ Some Script }
     ensures plain_script { route_of (codes "/Script") ≡ Some Script }
     ensures none { route_of (codes "/x/y/z") ≡ None }
