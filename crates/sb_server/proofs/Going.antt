@@ -1,4 +1,4 @@
--- A pass goes on, and a receive waits.
+-- A pass goes on, and a call waits.
 use Rattle.std.proofs.Common.{◌≡◌, ℕ, ◌+◌, ◌≤◌, ◌<◌, List, [], ◌∷◌, ◌++◌, true, Result, Ok, sym, refl, ap, ◌∙◌, subst, append_assoc, append-nil}
 use Rattle.sb_machine.specs.declared.call.Call.{Call}
 use Rattle.sb_machine.specs.declared.history.Entry.{Entry}

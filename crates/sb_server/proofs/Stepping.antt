@@ -217,7 +217,7 @@ next_in_order (Calls script) o = o
 
 -- ---- what waits
 
--- whatever asks is a receive that waits, or a line
+-- whatever asks is a call that waits
 pub only_waits : (d : Doing) → asks d ≡ true → ((p : Patience) → d ≡ Asks p → ⊥) → ⊥
 only_waits Reads is other = let bad : false ≡ true = is in absurd cc
 only_waits (Asks p) is other = other p refl

@@ -1,10 +1,10 @@
 -- What a request asks for, and whether its connection ends with the response.
-use Rattle.std.specs.Prelude.{◌≡◌, ℕ, ◌*◌, ◌-◌, ◌^◌, min, nat_lt, List, length, take, drop, codes, Bool, true, false, not, ◌&&◌, ◌||◌, ◌==◌, is_none, Result, Ok, Err}
+use Rattle.std.specs.Prelude.{◌≡◌, ℕ, ◌*◌, ◌-◌, ◌^◌, min, nat_lt, List, length, take, drop, codes, Bool, true, false, not, ◌&&◌, ◌||◌, ◌==◌, is_none, None, Result, Ok, Err}
 use Rattle.std.specs.List.{list_all, list_any, position_or_len}
 use Rattle.form_urlencoded.specs.Form.{split}
 use Rattle.sb_machine.specs.Ordered.{IsActInOrder}
 use Rattle.sb_machine.specs.declared.call.Act.{Act}
-use Rattle.sb_machine.specs.declared.call.Act.TheVariants.{Receive}
+use Rattle.sb_machine.specs.declared.call.Act.TheVariants.{Receive, Accept}
 use Rattle.sb_machine.specs.declared.call.Call.{Call}
 use Rattle.sb_machine.specs.declared.reply.Answered.{Answered}
 use Rattle.sb_machine.specs.declared.reply.Refusal.{Refusal}
@@ -58,15 +58,16 @@ asks_close m = (m.head.minor == 0) || list_any is_close m.head.fields
 
 -- ---- what it asks for
 
--- whether an operation is a receive, which may wait
-abbrev pub is_receive : Act → Bool
-is_receive (Receive from mode session) = true
-is_receive _ = false
+-- whether an operation may wait: a receive, or the accept of the next session; that of a named one is answered at once
+abbrev pub may_wait : Act → Bool
+may_wait (Receive from mode session) = true
+may_wait (Accept from None) = true
+may_wait _ = false
 
--- A receive by REST waits where there is nothing yet. One with a number is made once: that there was nothing is an
+-- Such a call by REST waits where there is nothing yet. One with a number is made once: that there was nothing is an
 -- answer, too, and is kept under its number.
 abbrev pub waits : Call → Bool
-waits call = is_receive call.act && is_none call.by
+waits call = may_wait call.act && is_none call.by
 
 -- A line waits which asks for it, a receive or the accept of a session; one with a number is made once, too.
 abbrev pub line_waits : ScriptLine → Bool

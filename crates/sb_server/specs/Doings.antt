@@ -72,7 +72,7 @@ said_of (ByLine line) answer = OfLine line.form answer
 abbrev pub farewell : Patience → Telling
 farewell p = record { said = said_of p.waiter p.answer; closes = true; after = Some Gone }
 
--- ---- what waits: a receive, or a line
+-- ---- what waits: a receive, an accept, or a line
 
 -- behind `pass` its calls were made, the last of which found nothing before its end
 pub record IsPatient (IsReading : ℕ → Type 0) (pass : Sitting) (p : Patience) (new : Sitting) : Type 0 where

@@ -28,12 +28,12 @@ pub struct Asker {
     pub json: bool,
 }
 
-/// What waits while its call finds nothing: a receive by REST, or a script line.
+/// What waits while its call finds nothing: a receive, or the accept of a session.
 #[derive(Drop)]
 pub enum Waiter {
-    /// A receive, and what its response has of who asks.
+    /// By REST, with what its response has of who asks.
     ByRest { wanted: Wanted, asker: Asker },
-    /// A receive, or the accept of a session.
+    /// By a script line.
     ByLine { line: sb_lines::Line },
 }
 
@@ -94,8 +94,9 @@ pub(crate) fn ask_of(alloc: Global, routes: &Routes, access: &Access, request: &
     }
 }
 
-fn is_receive(act: &Act) -> bool
-    ensures { result ≡ asks.is_receive act.now }
+// Whether an operation may wait: a receive, or the accept of the next session.
+fn may_wait(act: &Act) -> bool
+    ensures { result ≡ asks.may_wait act.now }
 {
     matches!(
         act,
@@ -103,15 +104,15 @@ fn is_receive(act: &Act) -> bool
             from: _,
             mode: _,
             session: _
-        }
+        } | Act::Accept { from: _, id: None }
     )
 }
 
-// Whether a call is made again while it finds nothing: a receive without a number.
+// Whether a call is made again while it finds nothing: one that may wait, without a number.
 fn waits(call: &Call) -> bool
     ensures { result ≡ asks.waits call.now }
 {
-    is_receive(&call.act) && call.by.is_none()
+    may_wait(&call.act) && call.by.is_none()
 }
 
 // A call that may wait.

@@ -39,6 +39,9 @@ pub fn worked_connections()
     ensures no_method { fault_bytes (BadMethod (Head (Entity Main))) false ≡ codes "HTTP/1.1 405 Method Not Allowed\r\nAllow: DELETE, POST\r\nContent-Length: 0\r\n\r\n" }
     ensures patient { waits (record { by = None; act = Receive q Lock None }) ≡ true }
     ensures numbered { waits (record { by = Some (record { client = codes "c"; number = 1 }); act = Receive q Lock None }) ≡ false }
+    ensures patient_accept { waits (record { by = None; act = Accept q None }) ≡ true }
+    ensures named_accept { waits (record { by = None; act = Accept q (Some (codes "s")) }) ≡ false }
+    ensures numbered_accept { waits (record { by = Some (record { client = codes "c"; number = 1 }); act = Accept q None }) ≡ false }
     ensures patient_line { line_waits (record { timed = record { reading = 5; call = record { by = None; act = Accept q None } }; form = Plain; wait_s = 1 }) ≡ true }
     ensures line_once { line_waits (record { timed = record { reading = 5; call = record { by = None; act = Accept q None } }; form = Plain; wait_s = 0 }) ≡ false }
     ensures numbered_line { line_waits (record { timed = record { reading = 5; call = record { by = Some (record { client = codes "c"; number = 1 }); act = Accept q None } }; form = Plain; wait_s = 1 }) ≡ false }
