@@ -5,10 +5,13 @@ usage: tools/client_examples.py PROGRAM [LINES]
 
 PROGRAM is the built program (crates/sb_bus/out/sb_bus). So many numbered sends, 1,000 where nothing is said, go on through a server that is killed
 and started again, and through a second call with the same lines; the worker gets an order that takes longer than
-its lock and one that is none; the sessions are worked off in order. It needs node and curl. The exit status is
-1 where something else happens.
+its lock and one that is none; the sessions are worked off in order; readings are added up by one program and then by the
+other, each once, though a worker died that had counted one and not completed it. It needs node and curl. The exit
+status is 1 where something else happens.
 """
+import json
 import os
+import re
 import signal
 import subprocess
 import tempfile
@@ -85,12 +88,39 @@ def sessions(port):
         for id in ("a", "b"):
             sent(port, "jobs", [f'{id} "{number}"'], sys={"SessionId": id})
     told = output(example("sessions.sh", str(port), "jobs"))
-    wanted = [f'{id} "{id} \\"{number}\\""' for id in ("a", "b") for number in (1, 2, 3)]
+    wanted = [f'{id} {id} "{number}"' for id in ("a", "b") for number in (1, 2, 3)]
     lib.wants(told.splitlines() == wanted, f"the sessions were told as {told}")
     with lib.Caller(port) as caller:
         held = caller.line({"do": "accept", "from": "jobs", "id": "a"})
         state = caller.line({"do": "session-state", "from": "jobs", "session": held["session"]})
     lib.wants(state == {"ok": "state", "state": "3"}, f"the session remembers {state}")
+
+
+def counted_only(port, session, known):
+    """As of a worker that has counted the first reading of a session, and gave up before it completed it."""
+    with lib.Caller(port) as caller:
+        status, head, _ = caller.ask("POST", f"/readings/sessions/{session}")
+        lib.wants(status == 201, f"the accept of a session was answered {head}")
+        held = re.search(r"\r\nLocation: http://[^/]+(\S+)", head)[1]
+        calls = [("POST", "/messages/head", b""), ("PUT", "/state", json.dumps(known).encode()), ("DELETE", "", b"")]
+        statuses = [caller.ask(method, held + behind, body)[0] for method, behind, body in calls]
+    lib.wants(statuses == [201, 200, 200], f"a session's holder was answered {statuses}")
+
+
+def readings(port):
+    made_queue(port, "readings", requires_session=True)
+    sent(port, "readings", ["7", "-2", "x", "10"], sys={"SessionId": "thermo 1"})
+    sent(port, "readings", ["5"], sys={"SessionId": "scale"})
+    told = output(example("readings.py", str(port), "readings", "0"))
+    wanted = ["thermo 1: 3 readings, 15 together", "scale: 1 readings, 5 together"]
+    lib.wants(told.splitlines() == wanted, f"the readings were told as {told}")
+    sent(port, "readings", ["20", "30"], sys={"SessionId": "thermo 1"})
+    counted_only(port, "thermo%201", {"count": 4, "sum": 35, "last": 6})
+    told = output(example("readings.mjs", str(port), "readings", "0"))
+    lib.wants(told == "thermo 1: 5 readings, 65 together\n", f"more readings were told as {told}")
+    with lib.Caller(port) as caller:
+        counts = caller.line({"do": "counts", "entity": "readings"})["counts"]
+    lib.wants(counts == {"dead": 1, "main": 0, "transfer": 0}, f"behind the readings stand {counts}")
 
 
 def tried(program, count):
@@ -100,6 +130,7 @@ def tried(program, count):
     with tempfile.TemporaryDirectory() as folder, lib.serving(program, folder, port):
         worker(port)
         sessions(port)
+        readings(port)
 
 
 def main():
