@@ -7,8 +7,9 @@ PROGRAM is the built program (crates/sb_bus/out/sb_bus). A server is started on 
 received as docs/REST.md has it, settled by its Location, and the same two requests are sent whole, pipelined and cut
 after each byte. A thousand sends in one piece have the numbers 1 to 1,000. The largest message comes back byte for
 byte. A message of 100,000 user properties is refused within 20 seconds, in a batch and in a line. A moment lies
-between two readings of the clock here. Two connections are open at once where a receive waits for a send. What a
-server tells on standard error, with a log of its calls, is read. A server that has no file left for a connection says
+between two readings of the clock here. Two connections are open at once where a receive waits for a send. Of two workers
+the one that waits for a session gets that of a message which is sent meanwhile, and then the one that the other gives
+back. What a server tells on standard error, with a log of its calls, is read. A server that has no file left for a connection says
 so once, and takes it as soon as there is one. A hundred callers of a byte a second are let go once the time of a
 request has passed. A caller who says nothing is let go after the idle time; where all places are taken and another
 waits for one, after 5 seconds, but a receive that waits keeps its place. The one worker of a server is free again once
@@ -42,6 +43,13 @@ RECEIVED = re.compile(
         r"Location: (http://h/q/messages/\1/\2)\r\nContent-Length: 2\r\n\r\nhi"
     )
     % (TIME, TOKEN, TIME)
+)
+ACCEPTED = re.compile(
+    (
+        r'HTTP/1\.1 201 Created\r\nBrokerProperties: \{"LockedUntilUtc":"%s","SessionId":"(.*)"\}\r\n'
+        r"Location: http://localhost(/s/sessions/\S+/%s)\r\nContent-Length: 0"
+    )
+    % (TIME, TOKEN)
 )
 
 
@@ -176,6 +184,47 @@ def two_at_once(port):
     wants(got and got[0][0] == 200 and got[0][1].endswith("late"), f"a receive that waits was answered {got}")
 
 
+def accepted(answer):
+    """The id of a session that was accepted, and the path of its holder."""
+    _, head, body = answer
+    found = ACCEPTED.fullmatch(head)
+    wants(found and not body, f"an accept was answered {head}")
+    return found[1], found[2]
+
+
+def session_waited_for(one, other, wakes):
+    """What another worker accepts who waits while this is done."""
+    with ThreadPoolExecutor(1) as pool:
+        waiting = pool.submit(other.ask, "POST", "/s/sessions/head?timeout=15")
+        time.sleep(0.5)
+        wants(not waiting.done(), "an accept of nothing didn't wait")
+        one.ask(*wakes)
+        return accepted(waiting.result())
+
+
+def two_workers(port):
+    """One holds a session; the other, who waits for the next one, gets that of a message, and then what the first gives back."""
+    send = ["POST", "/s/messages", b"hi"]
+    with Caller(port) as one, Caller(port) as other:
+        one.line({"do": "create-queue", "name": "s", "requires_session": True})
+        one.ask(*send, ['BrokerProperties: {"SessionId":"till 3"}'])
+        id, held = accepted(one.ask("POST", "/s/sessions/head?timeout=0"))
+        wants(id == "till 3" and held.startswith("/s/sessions/till%203/"), f"{id} was accepted, as {held}")
+        status, head, _ = other.ask("POST", "/s/sessions/till%203")
+        wants(status == 409 and re.search(rf"\r\nRetry-After: {TIME}\r\n", head), f"a session that is held is told by {head}")
+        wants(one.ask("PUT", f"{held}/state", b"\0\xff")[0] == 200, "a state isn't taken")
+        id, _ = session_waited_for(one, other, [*send, ['BrokerProperties: {"SessionId":"b"}']])
+        wants(id == "b", f"{id} was accepted behind a send to b")
+        id, again = session_waited_for(one, other, ["DELETE", held])
+        wants(id == "till 3" and again != held, f"{id} was accepted behind till 3, as {again}")
+        status, _, state = other.ask("GET", f"{again}/state")
+        wants((status, state) == (200, b"\0\xff"), f"a state was answered {status}, {state}")
+        status, _, body = other.ask("DELETE", f"{again}/messages/head?timeout=0")
+        wants((status, body) == (200, b"hi"), f"a receive in a session was answered {status}, {body}")
+        status, _, body = one.ask("GET", f"{held}/state")
+        wants((status, body) == (404, b'{"refused":"SessionLost"}'), f"a lost session's state was answered {status}, {body}")
+
+
 def all_rows(program, is_short):
     port = free_port()
     with tempfile.TemporaryDirectory() as folder, serving(program, folder, port):
@@ -191,6 +240,7 @@ def all_rows(program, is_short):
         many_properties(port)
         system_clock(port)
         two_at_once(port)
+        two_workers(port)
         port_in_use(program, port)
     two_workers_end(program)
     lines_told(program)
