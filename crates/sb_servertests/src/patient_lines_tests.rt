@@ -1,4 +1,5 @@
-// Script lines that wait: each has the reply to its last call, and who has gone takes nothing.
+// Script lines that wait, and the accept of a session over REST: each has the reply to its last call, and who has gone
+// takes nothing.
 use crate::waiting_tests::{SEND, Single, Still, door, is_given, serve_doors};
 use std::sync::Wait;
 use std::sync::atomic::AtomicU64;
@@ -13,6 +14,8 @@ const CREATE: &[u8] =
 
 const ACCEPT: &[u8] =
     b"POST /$script HTTP/1.1\r\nHost: h\r\nContent-Length: 36\r\n\r\n{\"do\":\"accept\",\"from\":\"s\",\"wait\":60}";
+
+const ACCEPT_BY_REST: &[u8] = b"POST /s/sessions/head?timeout=60 HTTP/1.1\r\nHost: h\r\n\r\n";
 
 const SEND_TO_SESSION: &[u8] =
     b"POST /$script HTTP/1.1\r\nHost: h\r\nContent-Length: 75\r\n\r\n{\"do\":\"send\",\"to\":\"s\",\"messages\":[{\"body\":\"hi\",\"sys\":{\"SessionId\":\"one\"}}]}";
@@ -61,6 +64,31 @@ const WAITS_FOR_SESSION: [Caller; 3] = [
         request: ACCEPT,
         begins: b"HTTP/1.1 200 OK\r\nContent-Length: 91\r\n\r\n{",
         ends: b"{\"id\":\"one\",\"ok\":\"session\",\"session\":\"a1b2c3d4-e5f6-0718-0000-000000000001\",\"until\":61000}\n",
+    },
+    Caller {
+        asks: 40,
+        leaves: u64::MAX,
+        request: SEND_TO_SESSION,
+        begins: b"HTTP/1.1 200 OK\r\n",
+        ends: b"{\"numbers\":[1],\"ok\":\"sent\"}\n",
+    },
+];
+
+// The same over REST.
+const WAITS_BY_REST: [Caller; 3] = [
+    Caller {
+        asks: 0,
+        leaves: u64::MAX,
+        request: CREATE,
+        begins: b"HTTP/1.1 200 OK\r\n",
+        ends: b"{\"ok\":\"done\"}\n",
+    },
+    Caller {
+        asks: 20,
+        leaves: u64::MAX,
+        request: ACCEPT_BY_REST,
+        begins: b"HTTP/1.1 201 Created\r\nBrokerProperties: {\"LockedUntilUtc\":\"Thu, 01 Jan 1970 00:01:01 GMT\",\"SessionId\":\"one\"}\r\n",
+        ends: b"}\r\nLocation: http://h/s/sessions/one/a1b2c3d4-e5f6-0718-0000-000000000001\r\nContent-Length: 0\r\n\r\n",
     },
     Caller {
         asks: 40,
@@ -160,6 +188,11 @@ fn a_line_waits_for_a_message(rt: HostRuntime) -> Result<(), Fail> {
 #[test]
 fn a_line_waits_for_a_session(rt: HostRuntime) -> Result<(), Fail> {
     tries(&rt, &rt, &WAITS_FOR_SESSION)
+}
+
+#[test]
+fn an_accept_waits_for_a_session(rt: HostRuntime) -> Result<(), Fail> {
+    tries(&rt, &rt, &WAITS_BY_REST)
 }
 
 #[test]
