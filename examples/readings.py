@@ -24,8 +24,8 @@ FAULTS = (OSError, http.client.HTTPException)  # a refusal is one, too
 class Lab:
     """A kept connection to the server."""
 
-    def __init__(self, port):
-        self.connection = http.client.HTTPConnection("127.0.0.1", port, timeout=90)
+    def __init__(self, port, timeout):
+        self.connection = http.client.HTTPConnection("127.0.0.1", port, timeout=timeout)
 
     def ask(self, method, path, body=None, **fields):
         """The status of a response, its fields and its body."""
@@ -79,14 +79,15 @@ def work(lab, fields):
 def main():
     if not 3 <= len(sys.argv) <= 4:
         sys.exit(__doc__)
-    queue, seconds = sys.argv[2], sys.argv[3] if sys.argv[3:] else None
-    lab = Lab(int(sys.argv[1]))
+    queue, ends = sys.argv[2], len(sys.argv) == 4
+    seconds = int(sys.argv[3]) if ends else 60
+    lab = Lab(int(sys.argv[1]), seconds + 30)
     while True:
         try:
-            status, fields, _ = lab.ask("POST", f"/{queue}/sessions/head?timeout={seconds or 60}")
+            status, fields, _ = lab.ask("POST", f"/{queue}/sessions/head?timeout={seconds}")
             if status == 201:
                 work(lab, fields)
-            elif seconds:
+            elif ends:
                 break
         except FAULTS as fault:
             print(f"again in a second, after: {fault}", file=sys.stderr)
