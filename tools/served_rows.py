@@ -9,8 +9,9 @@ after each byte. A thousand sends in one piece have the numbers 1 to 1,000. The 
 byte. A message of 100,000 user properties is refused within 20 seconds, in a batch and in a line. A moment lies
 between two readings of the clock here. Two connections are open at once where a receive waits for a send. Of two workers
 the one that waits for a session gets that of a message which is sent meanwhile, and then the one that the other gives
-back. What a server tells on standard error, with a log of its calls, is read. A server that has no file left for a connection says
-so once, and takes it as soon as there is one. A hundred callers of a byte a second are let go once the time of a
+back. A server with --checkpoint leaves a journal that has gone on with the other file. What a server tells on standard
+error, with a log of its calls, is read. A server that has no file left for a connection says so once, and takes it as
+soon as there is one. A hundred callers of a byte a second are let go once the time of a
 request has passed. A caller who says nothing is let go after the idle time; where all places are taken and another
 waits for one, after 5 seconds, but a receive that waits keeps its place. The one worker of a server is free again once
 its caller has taken nothing of its response for some minutes. --short leaves these three out. The exit status is 1 where
@@ -243,6 +244,7 @@ def all_rows(program, is_short):
         two_workers(port)
         port_in_use(program, port)
     two_workers_end(program)
+    ends_with_a_checkpoint(program)
     lines_told(program)
     out_of_files(program)
     slow_callers(program)
@@ -427,6 +429,24 @@ def two_workers_end(program):
         told == '{"changing":1,"entries":2,"ok":"report","refused":1}\n' and server.returncode == 0,
         f"status {server.returncode}, {told!r}",
     )
+
+
+def ends_with_a_checkpoint(program):
+    """The one worker has had its connection: the journal has gone on with the file of disk b, which has the message."""
+    port = free_port()
+    with tempfile.TemporaryDirectory() as folder:
+        with ending(program, folder, port, "--workers", "1", "--connections", "1", "--checkpoint") as server:
+            with Caller(port) as caller:
+                caller.line({"do": "create-queue", "name": "q"})
+                caller.ask("POST", "/q/messages", b"hi")
+            server.communicate(timeout=20)
+        check = subprocess.run([program, "check", "--data", folder], capture_output=True, text=True, timeout=20, check=False)
+        firsts = []
+        for name in ("a.journal", "b.journal"):
+            with open(os.path.join(folder, name), "rb") as journal:
+                firsts.append(journal.read(1))
+    fits = server.returncode == 0 and check.stdout.startswith('{"copies":1,"entities":1,"events":2,"made":1,')
+    wants(fits and firsts == [b"\0", b"\1"], f"status {server.returncode}, {check.stdout!r}, files that begin with {firsts}")
 
 
 def lines_told(program):
