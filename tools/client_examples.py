@@ -6,8 +6,8 @@ usage: tools/client_examples.py PROGRAM [LINES]
 PROGRAM is the built program (crates/sb_bus/out/sb_bus). So many numbered sends, 1,000 where nothing is said, go on through a server that is killed
 and started again, and through a second call with the same lines; the worker gets an order that takes longer than
 its lock and one that is none; the sessions are worked off in order; readings are added up by one program and then by the
-other, each once, though a worker died that had counted one and not completed it. It needs node and curl. The exit
-status is 1 where something else happens.
+other, each once, though a worker died that had counted one and not completed it; and what is left is shown as a table. It needs
+node, curl and awk. The exit status is 1 where something else happens.
 """
 import json
 import os
@@ -123,6 +123,15 @@ def readings(port):
     lib.wants(counts == {"dead": 1, "main": 0, "transfer": 0}, f"behind the readings stand {counts}")
 
 
+def table(port):
+    process = example("look.sh", str(port), "r")
+    told, faults = process.communicate(timeout=120)
+    lib.wants(process.returncode == 1, f"a look at a dead letter ended with status {process.returncode}: {faults}")
+    heads = "ENTITY READY HELD DEFERRED SCHEDULED DEAD AGE".split()
+    wanted = [['{"ok":"health"}'], heads, "readings 0 0 0 0 1 -".split()]
+    lib.wants([line.split() for line in told.splitlines()] == wanted, f"the table is {told}")
+
+
 def tried(program, count):
     with tempfile.TemporaryDirectory() as folder:
         numbered_sends(program, folder, lib.free_port(), count)
@@ -131,6 +140,7 @@ def tried(program, count):
         worker(port)
         sessions(port)
         readings(port)
+        table(port)
 
 
 def main():

@@ -59,6 +59,7 @@ any_act_each (act.Rollback txn) = is_case any_act_choice rollback number64_is (Î
 any_act_each (act.SessionState from session) = not_spelled (act.SessionState from session)
 any_act_each (act.Peek from start count) = not_spelled (act.Peek from start count)
 any_act_each (act.Counts entity) = not_spelled (act.Counts entity)
+any_act_each (act.Look what) = not_spelled (act.Look what)
 
 pub any_act_is : IsForm any_act
 unfolding any_act

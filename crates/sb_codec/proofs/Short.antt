@@ -17,7 +17,7 @@ use Rattle.sb_machine.specs.Ordered.{IsActInOrder, IsFilterInOrder, asked_of}
 use Rattle.sb_model.specs.Orders.{IsInOrder}
 use Rattle.sb_model.specs.Texts.{filter_in, action_in}
 use Rattle.sb_machine.specs.declared.call.Act.{Act}
-use Rattle.sb_machine.specs.declared.call.Act.TheVariants.{CreateQueue, CreateTopic, CreateSubscription, CreateRule, Delete, DeleteRule, Send, Cancel, Receive, ReceiveDeferred, Settle, Renew, Accept, SessionRenew, SessionClose, SessionSet, SessionState, Begin, Commit, Rollback, Peek, Counts}
+use Rattle.sb_machine.specs.declared.call.Act.TheVariants.{CreateQueue, CreateTopic, CreateSubscription, CreateRule, Delete, DeleteRule, Send, Cancel, Receive, ReceiveDeferred, Settle, Renew, Accept, SessionRenew, SessionClose, SessionSet, SessionState, Begin, Commit, Rollback, Peek, Counts, Look}
 use Rattle.sb_machine.specs.declared.call.By.{By}
 use Rattle.sb_machine.specs.declared.call.Call.{Call}
 use Rattle.sb_machine.specs.declared.call.Description.{Description}
@@ -344,6 +344,7 @@ act_content is_via (Commit txn) coded good named described sizes id_short order 
 act_content is_via (Rollback txn) coded good named described sizes id_short order fits = omega arith
 act_content is_via (Peek from start count) coded good named described sizes id_short order fits = absurd cc
 act_content is_via (Counts entity) coded good named described sizes id_short order fits = absurd cc
+act_content is_via (Look what) coded good named described sizes id_short order fits = absurd cc
 
 -- ---- events
 

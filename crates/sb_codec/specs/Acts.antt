@@ -111,6 +111,7 @@ any_act_case (act.Rollback txn) = of rollback txn
 any_act_case (act.SessionState from session) = of no_act (act.SessionState from session)
 any_act_case (act.Peek from start count) = of no_act (act.Peek from start count)
 any_act_case (act.Counts entity) = of no_act (act.Counts entity)
+any_act_case (act.Look what) = of no_act (act.Look what)
 
 -- what is read behind each code
 abbrev pub any_act_choice : Choice Act

@@ -51,7 +51,7 @@ macro_rules! put_act {
                 $out.push($code)?;
                 put_group!($out, $($field => $form),*)
             })*
-            Act::SessionState { .. } | Act::Peek { .. } | Act::Counts { .. } => unreachable!(),
+            Act::SessionState { .. } | Act::Peek { .. } | Act::Counts { .. } | Act::Look { .. } => unreachable!(),
         }
     };
 }

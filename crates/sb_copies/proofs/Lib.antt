@@ -13,9 +13,11 @@ pub mod Mirror
 mod OneRow
 mod Order
 mod Renewing
+mod SessionCounts
 mod SessionFinds
 mod SlotChanges
 mod Stretches
+mod Tallying
 mod Told
 mod Undue
 mod Walking

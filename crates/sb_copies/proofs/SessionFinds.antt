@@ -37,7 +37,7 @@ first_of h rows cs holds =
     ∙ marked_rows h (filter (is_in_group session_hash_of h) cs)
     ∙ ap (λ (o : Option StoredCopy). option_map (session_row h) o) (sym (find_filter (λ c. is_ready c.standing) (is_in_group session_hash_of h) cs))
 
-hashed : (id : List ℕ) (c : StoredCopy) → has_text_of SessionId id c.message ≡ true → is_in_group session_hash_of (session_hash id) c ≡ true
+pub hashed : (id : List ℕ) (c : StoredCopy) → has_text_of SessionId id c.message ≡ true → is_in_group session_hash_of (session_hash id) c ≡ true
 hashed id c e = at (text_of SessionId c.message) refl where
   at : (o : Option (List ℕ)) → text_of SessionId c.message ≡ o → is_in_group session_hash_of (session_hash id) c ≡ true
   at None is = absurd (let bad : false ≡ true = rw (has_text_of, is) at e in cc)

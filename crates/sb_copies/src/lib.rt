@@ -36,6 +36,7 @@ mod session_locks;
 mod sessions;
 mod shelf;
 mod standings;
+mod tally;
 
 pub use dues::{expiry, hold_deadline, standing_due};
 pub use shelf::Shelf;

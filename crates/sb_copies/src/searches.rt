@@ -1,10 +1,11 @@
 // Searches among copies whose numbers rise.
-ghost use Rattle.std.specs.Prelude.{◌≡◌, ◌==◌, ◌&&◌, ◌+◌, ◌*◌, ◌^◌, find, None};
+ghost use Rattle.std.specs.Prelude.{◌≡◌, ◌==◌, ◌&&◌, ◌+◌, ◌*◌, ◌^◌, find, filter, length, map, IfOk, None};
 ghost use Rattle.std.specs.Option.{option_map};
 ghost use Rattle.sb_index.specs.Rows.{is_marked_within};
 ghost use Rattle.sb_machine.specs.Claims.{is_of};
 ghost use Rattle.sb_machine.specs.Leases as lease;
 ghost use Rattle.sb_machine.specs.Leaves.{has_number, is_deferred};
+ghost use Rattle.sb_machine.specs.Looks.{is_ready_of};
 ghost use Rattle.sb_machine.specs.Messages.{has_text_of};
 ghost use Rattle.sb_machine.specs.Receiving.{is_ready_for};
 ghost use Rattle.sb_model.specs.declared.message.SystemName.TheVariants.{SessionId};
@@ -14,14 +15,15 @@ ghost use Rattle.sb_copies.specs.Grouped.{span};
 ghost use Rattle.sb_copies.specs.Heads.{undue_rows};
 ghost use Rattle.sb_copies.specs.Shelf.{copies_in, AreBelow, AreInOrder, Leads, Mirrors};
 
-use crate::groups::SPAN;
-use crate::places::{first_from, numbered};
+use crate::groups::{SPAN, with_numbers};
+use crate::places::{first_from, numbered, numbered_all};
 use crate::sessions::session_hash;
 use crate::standings::is_living;
 use crate::{locks, names};
 use sb_index::{Index, Row};
 use sb_machine::{Session, StoredCopy, Which};
 use slab::Slab;
+use std::alloc::{AllocError, Global};
 
 // Above all numbers.
 const BEYOND: u128 = 1 << 64;
@@ -97,6 +99,37 @@ fn ready_somewhere<'a>(
         from = u128::from(copy.number) + 1;
     }
     None
+}
+
+/// How many of the session of this id may be received. No copy is looked at but those whose session's
+/// id comes to the same hash.
+pub fn count_ready(
+    alloc: Global,
+    slots: &Slab<StoredCopy>,
+    order: &Index,
+    by_session: &Index,
+    session: &str,
+) -> Result<u64, AllocError>
+    requires order { AreInOrder (copies_in slots.now order.now.rows) }
+    requires leads { Leads slots.now order.now.rows }
+    requires holds { HoldsSessions (undue_rows by_session.now.rows) (copies_in slots.now order.now.rows) }
+    ensures { IfOk result (λ n. n ≡ length (filter (is_ready_of session.now) (copies_in slots.now order.now.rows))) }
+{
+    let numbers = with_numbers(Vec::new(alloc), by_session, session_hash(session))?;
+    let found = numbered_all(alloc, slots, order, &numbers)?;
+    Ok(ready_among(&found, session))
+}
+
+fn ready_among(copies: &[&StoredCopy], session: &str) -> u64
+    ensures { result ≡ length (filter (is_ready_of session.now) (map (λ c. c.now) copies.now)) }
+{
+    let mut count = 0;
+    for copy in copies {
+        if names::is_ready_of(copy, session) {
+            count += 1;
+        }
+    }
+    count
 }
 
 /// The deferred one of this number.

@@ -1,10 +1,11 @@
 // The copies of one part, in the order in which they were put there.
-ghost use Rattle.std.specs.Prelude.{◌≡◌, ℕ, ◌==◌, ◌&&◌, ◌||◌, ◌≤◌, ◌<◌, ◌-◌, nat_le, max, [], ◌∷◌, ◌++◌, length, filter, find, map, if◌then◌else◌, OnOk, OnErr, IfOk, None, Some};
+ghost use Rattle.std.specs.Prelude.{◌≡◌, ℕ, ◌==◌, ◌&&◌, ◌||◌, ◌≤◌, ◌<◌, ◌+◌, ◌-◌, ◌^◌, nat_le, max, [], ◌∷◌, ◌++◌, length, filter, find, map, if◌then◌else◌, OnOk, OnErr, IfOk, None, Some};
 ghost use Rattle.std.specs.Option.{option_map};
 ghost use Rattle.sb_machine.specs.Claims.{is_of};
 ghost use Rattle.sb_machine.specs.Keyed.{changed};
 ghost use Rattle.sb_machine.specs.Leases.{has_ended, is_ready, is_scheduled, is_living, is_named, is_under_session};
 ghost use Rattle.sb_machine.specs.Leaves.{has_number, is_deferred, prolonged_standing};
+ghost use Rattle.sb_machine.specs.Looks.{is_ready_of, part_shown};
 ghost use Rattle.sb_machine.specs.Messages.{has_text_of};
 ghost use Rattle.sb_machine.specs.Receiving.{is_ready_for, peeked};
 ghost use Rattle.sb_model.specs.declared.message.SystemName.TheVariants.{SessionId};
@@ -13,13 +14,15 @@ ghost use Rattle.sb_copies.specs.ByLock.{held_lock, locks_taken};
 ghost use Rattle.sb_copies.specs.Dues.{due_by, least_of};
 ghost use Rattle.sb_copies.specs.Heads.{except, is_among, is_of_session, is_usual, IsLeast};
 ghost use Rattle.sb_copies.specs.Shelf.{row_in, AreBelow, AreInOrder};
+ghost use Rattle.sb_copies.specs.Tally.{standing_at};
 ghost use Rattle.sb_copies.specs.UnderSession.{under_lock};
 
 use crate::places::{first_from, numbered};
 use crate::standings::is_ready;
+use crate::tally::{self, Tally};
 use crate::{dues, groups, heads, locks, looks, rows, searches, session_locks, sessions};
 use sb_index::{Index, Row};
-use sb_machine::{CopyShown, Hold, Session, Standing, StoredCopy, Token, Which};
+use sb_machine::{CopyShown, Hold, PartShown, Session, Standing, StoredCopy, Token, Which};
 use sb_model::Rows;
 use slab::Slab;
 use std::alloc::{AllocError, Global};
@@ -42,6 +45,8 @@ pub struct Shelf {
     under: Index,
     // So many nodes of these two are promised for holding; one more stands by for each slot.
     locks: usize,
+    // how many stand how
+    tally: Tally,
 }
 
 impl Model for Shelf {
@@ -51,6 +56,7 @@ impl Model for Shelf {
     ghost use Rattle.sb_copies.specs.BySession.{HoldsSessions};
     ghost use Rattle.sb_copies.specs.Heads.{heads_in, undue_rows, AreOwn};
     ghost use Rattle.sb_copies.specs.Shelf.{copies_in, AreBelow, Mirrors, Shelved};
+    ghost use Rattle.sb_copies.specs.Tally.{Tallies};
     ghost use Rattle.sb_copies.specs.UnderSession.{HoldsUnder};
 
     ghost Value = { Shelved };
@@ -58,7 +64,7 @@ impl Model for Shelf {
     ghost view = { λ s. record { copies = copies_in s.slots s.order.rows; spare = s.order.spare; locks = s.locks; expires = s.expires; heads = heads_in s.by_session.rows } };
 
     // No slot is without a row: so none is lost.
-    ghost invariant = { λ s. HasRoomFor s.slots s.order.spare × (slab_len s.slots ≡ length s.order.rows) × Mirrors s.expires s.slots s.order.rows × AreBelow (2 ^ 64) (copies_in s.slots s.order.rows) × (s.order.spare ≤ s.by_session.spare) × HoldsSessions (undue_rows s.by_session.rows) (copies_in s.slots s.order.rows) × (s.locks + s.order.spare ≤ s.by_lock.spare) × HoldsLocks s.by_lock.rows (copies_in s.slots s.order.rows) × AreOwn s.by_session.rows × (s.locks + s.order.spare ≤ s.under.spare) × HoldsUnder s.under.rows (copies_in s.slots s.order.rows) };
+    ghost invariant = { λ s. HasRoomFor s.slots s.order.spare × (slab_len s.slots ≡ length s.order.rows) × Mirrors s.expires s.slots s.order.rows × AreBelow (2 ^ 64) (copies_in s.slots s.order.rows) × (s.order.spare ≤ s.by_session.spare) × HoldsSessions (undue_rows s.by_session.rows) (copies_in s.slots s.order.rows) × (s.locks + s.order.spare ≤ s.by_lock.spare) × HoldsLocks s.by_lock.rows (copies_in s.slots s.order.rows) × AreOwn s.by_session.rows × (s.locks + s.order.spare ≤ s.under.spare) × HoldsUnder s.under.rows (copies_in s.slots s.order.rows) × Tallies s.tally (copies_in s.slots s.order.rows) };
 }
 
 impl Shelf {
@@ -79,6 +85,7 @@ impl Shelf {
             by_lock: Index::new(alloc),
             under: Index::new(alloc),
             locks: 0,
+            tally: tally::of_none(),
         }
     }
 
@@ -230,6 +237,34 @@ impl Shelf {
         searches::ready_of(&self.slots, &self.order, &self.by_session, session)
     }
 
+    /// How many of the session of this id may be received. Only copies under the same hash are looked
+    /// at.
+    #[tactic(auto, using(crate::proofs::Finding::leads))]
+    pub fn ready_of(&self, session: &str) -> Result<u64, AllocError>
+        ensures { IfOk result (λ n. n ≡ length (filter (is_ready_of session.now) self.now.copies)) }
+    {
+        self.rises();
+        searches::count_ready(
+            self.alloc,
+            &self.slots,
+            &self.order,
+            &self.by_session,
+            session,
+        )
+    }
+
+    /// How many copies stand how, and when the first that may be received was enqueued. No other copy
+    /// is looked at.
+    pub fn shown(&self) -> PartShown
+        ensures { result ≡ part_shown self.now.copies }
+    {
+        let oldest = match self.first_ready() {
+            Some(copy) => Some(copy.enqueued),
+            None => None,
+        };
+        tally::shown(self.tally, oldest)
+    }
+
     /// The least number of a head of a session, of those that were told.
     pub fn least_head(&self) -> Option<u64>
         ensures { IsLeast result self.now.heads }
@@ -343,6 +378,8 @@ impl Shelf {
         ensures expires { self.new.expires ≡ self.old.expires }
         ensures heads { self.new.heads ≡ self.old.heads }
     {
+        self.fits();
+        self.tally = tally::with_one(self.tally, copy.standing);
         self.by_session.rises();
         self.by_lock.rises();
         self.under.rises();
@@ -367,7 +404,9 @@ impl Shelf {
         self.rises();
         let held = self.lock_at(number);
         let under = self.session_lock_at(number);
+        let stood = self.standing_at(number);
         let hash = sessions::hash_at(&self.slots, &self.order, number);
+        self.tally = tally::gone(self.tally, stood);
         sessions::take(&mut self.by_session, hash, number);
         groups::regroup(&mut self.by_lock, held, number, None);
         groups::regroup(&mut self.under, under, number, None);
@@ -386,11 +425,14 @@ impl Shelf {
         ensures heads { self.new.heads ≡ except number self.old.heads }
     {
         self.rises();
+        self.fits();
         self.by_lock.rises();
         self.under.rises();
         let held = self.lock_at(number);
         let under = self.session_lock_at(number);
+        let stood = self.standing_at(number);
         let hash = sessions::hash_at(&self.slots, &self.order, number);
+        self.tally = tally::moved(self.tally, stood, standing);
         let marked = is_ready(standing);
         let due = dues::due_at(self.expires, &self.slots, &self.order, number, standing);
         sessions::mark(&mut self.by_session, hash, number, marked);
@@ -413,11 +455,19 @@ impl Shelf {
         ensures heads { self.new.heads ≡ except number self.old.heads }
     {
         self.rises();
+        self.fits();
         self.by_lock.rises();
         self.under.rises();
         let held = self.lock_at(number);
         let under = self.session_lock_at(number);
+        let stood = self.standing_at(number);
         let hash = sessions::hash_at(&self.slots, &self.order, number);
+        let held_now = Standing::Held {
+            lock,
+            hold,
+            deferred: false,
+        };
+        self.tally = tally::moved(self.tally, stood, held_now);
         let due = dues::moment_of(dues::hold_deadline(hold));
         sessions::mark(&mut self.by_session, hash, number, false);
         rows::hold_row(&mut self.slots, &self.order, number, lock, hold);
@@ -494,6 +544,16 @@ impl Shelf {
         }
     }
 
+    // How the copy of this number stands.
+    fn standing_at(&self, number: u64) -> Option<Standing>
+        ensures { result ≡ standing_at number self.now.copies }
+    {
+        match self.get(number) {
+            Some(copy) => Some(copy.standing),
+            None => None,
+        }
+    }
+
     // The same of a session's lock.
     fn session_lock_at(&self, number: u64) -> Option<Option<u64>>
         ensures { result ≡ option_map under_lock (find (has_number number) self.now.copies) }
@@ -502,6 +562,14 @@ impl Shelf {
             Some(copy) => Some(session_locks::session_lock_of(copy.standing)),
             None => None,
         }
+    }
+
+    // With those that may be put there they are fewer than a `u64` can count: for the proofs of counts.
+    #[tactic(auto, using(crate::proofs::Finding::size_is))]
+    fn fits(&self)
+        ensures { length self.now.copies + self.now.spare < 2 ^ 64 }
+    {
+        let _ = self.slots.capacity();
     }
 
     /// Their numbers rise: for the proofs of what looks for one.

@@ -17,7 +17,7 @@ use Rattle.sb_machine.specs.Rows.{Row, answers, refuses}
 use Rattle.sb_machine.specs.SettleRow.{pending, pending_in, settle_found, settled_or_queued}
 use Rattle.sb_machine.specs.Settlement.{goes_with}
 use Rattle.sb_machine.specs.declared.call.Act.{Act}
-use Rattle.sb_machine.specs.declared.call.Act.TheVariants.{CreateQueue, CreateTopic, CreateSubscription, CreateRule, Delete, DeleteRule, Send, Cancel, Receive, ReceiveDeferred, Settle, Renew, Accept, SessionRenew, SessionClose, SessionSet, SessionState, Begin, Commit, Rollback, Peek, Counts}
+use Rattle.sb_machine.specs.declared.call.Act.TheVariants.{CreateQueue, CreateTopic, CreateSubscription, CreateRule, Delete, DeleteRule, Send, Cancel, Receive, ReceiveDeferred, Settle, Renew, Accept, SessionRenew, SessionClose, SessionSet, SessionState, Begin, Commit, Rollback, Peek, Counts, Look}
 use Rattle.sb_machine.specs.declared.call.By.{By}
 use Rattle.sb_machine.specs.declared.call.Call.{Call}
 use Rattle.sb_machine.specs.declared.call.How.{How}
@@ -146,6 +146,7 @@ module _ (s : Space) (t : ℕ) where
   row_small (Commit n) small = absurd cc
   row_small (Peek from start count) small = absurd cc
   row_small (Counts path) small = absurd cc
+  row_small (Look what) small = absurd cc
 
   small_row : (by : Option By) (act : Act) → is_small act ≡ true → AddsNothing (row_of s t by act)
   small_row by act small =

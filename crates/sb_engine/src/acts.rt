@@ -25,6 +25,7 @@ mod session_set;
 mod session_state;
 mod settle;
 mod transactions;
+mod views;
 
 use crate::Draft;
 use crate::acts::accept::plan_accept;
@@ -44,6 +45,7 @@ use crate::acts::session_set::plan_session_set;
 use crate::acts::session_state::plan_session_state;
 use crate::acts::settle::plan_settle;
 use crate::acts::transactions::{plan_begin, plan_rollback};
+use crate::acts::views::plan_look;
 use sb_entities::SpaceStore;
 use sb_machine::{Act, EntityKind, Refusal};
 use std::alloc::Global;
@@ -83,6 +85,7 @@ pub fn plan_act(alloc: Global, space: &SpaceStore, moment: u64, act: &Act) -> Re
         Act::Rollback { txn } => plan_rollback(alloc, space, *txn),
         Act::Peek { from, start, count } => plan_peek(alloc, space, from, *start, *count),
         Act::Counts { entity } => plan_counts(alloc, space, entity),
+        Act::Look { what } => plan_look(alloc, space, what),
         Act::Send { to, messages, txn } => plan_send(alloc, space, moment, to, messages, *txn),
         Act::Cancel { from, number } => plan_cancel(alloc, space, from, *number),
         Act::Receive {

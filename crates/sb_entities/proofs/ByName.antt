@@ -19,26 +19,26 @@ use Rattle.sb_entities.specs.Names.{AreByName}
 
 -- ---- the order of texts
 
-less_is : (o : Ordering) → is_lt o ≡ true → o ≡ Less
+pub less_is : (o : Ordering) → is_lt o ≡ true → o ≡ Less
 less_is Less e = refl
 less_is Equal e = absurd cc
 less_is Greater e = absurd cc
 
-equal_same : (a b : List ℕ) → slice_cmp nat_cmp a b ≡ Equal → a ≡ b
+pub equal_same : (a b : List ℕ) → slice_cmp nat_cmp a b ≡ Equal → a ≡ b
 equal_same a b e = (bytes_eq-Decides a b).0 (sym (is_eq-slice_cmp a b) ∙ ap is_eq e)
 
 -- what isn't later than one before a name is before it too
-down : (a b n : List ℕ) → is_before b a ≡ false → is_before b n ≡ true → is_before a n ≡ true
+pub down : (a b n : List ℕ) → is_before b a ≡ false → is_before b n ≡ true → is_before a n ≡ true
 down a b n late here = at (slice_cmp nat_cmp a b) refl where
   at : (o : Ordering) → slice_cmp nat_cmp a b ≡ o → is_before a n ≡ true
   at Less e = ap is_lt (nat_list_cmp_total.trans a b n e (less_is (slice_cmp nat_cmp b n) here))
   at Equal e = subst (λ (x : List ℕ). is_before x n ≡ true) (sym (equal_same a b e)) here
   at Greater e = absurd (let bad : true ≡ false = sym (ap is_lt (nat_list_cmp_total.antisymm b a ∙ ap ordering_reverse e)) ∙ late in cc)
 
-not_behind : (a n : List ℕ) → is_before a n ≡ true → is_before n a ≡ false
+pub not_behind : (a n : List ℕ) → is_before a n ≡ true → is_before n a ≡ false
 not_behind a n here = ap is_lt (nat_list_cmp_total.antisymm n a ∙ ap ordering_reverse (less_is (slice_cmp nat_cmp a n) here))
 
-not_before : (a b n : List ℕ) → is_before b a ≡ false → is_before a n ≡ false → is_before b n ≡ false
+pub not_before : (a b n : List ℕ) → is_before b a ≡ false → is_before a n ≡ false → is_before b n ≡ false
 not_before a b n late there = at (is_before b n) refl where
   at : (d : Bool) → is_before b n ≡ d → is_before b n ≡ false
   at true e = absurd (let bad : true ≡ false = sym (down a b n late e) ∙ there in cc)
@@ -47,12 +47,12 @@ not_before a b n late there = at (is_before b n) refl where
 -- ---- lists
 
 module _ {X : Type 0} where
-  each_at : (P : X → Type 0) (xs : List X) (i : ℕ) (d : X) → Each P xs → i < length xs → P (get_or xs i d)
+  pub each_at : (P : X → Type 0) (xs : List X) (i : ℕ) (d : X) → Each P xs → i < length xs → P (get_or xs i d)
   each_at P [] i d h lt = absurd (omega (arith, lt))
   each_at P (x ∷ xs) zero d h lt = h.0
   each_at P (x ∷ xs) (suc i) d h lt = each_at P xs i d h.1 (omega (arith, lt))
 
-  each_implied : (P Q : X → Type 0) → ((x : X) → P x → Q x) → (xs : List X) → Each P xs → Each Q xs
+  pub each_implied : (P Q : X → Type 0) → ((x : X) → P x → Q x) → (xs : List X) → Each P xs → Each Q xs
   each_implied P Q more [] h = tt
   each_implied P Q more (x ∷ xs) h = (more x h.0, each_implied P Q more xs h.1)
 
@@ -60,7 +60,7 @@ module _ {X : Type 0} where
   each_put P [] ys x new h = (new, h)
   each_put P (z ∷ zs) ys x new h = (h.0, each_put P zs ys x new h.1)
 
-  each_inserted : (P : X → Type 0) (xs : List X) (i : ℕ) (x : X) → P x → Each P xs → Each P (insert xs i x)
+  pub each_inserted : (P : X → Type 0) (xs : List X) (i : ℕ) (x : X) → P x → Each P xs → Each P (insert xs i x)
   each_inserted P xs i x new h = each_put P (take i xs) (drop i xs) x new (subst (Each P) (sym (take-append-drop i xs)) h)
 
 -- ---- subscriptions

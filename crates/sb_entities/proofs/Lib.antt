@@ -9,6 +9,11 @@ pub mod Rising
 pub mod Bisecting
 pub mod InOrder
 pub mod ByName
+pub mod Cutting
+pub mod Ordered
+pub mod ByPath
+pub mod ById
+pub mod SessionList
 pub mod Numbering
 pub mod Stocking
 pub mod Carried

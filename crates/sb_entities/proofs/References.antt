@@ -6,11 +6,11 @@ use Rattle.sb_machine.specs.Names.{is_before}
 use Rattle.sb_machine.specs.declared.state.Listed.{Listed}
 use Rattle.sb_machine.specs.Visits.{with_next, own_name}
 
-prefix_len-map : {A B : Type 0} (f : A → B) (p : B → Bool) (xs : List A) → prefix_len p (map f xs) ≡ prefix_len (λ x. p (f x)) xs
+pub prefix_len-map : {A B : Type 0} (f : A → B) (p : B → Bool) (xs : List A) → prefix_len p (map f xs) ≡ prefix_len (λ x. p (f x)) xs
 prefix_len-map f p [] = refl
 prefix_len-map f p (x ∷ xs) = rw (prefix_len-map f p xs) refl
 
-map-insert : {A B : Type 0} (f : A → B) (xs : List A) (i : ℕ) (y : A) → map f (insert xs i y) ≡ insert (map f xs) i (f y)
+pub map-insert : {A B : Type 0} (f : A → B) (xs : List A) (i : ℕ) (y : A) → map f (insert xs i y) ≡ insert (map f xs) i (f y)
 map-insert f xs i y = map-append f (take i xs) (y ∷ drop i xs) ∙ simp (take-map, drop-map)
 
 pub with_one_next : (xs : List (Bor Listed)) (e : Bor Listed) → map (λ b. b.now) (insert xs (prefix_len (λ q. is_before (own_name q.now) (own_name e.now)) xs) e) ≡ with_next (map (λ b. b.now) xs) e.now

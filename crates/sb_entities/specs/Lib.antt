@@ -2,6 +2,7 @@
 -- that it is); ByHash (how an entity is found by its address or its topic); Tallies (the counts that it keeps); Heads (which session is the next); EntityDues, Expiring, DueRows (when something
 -- of an entity comes due); Places, Rooms, Stocks, Released (which memory is promised before a change is made, so that making it can't fail);
 -- Whole (what is asked of a namespace that is to stand in memory at once).
+pub mod Asked
 pub mod ByHash
 pub mod DueRows
 pub mod EntityDues
@@ -13,6 +14,7 @@ pub mod Numbers
 pub mod Places
 pub mod Released
 pub mod Rooms
+pub mod SessionList
 pub mod Stocks
 pub mod Stores
 pub mod Tables

@@ -21,7 +21,8 @@ use std::collections::VecDeque;
 
 // ---- what is there
 
-fn session_of(copy: &StoredCopy) -> Option<&Text>
+/// The id of the session that a copy is of.
+pub fn session_of(copy: &StoredCopy) -> Option<&Text>
     ensures { option_map (λ x. x.now) result ≡ spec.session_of copy.now }
 {
     text_of(&copy.message, SystemName::SessionId)

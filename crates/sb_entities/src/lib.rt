@@ -21,6 +21,7 @@
 //! ```
 #![tactic(auto)]
 
+mod asked;
 mod carrying;
 mod change;
 mod directory;
@@ -36,9 +37,12 @@ mod place;
 mod releasing;
 mod reserving;
 mod rows;
+mod session_list;
+mod shown;
 mod slots;
 mod space;
 mod tally;
+mod txn_list;
 mod whole;
 
 pub use entity::EntityStore;

@@ -7,7 +7,7 @@ use Rattle.sb_machine.specs.Fields.{max_messages, is_id}
 use Rattle.sb_machine.specs.Names.{is_before}
 use Rattle.sb_machine.specs.declared.reply.CopyShown.{CopyShown}
 use Rattle.sb_machine.specs.declared.reply.Reply.{Reply}
-use Rattle.sb_machine.specs.declared.reply.Reply.TheVariants.{Sent, Copies, State as Remembers, Counts, Message as Given, Session as Accepted}
+use Rattle.sb_machine.specs.declared.reply.Reply.TheVariants.{Sent, Copies, State as Remembers, Counts, Seen, Message as Given, Session as Accepted}
 use Rattle.sb_machine.specs.declared.reply.Showing.{Showing}
 use Rattle.sb_machine.specs.declared.reply.Showing.TheVariants.{Removed, Locked, Browsed}
 use Rattle.sb_machine.specs.declared.state.Kept.{Kept}
@@ -40,6 +40,7 @@ reply_verdict (Accepted id token until) = passes (is_id id)
 reply_verdict (Copies copies) = never
 reply_verdict (Remembers state) = never
 reply_verdict (Counts main dead transfer) = never
+reply_verdict (Seen view) = never
 reply_verdict _ = always
 
 -- the test of what is remembered for a client

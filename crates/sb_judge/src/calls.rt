@@ -163,7 +163,7 @@ fn has_names(act: &Act) -> bool
         | Act::SessionSet { from, .. }
         | Act::SessionState { from, .. }
         | Act::Peek { from, .. } => is_address(from),
-        Act::Commit { .. } | Act::Rollback { .. } => true,
+        Act::Commit { .. } | Act::Rollback { .. } | Act::Look { .. } => true,
     }
 }
 

@@ -79,7 +79,7 @@ fn is_reply(reply: &Reply) -> bool
         Reply::Sent(receipts) => receipts.len() <= MAX_MESSAGES,
         Reply::Message(shown) => is_given(shown),
         Reply::Session { id, .. } => is_id(id.as_str()),
-        Reply::Copies(_) | Reply::State(_) | Reply::Counts { .. } => false,
+        Reply::Copies(_) | Reply::State(_) | Reply::Counts { .. } | Reply::Seen(_) => false,
         Reply::Done
         | Reply::Empty
         | Reply::Expired { .. }

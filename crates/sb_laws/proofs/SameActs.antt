@@ -2,11 +2,11 @@
 use Rattle.std.proofs.Common.{ap, refl, subst, true, ◌==◌, ◌≡◌}
 use Rattle.std.specs.Bool.{Decides}
 use Rattle.std.specs.Prelude.{bytes_eq}
-use Rattle.sb_laws.proofs.Sameness.{bytes_same, description_same, description_sound, equal_numbers, filter_same, filter_sound, how_same, how_sound, list_same, list_sound, message_same, message_sound, mode_same, mode_sound, numbers_equal, numbers_same, numbers_sound, option_same, option_sound, path_same, path_sound, same_bytes, text_same, text_sound, token_same, token_sound, two, which_same, which_sound}
+use Rattle.sb_laws.proofs.Sameness.{bytes_same, description_same, description_sound, equal_numbers, filter_same, filter_sound, how_same, how_sound, list_same, list_sound, look_same, look_sound, message_same, message_sound, mode_same, mode_sound, numbers_equal, numbers_same, numbers_sound, option_same, option_sound, path_same, path_sound, same_bytes, text_same, text_sound, token_same, token_sound, two, which_same, which_sound}
 use Rattle.sb_machine.specs.Names.{is_same_option}
 use Rattle.sb_machine.specs.Same.{same_act, same_description, same_filter, same_how, same_list, same_message, same_mode, same_nat, same_option, same_token, same_which}
 use Rattle.sb_machine.specs.declared.call.Act.{Act}
-use Rattle.sb_machine.specs.declared.call.Act.TheVariants.{Accept, Begin, Cancel, Commit, Counts, CreateQueue, CreateRule, CreateSubscription, CreateTopic, Delete, DeleteRule, Peek, Receive, ReceiveDeferred, Renew, Rollback, Send, SessionClose, SessionRenew, SessionSet, SessionState, Settle}
+use Rattle.sb_machine.specs.declared.call.Act.TheVariants.{Accept, Begin, Cancel, Commit, Counts, CreateQueue, CreateRule, CreateSubscription, CreateTopic, Delete, DeleteRule, Look, Peek, Receive, ReceiveDeferred, Renew, Rollback, Send, SessionClose, SessionRenew, SessionSet, SessionState, Settle}
 
 act_sound : (x y : Act) → same_act x y ≡ true → x ≡ y
 act_sound (CreateQueue a b) (CreateQueue p q) is =
@@ -131,6 +131,7 @@ act_sound (Peek a b c) (Peek p q r) is =
     let cr = equal_numbers c r p2.1 in
     cc
 act_sound (Counts a) (Counts p) is = ap (λ z. Counts z) (path_sound a p is)
+act_sound (Look a) (Look p) is = ap (λ z. Look z) (look_sound a p is)
 act_sound _ _ e = absurd cc
 
 act_same : (x : Act) → same_act x x ≡ true
@@ -156,6 +157,7 @@ act_same (Commit a) = numbers_equal a
 act_same (Rollback a) = numbers_equal a
 act_same (Peek a b c) = rw (path_same a, numbers_equal b, numbers_equal c) refl
 act_same (Counts a) = path_same a
+act_same (Look a) = look_same a
 
 pub same_act_exactly : (x y : Act) → Decides (same_act x y) (x ≡ y)
 same_act_exactly x y = (act_sound x y, λ is. subst (λ (z : Act). same_act x z ≡ true) is (act_same x))

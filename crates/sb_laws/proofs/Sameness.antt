@@ -3,7 +3,7 @@ use Rattle.std.proofs.Common.{Bool, List, None, Option, Some, [], ap, arith, fal
 use Rattle.std.specs.Prelude.{bytes_eq}
 use Rattle.sb_laws.proofs.Swept.{same_part}
 use Rattle.sb_machine.specs.Names.{is_same_entity, is_same_option, is_same_part}
-use Rattle.sb_machine.specs.Same.{same_bool, same_description, same_filter, same_how, same_list, same_message, same_mode, same_nat, same_option, same_path, same_property, same_text, same_token, same_which}
+use Rattle.sb_machine.specs.Same.{same_bool, same_description, same_filter, same_how, same_list, same_look, same_message, same_mode, same_nat, same_option, same_path, same_property, same_text, same_token, same_which}
 use Rattle.sb_machine.specs.Selection.{same_value}
 use Rattle.sb_model.specs.SystemNames.{system_code}
 use Rattle.sb_machine.specs.declared.call.Description.{Description}
@@ -17,6 +17,8 @@ use Rattle.sb_machine.specs.declared.call.Path.{Path}
 use Rattle.sb_machine.specs.declared.call.Token.{Token}
 use Rattle.sb_machine.specs.declared.call.Which.{Which}
 use Rattle.sb_machine.specs.declared.call.Which.TheVariants.{Id, Number}
+use Rattle.sb_machine.specs.declared.look.Look.{Look}
+use Rattle.sb_machine.specs.declared.look.Look.TheVariants.{Entities, Entity, Sessions, Transactions}
 use Rattle.sb_model.specs.declared.message.Message.{Message}
 use Rattle.sb_model.specs.declared.message.Property.{Property}
 use Rattle.sb_model.specs.declared.message.PropertyValue.{PropertyValue}
@@ -256,3 +258,28 @@ how_same Complete = refl
 how_same Abandon = refl
 how_same Defer = refl
 how_same (DeadLetter r d) = rw (text_same r, text_same d) refl
+
+pub look_sound : (a b : Look) → same_look a b ≡ true → a ≡ b
+look_sound (Entities f a n) (Entities g b m) e =
+    let p2 = two _ (n == m) e in
+    let p1 = two _ (same_option same_path a b) p2.0 in
+    let fg = text_sound f g p1.0 in
+    let ab = option_sound same_path path_sound a b p1.1 in
+    let nm = equal_numbers n m p2.1 in
+    cc
+look_sound (Entity p) (Entity q) e = ap (λ z. Entity z) (path_sound p q e)
+look_sound (Sessions p a n) (Sessions q b m) e =
+    let p2 = two _ (n == m) e in
+    let p1 = two _ (is_same_option a b) p2.0 in
+    let pq = path_sound p q p1.0 in
+    let ab = text_sound a b p1.1 in
+    let nm = equal_numbers n m p2.1 in
+    cc
+look_sound Transactions Transactions e = refl
+look_sound _ _ e = absurd cc
+
+pub look_same : (a : Look) → same_look a a ≡ true
+look_same (Entities f a n) = rw (text_same f, option_same same_path path_same a, numbers_equal n) refl
+look_same (Entity p) = path_same p
+look_same (Sessions p a n) = rw (path_same p, text_same a, numbers_equal n) refl
+look_same Transactions = refl

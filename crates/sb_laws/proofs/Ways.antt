@@ -14,6 +14,7 @@ use Rattle.sb_machine.specs.Fields.{takes_number}
 use Rattle.sb_machine.specs.History.{is_fault}
 use Rattle.sb_machine.specs.Leases.{held_session, is_ready, leased}
 use Rattle.sb_machine.specs.Leaves.{is_deferred}
+use Rattle.sb_machine.specs.Looks.{look_row}
 use Rattle.sb_machine.specs.Messages.{above, large_size, text_of}
 use Rattle.sb_machine.specs.Names.{is_address, is_main, is_name, is_same_option, is_short_name}
 use Rattle.sb_machine.specs.Namespace.{entity_at, entity_of, entity_path, leaf_of, listed, subscription_path}
@@ -27,13 +28,14 @@ use Rattle.sb_machine.specs.SettleRow.{is_on, pending, pending_in, settle_found,
 use Rattle.sb_machine.specs.Settlement.{goes_with, is_until, renew_row, renewed, settled}
 use Rattle.sb_machine.specs.Transactions.{aborted_by, commit_changes, commit_row, committed, is_lost, max_transactions}
 use Rattle.sb_machine.specs.declared.call.Act.{Act}
-use Rattle.sb_machine.specs.declared.call.Act.TheVariants.{Accept, Begin, Cancel, Commit, Counts, CreateQueue, CreateRule, CreateSubscription, CreateTopic, Delete, DeleteRule, Peek, Receive, ReceiveDeferred, Renew, Rollback, Send, SessionClose, SessionRenew, SessionSet, SessionState, Settle}
+use Rattle.sb_machine.specs.declared.call.Act.TheVariants.{Accept, Begin, Cancel, Commit, Counts, CreateQueue, CreateRule, CreateSubscription, CreateTopic, Delete, DeleteRule, Look, Peek, Receive, ReceiveDeferred, Renew, Rollback, Send, SessionClose, SessionRenew, SessionSet, SessionState, Settle}
 use Rattle.sb_machine.specs.declared.call.Description.{Description}
 use Rattle.sb_machine.specs.declared.call.FilterText.{FilterText}
 use Rattle.sb_machine.specs.declared.call.How.{How}
 use Rattle.sb_machine.specs.declared.call.Mode.{Mode}
 use Rattle.sb_machine.specs.declared.call.Mode.TheVariants.{Lock}
 use Rattle.sb_machine.specs.declared.call.Part.{Part}
+use Rattle.sb_machine.specs.declared.call.Part.TheVariants.{Main}
 use Rattle.sb_machine.specs.declared.call.Path.{Path}
 use Rattle.sb_machine.specs.declared.call.Token.{Token}
 use Rattle.sb_machine.specs.declared.call.Which.{Which}
@@ -41,6 +43,8 @@ use Rattle.sb_machine.specs.declared.change.Cause.TheVariants.{Cancelled, Receiv
 use Rattle.sb_machine.specs.declared.change.Change.{Change}
 use Rattle.sb_machine.specs.declared.change.Change.TheVariants.{AddsRule, Begins, Drops, DropsRule, Makes, Removes}
 use Rattle.sb_machine.specs.declared.change.LeafChange.TheVariants.{Ends, Holds, Opens, Prolongs, Renews, Writes}
+use Rattle.sb_machine.specs.declared.look.Look.{Look as Looked}
+use Rattle.sb_machine.specs.declared.look.Look.TheVariants as look
 use Rattle.sb_model.specs.declared.message.Message.{Message}
 use Rattle.sb_model.specs.declared.message.SystemName.TheVariants.{SessionId}
 use Rattle.sb_machine.specs.declared.reply.Refusal.{Refusal}
@@ -333,6 +337,12 @@ module _ (s : Space) (t : ℕ) where
     at x there e on (Some o) lost = answered_so (aborts x o there)
     at x there e on None lost = counted t s (commit_changes t e x s) Committed refl (commits x e there on lost)
 
+  row_looks : (what : Looked) → Accepts (Look what) (look_row s what)
+  row_looks (look.Entities prefix after count) = answered_so (tells (λ numbered. absurd cc))
+  row_looks (look.Entity path) = with_entity s path _ refl refl (λ e there. answered_so (tells (λ numbered. absurd cc)))
+  row_looks (look.Sessions path after count) = with_entity s path _ refl refl (λ e there. asked (has_sessions e Main) SessionNotAllowed _ refl (λ has. answered_so (tells (λ numbered. absurd cc))))
+  row_looks look.Transactions = answered_so (tells (λ numbered. absurd cc))
+
   -- an act is refused by no fault, or accepted in one of these ways
   pub accepts : (act : Act) → Accepts act (act_row s t act)
   accepts (CreateQueue name d) = row_creates (CreateQueue name d) Queue name d makes_queue
@@ -361,3 +371,4 @@ module _ (s : Space) (t : ℕ) where
   accepts (Rollback n) = found (transaction_of n s) TxnNotFound _ refl (λ x there. answered_so (rolls_back x there))
   accepts (Peek from start count) = with_entity s from _ refl refl (λ e there. answered_so (tells (λ numbered. absurd cc)))
   accepts (Counts path) = with_entity s path _ refl refl (λ e there. answered_so (tells (λ numbered. absurd cc)))
+  accepts (Look what) = row_looks what

@@ -1,5 +1,5 @@
 -- No reply holds a float.
-use Rattle.std.proofs.Common.{◌≡◌, ℕ, List, [], ◌∷◌, Bool, true, false, Option, Some, None, map, codes, if◌then◌else◌, Result, Ok, Err, pos, negsuc, refl, ◌||◌, Ordering, Less, Equal, Greater, nat_cmp}
+use Rattle.std.proofs.Common.{◌≡◌, ℕ, List, [], ◌∷◌, ◌++◌, Bool, true, false, Option, Some, None, map, codes, if◌then◌else◌, Result, Ok, Err, pos, negsuc, refl, ◌||◌, Ordering, Less, Equal, Greater, nat_cmp}
 use Rattle.std.specs.Cmp.Lexicographic.{slice_cmp}
 use Rattle.std.specs.Ordering.{match_ordering}
 use Rattle.std.specs.Str.{is_utf8}
@@ -12,6 +12,21 @@ use Rattle.sb_model.specs.declared.message.PropertyValue.{PropertyValue}
 use Rattle.sb_model.specs.declared.message.PropertyValue.TheVariants.{Int, Text, Bool as Truth}
 use Rattle.sb_model.specs.declared.message.SystemText.{SystemText}
 use Rattle.sb_model.specs.SystemNames.{system_name}
+use Rattle.sb_machine.specs.declared.call.Description.{Description}
+use Rattle.sb_machine.specs.declared.call.FilterText.{FilterText}
+use Rattle.sb_machine.specs.declared.call.FilterText.TheVariants.{Sql, Correlation}
+use Rattle.sb_machine.specs.declared.call.Path.{Path}
+use Rattle.sb_machine.specs.declared.look.Described.{Described}
+use Rattle.sb_machine.specs.declared.look.EntityShown.{EntityShown}
+use Rattle.sb_machine.specs.declared.look.PartShown.{PartShown}
+use Rattle.sb_machine.specs.declared.look.RuleShown.{RuleShown}
+use Rattle.sb_machine.specs.declared.look.SessionShown.{SessionShown}
+use Rattle.sb_machine.specs.declared.look.TransactionShown.{TransactionShown}
+use Rattle.sb_machine.specs.declared.look.View.{View}
+use Rattle.sb_machine.specs.declared.look.View.TheVariants.{Entities, Entity, Sessions, Transactions}
+use Rattle.sb_machine.specs.declared.rule.Conditions.{Conditions}
+use Rattle.sb_machine.specs.declared.state.EntityKind.{EntityKind}
+use Rattle.sb_machine.specs.declared.state.EntityKind.TheVariants.{Queue, Topic, Subscription}
 use Rattle.sb_machine.specs.declared.reply.Answered.{Answered}
 use Rattle.sb_machine.specs.declared.reply.Answered.TheVariants.{New, Kept}
 use Rattle.sb_machine.specs.declared.reply.CopyShown.{CopyShown}
@@ -22,15 +37,16 @@ use Rattle.sb_machine.specs.declared.reply.Showing.TheVariants.{Removed, Locked,
 use Rattle.sb_machine.specs.declared.reply.Receipt.{Receipt}
 use Rattle.sb_machine.specs.declared.reply.Receipt.TheVariants.{Number, Duplicate}
 use Rattle.sb_machine.specs.declared.reply.Reply.{Reply}
-use Rattle.sb_machine.specs.declared.reply.Reply.TheVariants.{Done, Sent, Message, Empty, Copies, Expired, Session, Renewed, State, Begun, Queued, Committed, Aborted, Counts}
+use Rattle.sb_machine.specs.declared.reply.Reply.TheVariants.{Done, Sent, Message, Empty, Copies, Expired, Session, Renewed, State, Begun, Queued, Committed, Aborted, Counts, Seen}
 use Rattle.sb_machine.specs.declared.reply.Refusal.{Refusal}
 use Rattle.sb_machine.specs.declared.reply.Refusal.TheVariants.{BadCall, EntityNotFound, EntityExists, BadName, BadDescription, BadFilter, WrongKind, TooLarge, QuotaExceeded, SessionRequired, SessionNotAllowed, SessionHeld, SessionLost, LockLost, NotDeferred, NotScheduled, TxnNotFound, TxnPending, TxnScope, TxnFull, StaleNumber, NumberReused, ClientsFull, TxnsFull, Exhausted, DiskFault, Stopped, OutOfMemory}
 use Rattle.sb_lines.specs.declared.form.Form.{Form}
 use Rattle.sb_lines.specs.declared.form.Form.TheVariants.{Plain, Amqp}
 use Rattle.sb_lines.specs.Shown.{state_name, property_data, with_properties, with_texts, with_bytes, with_ttl, with_schedule, with_showing, common_members, copy_members, amqp_bytes, plain_data, amqp_data, shown_data}
 use Rattle.sb_lines.specs.Tokens.{token_text}
-use Rattle.sb_lines.specs.Refusals.{refusal_data}
-use Rattle.sb_lines.specs.Replies.{said, receipt_data, with_state, reply_data, answer_data}
+use Rattle.sb_lines.specs.Refusals.{refusal_data, with_string}
+use Rattle.sb_lines.specs.Replies.{said, receipt_data, with_state, described_data, seen_data, reply_data, answer_data}
+use Rattle.sb_lines.specs.Views.{number_or_null, with_truth, number_if, string_if, entity_or_null, part_data, entity_data, entities_data, lease_members, with_forwards, queue_members, topic_members, subscription_members, description_data, forward_if, conditions_data, with_filter, rule_data, rules_data, session_data, sessions_data, transaction_data, transactions_data}
 
 either_way : (o : Ordering) (a b c : Members) → members_have_float a ≡ false → members_have_float b ≡ false → members_have_float c ≡ false
     → members_have_float (match_ordering o a b c) ≡ false
@@ -129,6 +145,109 @@ state_whole : (state : Option (List ℕ)) (ms : Members) → members_have_float 
 state_whole None ms whole = put_whole (codes "state") null ms refl whole
 state_whole (Some bytes) ms whole = bytes_whole (codes "state") (codes "state_hex") bytes ms whole
 
+-- ---- what an operator looks at
+
+number_if_whole : (k : List ℕ) (n : Option ℕ) (ms : Members) → members_have_float ms ≡ false → members_have_float (number_if k n ms) ≡ false
+number_if_whole k None ms whole = whole
+number_if_whole k (Some n) ms whole = put_whole k (number (unsigned n)) ms refl whole
+
+string_if_whole : (k : List ℕ) (text : Option (List ℕ)) (ms : Members) → members_have_float ms ≡ false → members_have_float (string_if k text ms) ≡ false
+string_if_whole k None ms whole = whole
+string_if_whole k (Some text) ms whole = put_whole k (string text) ms refl whole
+
+number_or_null_whole : (n : Option ℕ) → has_float (number_or_null n) ≡ false
+number_or_null_whole None = refl
+number_or_null_whole (Some n) = refl
+
+entity_or_null_whole : (path : Option Path) → has_float (entity_or_null path) ≡ false
+entity_or_null_whole None = refl
+entity_or_null_whole (Some path) = refl
+
+part_whole : (p : PartShown) → has_float (part_data p) ≡ false
+part_whole p = neither _ _ (number_or_null_whole p.oldest) refl
+
+entity_whole : (e : EntityShown) → has_float (entity_data e) ≡ false
+entity_whole e = neither _ _ (part_whole e.dead) (neither _ _ (part_whole e.main) (neither _ _ (part_whole e.transfer) refl))
+
+entities_whole : (es : List EntityShown) → has_float (entities_data es) ≡ false
+entities_whole [] = refl
+entities_whole (e ∷ es) = neither _ _ (entity_whole e) (entities_whole es)
+
+forwards_put_whole : (d : Description) (ms : Members) → members_have_float ms ≡ false → members_have_float (with_forwards d ms) ≡ false
+forwards_put_whole d ms whole =
+    let one : Members = string_if (codes "forward_to") d.forward_to ms in
+    string_if_whole (codes "forward_dead_to") d.forward_dead_to one (string_if_whole (codes "forward_to") d.forward_to ms whole)
+
+queue_whole : (d : Description) → members_have_float (queue_members d) ≡ false
+queue_whole d =
+    let fixed : Members = with_truth (codes "dead_on_expiry") d.dead_on_expiry (lease_members d) in
+    let forwards : Members = with_forwards d fixed in
+    let ttl : Members = number_if (codes "ttl") d.ttl forwards in
+    number_if_whole (codes "window") d.window ttl (number_if_whole (codes "ttl") d.ttl forwards (forwards_put_whole d fixed refl))
+
+topic_whole : (d : Description) → members_have_float (topic_members d) ≡ false
+topic_whole d = number_if_whole (codes "window") d.window (number_if (codes "ttl") d.ttl no_members) (number_if_whole (codes "ttl") d.ttl no_members refl)
+
+subscription_whole : (d : Description) → members_have_float (subscription_members d) ≡ false
+subscription_whole d =
+    let fixed : Members = with_truth (codes "dead_on_expiry") d.dead_on_expiry (with_truth (codes "dead_on_fault") d.dead_on_fault (lease_members d)) in
+    let forwards : Members = with_forwards d fixed in
+    number_if_whole (codes "ttl") d.ttl forwards (forwards_put_whole d fixed refl)
+
+description_whole : (kind : EntityKind) (d : Description) → has_float (description_data kind d) ≡ false
+description_whole Queue d = queue_whole d
+description_whole Topic d = topic_whole d
+description_whole Subscription d = subscription_whole d
+
+forwards_whole : (dead other : Option (List ℕ)) (a b : Bool) → items_have_float (items_of (forward_if (codes "forward_dead_to") dead a ++ forward_if (codes "forward_to") other b)) ≡ false
+forwards_whole None None a b = refl
+forwards_whole None (Some n) a b = refl
+forwards_whole (Some m) None a b = refl
+forwards_whole (Some m) (Some n) a b = refl
+
+conditions_whole : (c : Conditions) → has_float (conditions_data c) ≡ false
+conditions_whole c = neither _ _ (properties_whole _ c.props refl) (neither _ _ (texts_whole _ c.sys refl) refl)
+
+filter_whole : (f : FilterText) (ms : Members) → members_have_float ms ≡ false → members_have_float (with_filter f ms) ≡ false
+filter_whole (Sql text) ms whole = put_whole (codes "filter") (string text) ms refl whole
+filter_whole (Correlation c) ms whole = put_whole (codes "correlation") (conditions_data c) ms (conditions_whole c) whole
+
+rule_whole : (r : RuleShown) → has_float (rule_data r) ≡ false
+rule_whole r =
+    let name : Members = with_string (codes "name") r.name no_members in
+    string_if_whole (codes "action") r.action (with_filter r.filter name) (filter_whole r.filter name refl)
+
+rules_whole : (rs : List RuleShown) → has_float (rules_data rs) ≡ false
+rules_whole [] = refl
+rules_whole (r ∷ rs) = neither _ _ (rule_whole r) (rules_whole rs)
+
+session_whole : (x : SessionShown) → has_float (session_data x) ≡ false
+session_whole x = neither _ _ (number_or_null_whole x.until) refl
+
+sessions_whole : (xs : List SessionShown) → has_float (sessions_data xs) ≡ false
+sessions_whole [] = refl
+sessions_whole (x ∷ xs) = neither _ _ (session_whole x) (sessions_whole xs)
+
+transaction_whole : (x : TransactionShown) → has_float (transaction_data x) ≡ false
+transaction_whole x = neither _ _ (entity_or_null_whole x.entity) refl
+
+transactions_whole : (xs : List TransactionShown) → has_float (transactions_data xs) ≡ false
+transactions_whole [] = refl
+transactions_whole (x ∷ xs) = neither _ _ (transaction_whole x) (transactions_whole xs)
+
+described_whole : (d : Described) → has_float (described_data d) ≡ false
+described_whole d =
+    neither _ _ (description_whole d.kind d.description)
+    (neither _ _ (forwards_whole d.description.forward_dead_to d.description.forward_to d.forward_dead_there d.forward_there) (neither _ _ (rules_whole d.rules) refl))
+
+seen_whole : (v : View) → has_float (seen_data v) ≡ false
+seen_whole (Entities es) = neither _ _ (entities_whole es) refl
+seen_whole (Entity d) = described_whole d
+seen_whole (Sessions xs) = neither _ _ (sessions_whole xs) refl
+seen_whole (Transactions xs) = neither _ _ (transactions_whole xs) refl
+
+-- ---- answers
+
 reply_whole : (form : Form) (r : Reply) → has_float (reply_data form r) ≡ false
 reply_whole form Done = refl
 reply_whole form (Sent rs) = neither _ _ (receipts_whole rs) refl
@@ -144,6 +263,7 @@ reply_whole form Queued = refl
 reply_whole form Committed = refl
 reply_whole form (Aborted part n) = refl
 reply_whole form (Counts main dead transfer) = refl
+reply_whole form (Seen view) = seen_whole view
 
 refusal_whole : (r : Refusal) → has_float (refusal_data r) ≡ false
 refusal_whole (BadCall key) = refl

@@ -17,6 +17,7 @@ use Rattle.sb_machine.specs.Each.{Each}
 use Rattle.sb_machine.specs.Ordered.{IsActInOrder, IsFilterInOrder, asked_of}
 use Rattle.sb_machine.specs.declared.call.Act.{Act}
 use Rattle.sb_machine.specs.declared.call.Act.TheVariants as act
+use Rattle.sb_machine.specs.declared.look.Look.TheVariants as look
 use Rattle.sb_machine.specs.declared.call.By.{By}
 use Rattle.sb_machine.specs.declared.call.FilterText.{FilterText}
 use Rattle.sb_machine.specs.declared.call.How.{How}
@@ -32,7 +33,7 @@ use Rattle.sb_lines.specs.declared.fault.LineFault.{LineFault}
 use Rattle.sb_lines.specs.Faults.{Answers, or_key, none_or_key, then_by}
 use Rattle.sb_lines.specs.Fields.{unknown_key, text_at, hex_at}
 use Rattle.sb_lines.specs.Descriptions.{queue_fields, topic_fields, subscription_fields}
-use Rattle.sb_lines.specs.Tables.{Field, text, name, address, entity, token, whole, number, mode, ◌and◌, optional, first_or_second, object_of}
+use Rattle.sb_lines.specs.Tables.{Field, text, name, address, entity, token, whole, number, mode, nothing, ◌and◌, optional, first_or_second, object_of}
 use Rattle.sb_amqp.specs.Found.{message_in}
 use Rattle.sb_amqp.proofs.Standing.{read_in_order}
 use Rattle.std.specs.Result.{result_ok}
@@ -312,6 +313,22 @@ counts_holds : (d : Data) → Holds IsActInOrder (lines.counts d)
 unfolding lines.counts
 counts_holds d = bare (entity (codes "entity")) (λ x. act.Counts x) d (λ x. tt)
 
+list_holds : (d : Data) → Holds IsActInOrder (lines.list d)
+unfolding lines.list
+list_holds d = bare (lines.prefix_if and lines.entity_after and whole (codes "count")) (λ x. act.Look (look.Entities x.0 x.1.0 x.1.1)) d (λ x. tt)
+
+describe_holds : (d : Data) → Holds IsActInOrder (lines.describe d)
+unfolding lines.describe
+describe_holds d = bare (entity (codes "entity")) (λ x. act.Look (look.Entity x)) d (λ x. tt)
+
+sessions_hold : (d : Data) → Holds IsActInOrder (lines.sessions d)
+unfolding lines.sessions
+sessions_hold d = bare (entity (codes "entity") and lines.text_if (codes "after") and whole (codes "count")) (λ x. act.Look (look.Sessions x.0 x.1.0 x.1.1)) d (λ x. tt)
+
+transactions_hold : (d : Data) → Holds IsActInOrder (lines.transactions d)
+unfolding lines.transactions
+transactions_hold d = bare nothing (λ _. act.Look look.Transactions) d (λ x. tt)
+
 abbrev AreSent : List Message × Option ℕ → Type 0
 AreSent = Two (Each IsInOrder) Any
 
@@ -351,13 +368,22 @@ either_act : (b : Bool) (x y : Result Act (List ℕ)) → Holds IsActInOrder x �
 either_act true x y one two = one
 either_act false x y one two = two
 
+look_act_holds : (word : List ℕ) (d : Data) → Holds IsActInOrder (lines.look_act word d)
+unfolding lines.look_act
+look_act_holds word d =
+    either_act (bytes_eq word (codes "list")) (lines.list d) (if bytes_eq word (codes "describe") then lines.describe d else (if bytes_eq word (codes "sessions") then lines.sessions d else (if bytes_eq word (codes "transactions") then lines.transactions d else (Err (codes "do"))))) (list_holds d) (
+    either_act (bytes_eq word (codes "describe")) (lines.describe d) (if bytes_eq word (codes "sessions") then lines.sessions d else (if bytes_eq word (codes "transactions") then lines.transactions d else (Err (codes "do")))) (describe_holds d) (
+    either_act (bytes_eq word (codes "sessions")) (lines.sessions d) (if bytes_eq word (codes "transactions") then lines.transactions d else (Err (codes "do"))) (sessions_hold d) (
+    either_act (bytes_eq word (codes "transactions")) (lines.transactions d) (Err (codes "do")) (transactions_hold d) (
+    tt))))
+
 transaction_act_holds : (word : List ℕ) (d : Data) → Holds IsActInOrder (lines.transaction_act word d)
 unfolding lines.transaction_act
 transaction_act_holds word d =
-    either_act (bytes_eq word (codes "begin")) (lines.begin d) (if bytes_eq word (codes "commit") then lines.commit d else (if bytes_eq word (codes "rollback") then lines.rollback d else (Err (codes "do")))) (begin_holds d) (
-    either_act (bytes_eq word (codes "commit")) (lines.commit d) (if bytes_eq word (codes "rollback") then lines.rollback d else (Err (codes "do"))) (commit_holds d) (
-    either_act (bytes_eq word (codes "rollback")) (lines.rollback d) (Err (codes "do")) (rollback_holds d) (
-    tt)))
+    either_act (bytes_eq word (codes "begin")) (lines.begin d) (if bytes_eq word (codes "commit") then lines.commit d else (if bytes_eq word (codes "rollback") then lines.rollback d else (lines.look_act word d))) (begin_holds d) (
+    either_act (bytes_eq word (codes "commit")) (lines.commit d) (if bytes_eq word (codes "rollback") then lines.rollback d else (lines.look_act word d)) (commit_holds d) (
+    either_act (bytes_eq word (codes "rollback")) (lines.rollback d) (lines.look_act word d) (rollback_holds d) (
+    look_act_holds word d)))
 
 session_act_holds : (word : List ℕ) (d : Data) → Holds IsActInOrder (lines.session_act word d)
 unfolding lines.session_act

@@ -14,6 +14,7 @@ use Rattle.sb_machine.specs.declared.call.Path.{Path}
 use Rattle.sb_machine.specs.declared.call.Token.{Token}
 use Rattle.sb_machine.specs.declared.call.Which.{Which}
 use Rattle.sb_machine.specs.declared.call.Which.TheVariants.{Number, Id}
+use Rattle.sb_machine.specs.declared.look.Look.TheVariants as look
 use Rattle.sb_machine.specs.declared.rule.Conditions.{Conditions}
 use Rattle.sb_lines.specs.declared.form.Form.{Form}
 use Rattle.sb_lines.specs.declared.line.Line.{Line}
@@ -23,7 +24,7 @@ use Rattle.sb_lines.specs.Descriptions.{queue_fields, topic_fields, subscription
 use Rattle.sb_lines.specs.Faults.{or_key, then_by}
 use Rattle.sb_lines.specs.Fields.{text_at, whole_in, number_in, or_default}
 use Rattle.sb_lines.specs.Messages.{messages, conditions, bytes}
-use Rattle.sb_lines.specs.Tables.{Field, address, entity, name, text, token, whole, number, mode, form, wait, ◌and◌, optional, one_of, made, object_of}
+use Rattle.sb_lines.specs.Tables.{Field, address, entity, name, text, token, whole, number, mode, form, wait, nothing, ◌and◌, optional, one_of, made, object_of}
 
 -- ---- fields that several acts have
 
@@ -170,7 +171,42 @@ peek = row (shown (address (codes "from") and number (codes "start") and whole (
 unfoldable pub counts : Data → Result Act (List ℕ)
 counts = row (entity (codes "entity")) (λ x. act.Counts x)
 
+-- ---- what an operator looks at
+
+-- the name that those asked for begin with, or none
+abbrev pub prefix_if : Field (Option (List ℕ))
+prefix_if = optional (codes "prefix") (name (codes "prefix"))
+
+-- the address behind which those asked for come, or none
+abbrev pub entity_after : Field (Option Path)
+entity_after = optional (codes "after") (entity (codes "after"))
+
+-- entities are listed
+unfoldable pub list : Data → Result Act (List ℕ)
+list = row (prefix_if and entity_after and whole (codes "count")) (λ x. act.Look (look.Entities x.0 x.1.0 x.1.1))
+
+-- one entity is described
+unfoldable pub describe : Data → Result Act (List ℕ)
+describe = row (entity (codes "entity")) (λ x. act.Look (look.Entity x))
+
+-- the sessions of an entity are listed
+unfoldable pub sessions : Data → Result Act (List ℕ)
+sessions = row (entity (codes "entity") and text_if (codes "after") and whole (codes "count")) (λ x. act.Look (look.Sessions x.0 x.1.0 x.1.1))
+
+-- the open transactions are listed
+unfoldable pub transactions : Data → Result Act (List ℕ)
+transactions = row nothing (λ _. act.Look look.Transactions)
+
 -- ---- the act of a name, and its fields: those of one kind, else those of the next
+
+-- what an operator looks at
+unfoldable pub look_act : List ℕ → Data → Result Act (List ℕ)
+look_act word d =
+    if bytes_eq word (codes "list") then list d
+    else if bytes_eq word (codes "describe") then describe d
+    else if bytes_eq word (codes "sessions") then sessions d
+    else if bytes_eq word (codes "transactions") then transactions d
+    else Err (codes "do")
 
 -- transactions
 unfoldable pub transaction_act : List ℕ → Data → Result Act (List ℕ)
@@ -178,7 +214,7 @@ transaction_act word d =
     if bytes_eq word (codes "begin") then begin d
     else if bytes_eq word (codes "commit") then commit d
     else if bytes_eq word (codes "rollback") then rollback d
-    else Err (codes "do")
+    else look_act word d
 
 -- sessions
 unfoldable pub session_act : List ℕ → Data → Result Act (List ℕ)
@@ -249,9 +285,13 @@ by_of takes d = by_from takes (get (codes "client") d) (get (codes "number") d)
 unfoldable pub beside : Bool → Data → Result (ℕ × Option By) (List ℕ)
 beside takes d = then_by (reading_of d) (λ reading. then_by (by_of takes d) (λ by. Ok (reading, by)))
 
+-- whether an act of this name is what an operator looks at
+abbrev pub is_look : List ℕ → Bool
+is_look word = bytes_eq word (codes "list") || bytes_eq word (codes "describe") || bytes_eq word (codes "sessions") || bytes_eq word (codes "transactions")
+
 -- whether a client may number the act of this name: not what only looks
 abbrev pub is_numbered : List ℕ → Bool
-is_numbered word = not (bytes_eq word (codes "peek") || bytes_eq word (codes "session-state") || bytes_eq word (codes "counts"))
+is_numbered word = not (bytes_eq word (codes "peek") || bytes_eq word (codes "session-state") || bytes_eq word (codes "counts") || is_look word)
 
 -- the form of the reply and how long the call waits
 abbrev pub manner : Field (Form × ℕ)

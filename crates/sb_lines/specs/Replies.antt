@@ -5,17 +5,21 @@ use Rattle.serde_json.specs.View.{items_of}
 use Rattle.serde_json.specs.Written.{compact_text}
 use Rattle.sb_machine.specs.declared.call.Part.{Part}
 use Rattle.sb_machine.specs.declared.call.Part.TheVariants.{Main, Dead, Transfer}
+use Rattle.sb_machine.specs.declared.look.Described.{Described}
+use Rattle.sb_machine.specs.declared.look.View.{View}
+use Rattle.sb_machine.specs.declared.look.View.TheVariants.{Entities, Entity, Sessions, Transactions}
 use Rattle.sb_machine.specs.declared.reply.Answered.{Answered}
 use Rattle.sb_machine.specs.declared.reply.Answered.TheVariants.{New, Kept}
 use Rattle.sb_machine.specs.declared.reply.Receipt.{Receipt}
 use Rattle.sb_machine.specs.declared.reply.Receipt.TheVariants.{Number, Duplicate}
 use Rattle.sb_machine.specs.declared.reply.Refusal.{Refusal}
 use Rattle.sb_machine.specs.declared.reply.Reply.{Reply}
-use Rattle.sb_machine.specs.declared.reply.Reply.TheVariants.{Done, Sent, Message, Empty, Copies, Expired, Session, Renewed, State, Begun, Queued, Committed, Aborted, Counts}
+use Rattle.sb_machine.specs.declared.reply.Reply.TheVariants.{Done, Sent, Message, Empty, Copies, Expired, Session, Renewed, State, Begun, Queued, Committed, Aborted, Counts, Seen}
 use Rattle.sb_lines.specs.declared.form.Form.{Form}
 use Rattle.sb_lines.specs.Refusals.{refusal_data, with_number, with_string}
 use Rattle.sb_lines.specs.Shown.{shown_data, with_bytes}
 use Rattle.sb_lines.specs.Tokens.{token_text}
+use Rattle.sb_lines.specs.Views.{kind_name, entities_data, description_data, forwards_data, rules_data, sessions_data, transactions_data}
 
 -- ---- parts of replies
 
@@ -47,6 +51,21 @@ with_state (Some bytes) ms = with_bytes (codes "state") (codes "state_hex") byte
 abbrev pub count_data : ℕ → ℕ → ℕ → Data
 count_data main dead transfer = object (with_number (codes "dead") dead (with_number (codes "main") main (with_number (codes "transfer") transfer no_members)))
 
+-- ---- what an operator looks at
+
+-- how an entity is described, and the rules that it has
+abbrev pub described_data : Described → Data
+described_data d =
+    object (member (codes "description") (description_data d.kind d.description) (member (codes "forwards") (forwards_data d)
+    (with_string (codes "kind") (kind_name d.kind) (said_before (codes "description") (member (codes "rules") (rules_data d.rules) no_members)))))
+
+-- what each look shows
+abbrev pub seen_data : View → Data
+seen_data (Entities es) = object (member (codes "entities") (entities_data es) (said (codes "list")))
+seen_data (Entity d) = described_data d
+seen_data (Sessions xs) = object (said_before (codes "sessions") (member (codes "sessions") (sessions_data xs) no_members))
+seen_data (Transactions xs) = object (said_before (codes "transactions") (member (codes "transactions") (transactions_data xs) no_members))
+
 -- ---- what was done
 
 -- copies are shown in this form
@@ -65,6 +84,7 @@ reply_data form Queued = object (said (codes "queued"))
 reply_data form Committed = object (said (codes "committed"))
 reply_data form (Aborted part n) = object (said_before (codes "aborted") (with_string (codes "part") (part_name part) (with_number (codes "seq") n no_members)))
 reply_data form (Counts main dead transfer) = object (member (codes "counts") (count_data main dead transfer) (said (codes "counts")))
+reply_data form (Seen view) = seen_data view
 
 -- ---- the line
 

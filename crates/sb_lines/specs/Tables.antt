@@ -1,5 +1,5 @@
 -- A field of an object, or fields in their order: which keys they take, and what stands there, or the first key at fault.
-use Rattle.std.specs.Prelude.{ℕ, List, Bool, ◌||◌, bytes_eq, Option, Some, None, option_and_then, Result, Ok, Err}
+use Rattle.std.specs.Prelude.{ℕ, List, Bool, false, ◌||◌, bytes_eq, Option, Some, None, option_and_then, Result, Ok, Err}
 use Rattle.serde_json.specs.Data.{Data}
 use Rattle.serde_json.specs.Find.{get, as_bool}
 use Rattle.sb_machine.specs.declared.call.Mode.{Mode}
@@ -80,7 +80,11 @@ form key = with_default key Plain form_in
 abbrev pub wait : List ℕ → Field ℕ
 wait key = with_default key 0 wait_in
 
--- ---- several keys
+-- ---- several keys, or none
+
+-- no key
+abbrev pub nothing : Field (Unit {0})
+nothing = record { knows = λ k. false; reads = λ d. Ok tt }
 
 infixr 6 ◌and◌
 -- one behind the other, in the order of their faults

@@ -5,8 +5,10 @@ ghost use Rattle.sb_lines.specs.Faults.{Answers};
 ghost use Rattle.sb_lines.specs.Lines as lines;
 
 use crate::descriptions::{QueueFields, SubscriptionFields, TopicFields};
-use crate::fault::{LineFault, bad};
+use crate::fault::LineFault;
+use crate::in_line::{InLine, Shown, Waiting};
 use crate::keys::{Address, EntityAddress, ModeWord, Named, Number, TokenText, Whole, Words};
+use crate::looks::look_act;
 use crate::messages::{Bytes, Correlation, Messages};
 use crate::table::{AtMostOne, Both, Either, Field, OneOf, Optional, object_of};
 use sb_machine::{Act, Conditions, FilterText, How, Which};
@@ -74,57 +76,6 @@ impl Field for FilterOne {
         ))
         .read(alloc, value)?;
         Ok(filter_of(said))
-    }
-}
-
-/// Fields of an act, beside the keys that each line may have.
-struct InLine<F>(F);
-
-impl<F: Field> Field for InLine<F> {
-    type Value = F::Value;
-
-    ghost field = { λ f. lines.in_line (F.field f.0) };
-
-    fn knows(&self, key: &str) -> bool {
-        key == "do" || key == "at" || key == "client" || key == "number" || self.0.knows(key)
-    }
-
-    fn read(&self, alloc: Global, value: &Value) -> Result<F::Value, LineFault> {
-        self.0.read(alloc, value)
-    }
-}
-
-/// The same, and behind them the form in which the reply is shown, which is no part of the act.
-struct Shown<F>(F);
-
-impl<F: Field> Field for Shown<F> {
-    type Value = F::Value;
-
-    ghost field = { λ f. lines.shown (F.field f.0) };
-
-    fn knows(&self, key: &str) -> bool {
-        self.0.knows(key) || key == "form"
-    }
-
-    fn read(&self, alloc: Global, value: &Value) -> Result<F::Value, LineFault> {
-        self.0.read(alloc, value)
-    }
-}
-
-/// The same, and last how long the call waits while it finds nothing, which is no part of the act either.
-struct Waiting<F>(F);
-
-impl<F: Field> Field for Waiting<F> {
-    type Value = F::Value;
-
-    ghost field = { λ f. lines.waiting (F.field f.0) };
-
-    fn knows(&self, key: &str) -> bool {
-        self.0.knows(key) || key == "wait"
-    }
-
-    fn read(&self, alloc: Global, value: &Value) -> Result<F::Value, LineFault> {
-        self.0.read(alloc, value)
     }
 }
 
@@ -521,7 +472,7 @@ fn counts(alloc: Global, value: &Value) -> Result<Act, LineFault>
     )
 }
 
-// Of transactions.
+// Of transactions, or of what follows.
 #[tactic(auto, unfolding(crate::specs::Lines::transaction_act))]
 fn transaction_act(alloc: Global, value: &Value, word: &str) -> Result<Act, LineFault>
     ensures { Answers result (lines.transaction_act word.now (view value.now)) }
@@ -530,7 +481,7 @@ fn transaction_act(alloc: Global, value: &Value, word: &str) -> Result<Act, Line
         "begin" => begin(alloc, value),
         "commit" => commit(alloc, value),
         "rollback" => rollback(alloc, value),
-        _ => bad(alloc, "do"),
+        _ => look_act(alloc, value, word),
     }
 }
 

@@ -10,6 +10,7 @@ use crate::fault::{LineFault, bad};
 use crate::fields::{number_in, text_at};
 use crate::form::Form;
 use crate::keys::{FormWord, WaitTime, WholeOr};
+use crate::looks::is_look;
 use crate::table::{Both, Field};
 use sb_machine::{By, Call, TimedCall};
 use sb_model::Text;
@@ -38,7 +39,7 @@ fn reading_of(alloc: Global, value: &Value) -> Result<u64, LineFault>
 fn is_numbered(word: &str) -> bool
     ensures { result ≡ lines.is_numbered word.now }
 {
-    !(word == "peek" || word == "session-state" || word == "counts")
+    !(word == "peek" || word == "session-state" || word == "counts" || is_look(word))
 }
 
 // Both are there.

@@ -12,7 +12,11 @@ use crate::members::{
     Members, put_bytes, put_number, put_text, put_token, tag_alone, tag_with, tagged,
 };
 use crate::shown::shown_value;
-use sb_machine::{CopyShown, Part, Receipt, Reply, Token};
+use crate::views::{
+    description_value, entities_value, forwards_value, kind_name, rules_value, sessions_value,
+    transactions_value,
+};
+use sb_machine::{CopyShown, Described, Part, Receipt, Reply, Token, View};
 use sb_model::{Rows, Text};
 use serde_json::{Map, Value, put};
 use std::alloc::{AllocError, Global};
@@ -127,6 +131,40 @@ fn counts_value(alloc: Global, main: u64, dead: u64, transfer: u64) -> Result<Va
     said_with(alloc, "counts", "counts", parts)
 }
 
+fn described_value(alloc: Global, described: &Described) -> Result<Value, AllocError>
+    ensures { IfOk result (λ v. view v ≡ replies.described_data described.now) }
+{
+    let description = description_value(alloc, described.kind, &described.description)?;
+    let forwards = forwards_value(alloc, described)?;
+    let rules = rules_value(alloc, described.rules.as_slice())?;
+    let mut members = tagged(alloc, "ok", "description")?;
+    put(&mut members, alloc, "rules", rules)?;
+    put_text(&mut members, alloc, "kind", kind_name(described.kind))?;
+    put(&mut members, alloc, "forwards", forwards)?;
+    put(&mut members, alloc, "description", description)?;
+    Ok(Value::Object(members))
+}
+
+fn seen_value(alloc: Global, seen: &View) -> Result<Value, AllocError>
+    ensures { IfOk result (λ v. view v ≡ replies.seen_data seen.now) }
+{
+    match seen {
+        View::Entities(entities) => {
+            let list = entities_value(alloc, entities.as_slice())?;
+            said_with(alloc, "list", "entities", list)
+        }
+        View::Entity(described) => described_value(alloc, described),
+        View::Sessions(sessions) => {
+            let list = sessions_value(alloc, sessions.as_slice())?;
+            said_with(alloc, "sessions", "sessions", list)
+        }
+        View::Transactions(transactions) => {
+            let list = transactions_value(alloc, transactions.as_slice())?;
+            said_with(alloc, "transactions", "transactions", list)
+        }
+    }
+}
+
 /// A reply as JSON with copies in this form, without the word that it is kept.
 pub(crate) fn reply_value(alloc: Global, form: Form, reply: &Reply) -> Result<Value, AllocError>
     ensures { IfOk result (λ v. view v ≡ replies.reply_data form reply.now) }
@@ -159,5 +197,6 @@ pub(crate) fn reply_value(alloc: Global, form: Form, reply: &Reply) -> Result<Va
             dead,
             transfer,
         } => counts_value(alloc, *main, *dead, *transfer),
+        Reply::Seen(seen) => seen_value(alloc, seen),
     }
 }

@@ -34,7 +34,7 @@ pub fn property_data(alloc: Global, value: &PropertyValue) -> Result<Value, Allo
     }
 }
 
-fn properties_value(alloc: Global, properties: &[Property]) -> Result<Value, AllocError>
+pub(crate) fn properties_value(alloc: Global, properties: &[Property]) -> Result<Value, AllocError>
     ensures { IfOk result (λ v. view v ≡ object (shown.with_properties no_members properties.now)) }
 {
     let mut members = Map::new(alloc);
@@ -45,7 +45,7 @@ fn properties_value(alloc: Global, properties: &[Property]) -> Result<Value, All
     Ok(Value::Object(members))
 }
 
-fn texts_value(alloc: Global, texts: &[SystemText]) -> Result<Value, AllocError>
+pub(crate) fn texts_value(alloc: Global, texts: &[SystemText]) -> Result<Value, AllocError>
     ensures { IfOk result (λ v. view v ≡ object (shown.with_texts no_members texts.now)) }
 {
     let mut members = Map::new(alloc);

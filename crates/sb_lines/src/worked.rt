@@ -1,8 +1,10 @@
 // Lines and their calls, worked out by hand.
-ghost use Rattle.std.specs.Prelude.{◌≡◌, codes, Err};
+ghost use Rattle.std.specs.Prelude.{◌≡◌, codes, [], ◌∷◌, Some, None, Err};
+ghost use Rattle.sb_machine.specs.declared.look.Look.TheVariants as look;
+ghost use Rattle.sb_machine.specs.declared.look.View.TheVariants as seen;
 ghost use Rattle.sb_lines.specs.declared.form.Form.TheVariants.{Plain, Amqp};
 ghost use Rattle.sb_lines.specs.Lines.{line_of};
-ghost use Rattle.sb_lines.specs.Worked.{receives, accepts};
+ghost use Rattle.sb_lines.specs.Worked.{receives, accepts, q, eu, looks_at, line_of_view, orders_shown, forwarding, dear_things, correlated, asks_for_rule, waiting_session, open_transactions};
 
 /// The definitions say of these lines how long they wait, as was worked out by hand.
 pub fn worked_waits()
@@ -16,4 +18,28 @@ pub fn worked_waits()
     ensures behind_form { line_of (codes "{\"do\":\"receive\",\"from\":\"q\",\"wait\":-1,\"form\":\"x\"}") ≡ Err (codes "form") }
     ensures before_at { line_of (codes "{\"do\":\"receive\",\"from\":\"q\",\"wait\":-1,\"at\":-1}") ≡ Err (codes "wait") }
     ensures unknown { line_of (codes "{\"do\":\"peek\",\"wait\":1}") ≡ Err (codes "wait") }
+{}
+
+/// The definitions say of these lines what an operator looks at.
+pub fn worked_looks()
+    ensures all { line_of (codes "{\"do\":\"list\",\"count\":10}") ≡ looks_at (look.Entities None None 10) }
+    ensures some { line_of (codes "{\"do\":\"list\",\"prefix\":\"N\",\"after\":\"News/subscriptions/eu\",\"count\":1}") ≡ looks_at (look.Entities (Some (codes "n")) (Some eu) 1) }
+    ensures part { line_of (codes "{\"do\":\"list\",\"after\":\"q/$deadletterqueue\",\"count\":1}") ≡ Err (codes "after") }
+    ensures uncounted { line_of (codes "{\"do\":\"list\",\"prefix\":\"n\"}") ≡ Err (codes "count") }
+    ensures described { line_of (codes "{\"do\":\"describe\",\"entity\":\"q\"}") ≡ looks_at (look.Entity q) }
+    ensures sessions { line_of (codes "{\"do\":\"sessions\",\"entity\":\"q\",\"after\":\"s1\",\"count\":2}") ≡ looks_at (look.Sessions q (Some (codes "s1")) 2) }
+    ensures transactions { line_of (codes "{\"do\":\"transactions\"}") ≡ looks_at look.Transactions }
+    ensures unknown { line_of (codes "{\"do\":\"transactions\",\"count\":1}") ≡ Err (codes "count") }
+    ensures unnumbered { line_of (codes "{\"do\":\"transactions\",\"client\":\"c\",\"number\":1}") ≡ Err (codes "client") }
+{}
+
+/// The definitions show these in these lines; a rule that is shown is one that a line may ask for.
+pub fn worked_views()
+    ensures entities { line_of_view (seen.Entities (orders_shown ∷ [])) ≡ codes "{\"entities\":[{\"address\":\"orders\",\"dead\":{\"deferred\":0,\"held\":0,\"oldest\":null,\"ready\":0,\"scheduled\":0},\"held_sessions\":0,\"kind\":\"queue\",\"main\":{\"deferred\":0,\"held\":1,\"oldest\":5,\"ready\":2,\"scheduled\":0},\"sessions\":0,\"transfer\":{\"deferred\":0,\"held\":0,\"oldest\":null,\"ready\":0,\"scheduled\":0}}],\"ok\":\"list\"}\n" }
+    ensures queue { line_of_view forwarding ≡ codes "{\"description\":{\"dead_on_expiry\":false,\"forward_to\":\"bills\",\"lock\":30,\"max_delivery\":10,\"requires_session\":false},\"forwards\":[{\"field\":\"forward_to\",\"there\":true}],\"kind\":\"queue\",\"ok\":\"description\",\"rules\":[]}\n" }
+    ensures subscription { line_of_view dear_things ≡ codes "{\"description\":{\"dead_on_expiry\":false,\"dead_on_fault\":true,\"lock\":30,\"max_delivery\":10,\"requires_session\":false},\"forwards\":[],\"kind\":\"subscription\",\"ok\":\"description\",\"rules\":[{\"action\":\"SET a = 1\",\"filter\":\"a > 1\",\"name\":\"dear\"}]}\n" }
+    ensures correlation { line_of_view correlated ≡ codes "{\"description\":{\"dead_on_expiry\":false,\"dead_on_fault\":true,\"lock\":60,\"max_delivery\":10,\"requires_session\":false},\"forwards\":[],\"kind\":\"subscription\",\"ok\":\"description\",\"rules\":[{\"correlation\":{\"props\":{\"a\":1,\"b\":true},\"sys\":{\"Label\":\"l\",\"To\":\"t\"}},\"name\":\"r\"}]}\n" }
+    ensures read_back { line_of (codes "{\"do\":\"create-rule\",\"topic\":\"t\",\"subscription\":\"s\",\"name\":\"r\",\"correlation\":{\"props\":{\"a\":1,\"b\":true},\"sys\":{\"Label\":\"l\",\"To\":\"t\"}}}") ≡ asks_for_rule }
+    ensures sessions { line_of_view (seen.Sessions (waiting_session ∷ [])) ≡ codes "{\"ok\":\"sessions\",\"sessions\":[{\"id\":\"s1\",\"ready\":2,\"state_bytes\":0,\"until\":null}]}\n" }
+    ensures transactions { line_of_view (seen.Transactions open_transactions) ≡ codes "{\"ok\":\"transactions\",\"transactions\":[{\"deadline\":120000,\"entity\":\"orders\",\"operations\":2,\"txn\":1},{\"deadline\":120001,\"entity\":null,\"operations\":0,\"txn\":2}]}\n" }
 {}

@@ -17,6 +17,7 @@ use Rattle.sb_machine.specs.Delivery.{in_part}
 use Rattle.sb_machine.specs.Names.{is_name, is_short_name, is_address, is_same_option}
 use Rattle.sb_machine.specs.Namespace.{entity_at, entity_path, subscription_path, leaf_of}
 use Rattle.sb_machine.specs.Ordered.{IsActInOrder}
+use Rattle.sb_machine.specs.Looks.{described, look_row, sessions_shown}
 use Rattle.sb_machine.specs.Receiving.{peek_row, peeked}
 use Rattle.sb_machine.specs.Repeats.{Outcome, refused, repeated, acted, of_row, by_number, for_client, kept_for, max_clients, client_of, outcome_of}
 use Rattle.sb_machine.specs.Same.{same_act}
@@ -26,20 +27,24 @@ use Rattle.sb_machine.specs.SendRow.{send_row, is_via, is_destination, have_sess
 use Rattle.sb_machine.specs.Sending.{too_large}
 use Rattle.sb_machine.specs.Sessions.{held_or, session_state_row, session_set_row, size_of, max_state}
 use Rattle.sb_machine.specs.declared.call.Act.{Act}
-use Rattle.sb_machine.specs.declared.call.Act.TheVariants.{CreateQueue, CreateTopic, CreateSubscription, CreateRule, Delete, DeleteRule, Send, Cancel, Receive, ReceiveDeferred, Settle, Renew, Accept, SessionRenew, SessionClose, SessionSet, SessionState, Begin, Commit, Rollback, Peek, Counts}
+use Rattle.sb_machine.specs.declared.call.Act.TheVariants.{CreateQueue, CreateTopic, CreateSubscription, CreateRule, Delete, DeleteRule, Send, Cancel, Receive, ReceiveDeferred, Settle, Renew, Accept, SessionRenew, SessionClose, SessionSet, SessionState, Begin, Commit, Rollback, Peek, Counts, Look}
 use Rattle.sb_machine.specs.declared.call.By.{By}
 use Rattle.sb_machine.specs.declared.call.Call.{Call}
 use Rattle.sb_machine.specs.declared.call.Description.{Description}
+use Rattle.sb_machine.specs.declared.call.Part.TheVariants.{Main}
 use Rattle.sb_machine.specs.declared.call.Path.{Path}
 use Rattle.sb_machine.specs.declared.call.Token.{Token}
 use Rattle.sb_machine.specs.declared.call.FilterText.{FilterText}
+use Rattle.sb_machine.specs.declared.look.Look.{Look as Looked}
+use Rattle.sb_machine.specs.declared.look.Look.TheVariants as look
+use Rattle.sb_machine.specs.declared.look.View.TheVariants as seen
 use Rattle.sb_machine.specs.declared.change.Change.TheVariants.{Makes, AddsRule}
 use Rattle.sb_machine.specs.declared.change.LeafChange.TheVariants.{Writes}
 use Rattle.sb_model.specs.declared.message.Message.{Message}
 use Rattle.sb_machine.specs.declared.reply.Refusal.{Refusal}
 use Rattle.sb_machine.specs.declared.reply.Refusal.TheVariants.{BadName, EntityNotFound, BadDescription, EntityExists, WrongKind, TooLarge, TxnFull, TxnNotFound, SessionRequired, SessionNotAllowed, StaleNumber, NumberReused, ClientsFull, Exhausted}
 use Rattle.sb_machine.specs.declared.reply.Reply.{Reply}
-use Rattle.sb_machine.specs.declared.reply.Reply.TheVariants.{Done, Copies, Counts as Counted, State as Remembers}
+use Rattle.sb_machine.specs.declared.reply.Reply.TheVariants.{Done, Copies, Counts as Counted, State as Remembers, Seen}
 use Rattle.sb_machine.specs.declared.rule.RuleFilter.{RuleFilter}
 use Rattle.sb_machine.specs.declared.state.Entity.{Entity}
 use Rattle.sb_machine.specs.declared.state.EntityKind.{EntityKind}
@@ -138,6 +143,15 @@ no_state s t from token e =
     let c = held_passed has_changes no_changes (held_session s t token (leaf_of from.part a.1.0)) (λ y. answers (Remembers y.state) []) b.1 in
     no_change _ c.1
 
+no_sight : (s : Space) (what : Looked) → Passes has_changes (look_row s what) → ⊥
+no_sight s (look.Entities prefix after count) e = no_change _ e
+no_sight s (look.Entity path) e = no_change _ (at_entity_passed has_changes no_changes s path (λ x. answers (Seen (seen.Entity (described s x))) []) e).1.1
+no_sight s (look.Sessions path after count) e =
+    let next = λ (x : Entity). asks (has_sessions x Main) SessionNotAllowed (answers (Seen (seen.Sessions (sessions_shown after count x.main))) []) in
+    let a = at_entity_passed has_changes no_changes s path next e in
+    no_change _ (asks_passed has_changes no_changes (has_sessions a.1.0 Main) SessionNotAllowed (answers (Seen (seen.Sessions (sessions_shown after count a.1.0.main))) []) a.1.1).1
+no_sight s look.Transactions e = no_change _ e
+
 -- what changes something takes a client's number
 coded : (s : State) (t : ℕ) (by : Option By) (act : Act) → is_change (client_of (record { by = by; act = act })) (outcome_of s t (record { by = by; act = act })) ≡ true → takes_number act ≡ true
 coded s t by (CreateQueue name d) e = refl
@@ -162,6 +176,7 @@ coded s t by (Commit txn) e = refl
 coded s t by (Rollback txn) e = refl
 coded s t by (Peek from start count) e = absurd (no_look s.space from start count (looked t s.space _ (peek_row s.space from start count) e))
 coded s t by (Counts entity) e = absurd (no_count s.space entity (looked t s.space _ (counts_row s.space entity) e))
+coded s t by (Look what) e = absurd (no_sight s.space what (looked t s.space _ (look_row s.space what) e))
 
 -- ---- what each act's row tests
 
@@ -273,6 +288,7 @@ row_tested s t (Commit txn) e = (refl, refl, refl)
 row_tested s t (Rollback txn) e = (refl, refl, refl)
 row_tested s t (Peek from start count) e = (addressed s from _ e, refl, refl)
 row_tested s t (Counts entity) e = (addressed s entity _ e, refl, refl)
+row_tested s t (Look what) e = (refl, refl, refl)
 
 id_tested : (s : State) (t : ℕ) (a : Act) → IsConsistent s → Passes is_answer (act_row s.space t a) → has_short_id a ≡ true
 id_tested s t (Settle from which token session how txn) fits e = settle_id s t from which token session how txn fits e
@@ -297,6 +313,7 @@ id_tested s t (Commit txn) fits e = refl
 id_tested s t (Rollback txn) fits e = refl
 id_tested s t (Peek from start count) fits e = refl
 id_tested s t (Counts entity) fits e = refl
+id_tested s t (Look what) fits e = refl
 
 -- a call that changes the state has passed the machine's tests
 pub changing_judged : (s : State) (t : ℕ) (call : Call) → IsConsistent s → IsActInOrder call.act → is_change (client_of call) (outcome_of s t call) ≡ true → IsJudged (is_via_in s.space call.act) call

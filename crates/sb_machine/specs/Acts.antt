@@ -2,13 +2,14 @@
 use Rattle.std.specs.Prelude.{ℕ, Bool, false, Option, Some, None}
 use Rattle.sb_machine.specs.Administration.{create_row, create_subscription_row, create_rule_row, delete_row, delete_rule_row, counts_row}
 use Rattle.sb_machine.specs.Fields.{Key, bad_field}
+use Rattle.sb_machine.specs.Looks.{look_row}
 use Rattle.sb_machine.specs.Receiving.{receive_row, receive_deferred_row, cancel_row, peek_row}
 use Rattle.sb_machine.specs.Rows.{Row, refused_by, numbered}
 use Rattle.sb_machine.specs.Sessions.{accept_row, session_renew_row, session_close_row, session_state_row, session_set_row}
 use Rattle.sb_machine.specs.Settlement.{renew_row}
 use Rattle.sb_machine.specs.Transactions.{begin_row, commit_row, rollback_row}
 use Rattle.sb_machine.specs.declared.call.Act.{Act}
-use Rattle.sb_machine.specs.declared.call.Act.TheVariants.{CreateQueue, CreateTopic, CreateSubscription, CreateRule, Delete, DeleteRule, Send, Cancel, Receive, ReceiveDeferred, Settle, Renew, Accept, SessionRenew, SessionClose, SessionSet, SessionState, Begin, Commit, Rollback, Peek, Counts}
+use Rattle.sb_machine.specs.declared.call.Act.TheVariants.{CreateQueue, CreateTopic, CreateSubscription, CreateRule, Delete, DeleteRule, Send, Cancel, Receive, ReceiveDeferred, Settle, Renew, Accept, SessionRenew, SessionClose, SessionSet, SessionState, Begin, Commit, Rollback, Peek, Counts, Look}
 use Rattle.sb_machine.specs.declared.call.By.{By}
 use Rattle.sb_machine.specs.declared.reply.Refusal.{Refusal}
 use Rattle.sb_machine.specs.declared.reply.Refusal.TheVariants.{BadCall}
@@ -44,6 +45,7 @@ act_row s t (Commit txn) = commit_row s t txn
 act_row s t (Rollback txn) = rollback_row s txn
 act_row s t (Peek from start count) = peek_row s from start count
 act_row s t (Counts entity) = counts_row s entity
+act_row s t (Look what) = look_row s what
 
 -- the refusal of a call for a field that is outside its range
 abbrev pub bad_call : Key → Option Refusal

@@ -17,7 +17,7 @@ use Rattle.sb_machine.specs.declared.call.Part.TheVariants.{Main, Dead, Transfer
 use Rattle.sb_machine.specs.declared.change.LeafKey.{LeafKey}
 use Rattle.sb_machine.specs.declared.reply.CopyShown.{CopyShown}
 use Rattle.sb_machine.specs.declared.reply.Reply.{Reply}
-use Rattle.sb_machine.specs.declared.reply.Reply.TheVariants.{Sent, Copies, State as Remembers, Counts, Message as Given, Session as Accepted}
+use Rattle.sb_machine.specs.declared.reply.Reply.TheVariants.{Sent, Copies, State as Remembers, Counts, Seen, Message as Given, Session as Accepted}
 use Rattle.sb_machine.specs.declared.reply.Showing.{Showing}
 use Rattle.sb_machine.specs.declared.reply.Showing.TheVariants.{Removed, Locked, Browsed}
 use Rattle.sb_machine.specs.declared.state.Entity.{Entity}
@@ -116,6 +116,7 @@ IsReply (Accepted id token until) = is_id id ≡ true
 IsReply (Copies copies) = ⊥
 IsReply (Remembers state) = ⊥
 IsReply (Counts main dead transfer) = ⊥
+IsReply (Seen view) = ⊥
 IsReply _ = Unit {0}
 
 -- the call that is remembered

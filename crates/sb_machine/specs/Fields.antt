@@ -4,16 +4,18 @@ use Rattle.std.specs.List.{list_all, list_any}
 use Rattle.std.specs.Str.{chars}
 use Rattle.sb_machine.specs.Changes.{max_number}
 use Rattle.sb_model.specs.Effects.{text_limit, is_within, max_user_properties}
-use Rattle.sb_machine.specs.Names.{is_main}
+use Rattle.sb_machine.specs.Names.{is_main, is_address, is_name_byte}
 use Rattle.sb_model.specs.SystemNames.{system_name}
 use Rattle.sb_machine.specs.declared.call.Act.{Act}
-use Rattle.sb_machine.specs.declared.call.Act.TheVariants.{CreateRule, Delete, Send, Cancel, ReceiveDeferred, Settle, Renew, Accept, SessionState, Begin, Commit, Rollback, Peek, Counts}
+use Rattle.sb_machine.specs.declared.call.Act.TheVariants.{CreateRule, Delete, Send, Cancel, ReceiveDeferred, Settle, Renew, Accept, SessionState, Begin, Commit, Rollback, Peek, Counts, Look}
 use Rattle.sb_machine.specs.declared.call.By.{By}
 use Rattle.sb_machine.specs.declared.call.FilterText.{FilterText}
 use Rattle.sb_machine.specs.declared.call.FilterText.TheVariants.{Sql, Correlation}
 use Rattle.sb_machine.specs.declared.call.How.{How}
 use Rattle.sb_machine.specs.declared.call.How.TheVariants.{Complete, Abandon, Defer, DeadLetter}
 use Rattle.sb_machine.specs.declared.call.Path.{Path}
+use Rattle.sb_machine.specs.declared.look.Look.{Look as Looked}
+use Rattle.sb_machine.specs.declared.look.Look.TheVariants.{Entities, Entity, Sessions, Transactions}
 use Rattle.sb_machine.specs.declared.call.Which.{Which}
 use Rattle.sb_machine.specs.declared.call.Which.TheVariants.{Number, Id}
 use Rattle.sb_model.specs.declared.message.Message.{Message}
@@ -27,6 +29,10 @@ max_messages = 100
 -- the most messages that are looked at by one call
 abbrev pub max_peeked : ℕ
 max_peeked = 100
+
+-- the most entities or sessions that are shown by one call
+abbrev pub max_listed : ℕ
+max_listed = 1000
 
 -- the greatest time to live, in seconds
 abbrev pub max_ttl : ℕ
@@ -130,6 +136,23 @@ bad_in_how (DeadLetter reason description) = first_some (unless (is_short 4096 r
 abbrev pub bad_in_entity : Path → Key
 bad_in_entity path = unless (is_main path.part) (codes "entity")
 
+-- whether the name of an entity may begin so
+abbrev pub is_front : Option (List ℕ) → Bool
+is_front None = true
+is_front (Some front) = nat_le (length front) 260 && list_all is_name_byte front
+
+-- whether this is the address of an entity itself, or none
+abbrev pub is_entity_or_none : Option Path → Bool
+is_entity_or_none None = true
+is_entity_or_none (Some path) = is_address path && is_main path.part
+
+-- the first bad field of a look
+abbrev pub bad_in_look : Looked → Key
+bad_in_look (Entities prefix after count) = first_some (unless (is_front prefix) (codes "prefix")) (first_some (unless (is_entity_or_none after) (codes "after")) (unless (is_between 1 max_listed count) (codes "count")))
+bad_in_look (Entity path) = bad_in_entity path
+bad_in_look (Sessions path after count) = first_some (bad_in_entity path) (first_some (unless (is_short 128 after) (codes "after")) (unless (is_between 1 max_listed count) (codes "count")))
+bad_in_look Transactions = None
+
 -- the first bad field of each operation
 abbrev pub bad_in_act : Bool → Act → Key
 bad_in_act is_via (CreateRule topic subscription name asked action) = bad_in_filter asked
@@ -145,6 +168,7 @@ bad_in_act is_via (Accept from id) = unless (is_short 128 id) (codes "id")
 bad_in_act is_via (Commit txn) = unless (is_number txn) (codes "txn")
 bad_in_act is_via (Rollback txn) = unless (is_number txn) (codes "txn")
 bad_in_act is_via (Peek from start count) = first_some (unless (is_number start) (codes "start")) (unless (is_between 1 max_peeked count) (codes "count"))
+bad_in_act is_via (Look what) = bad_in_look what
 bad_in_act is_via _ = None
 
 -- acts that take no number
@@ -152,6 +176,7 @@ abbrev pub takes_number : Act → Bool
 takes_number (Peek from start count) = false
 takes_number (SessionState from session) = false
 takes_number (Counts entity) = false
+takes_number (Look what) = false
 takes_number _ = true
 
 -- the first bad field of a repeatable call's client and number

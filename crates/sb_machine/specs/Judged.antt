@@ -9,7 +9,7 @@ use Rattle.sb_machine.specs.Names.{is_name, is_short_name, is_address}
 use Rattle.sb_machine.specs.Ordered.{IsActInOrder}
 use Rattle.sb_machine.specs.Sessions.{size_of, max_state}
 use Rattle.sb_machine.specs.declared.call.Act.{Act}
-use Rattle.sb_machine.specs.declared.call.Act.TheVariants.{CreateQueue, CreateTopic, CreateSubscription, CreateRule, Delete, DeleteRule, Send, Cancel, Receive, ReceiveDeferred, Settle, Renew, Accept, SessionRenew, SessionClose, SessionSet, SessionState, Begin, Commit, Rollback, Peek, Counts}
+use Rattle.sb_machine.specs.declared.call.Act.TheVariants.{CreateQueue, CreateTopic, CreateSubscription, CreateRule, Delete, DeleteRule, Send, Cancel, Receive, ReceiveDeferred, Settle, Renew, Accept, SessionRenew, SessionClose, SessionSet, SessionState, Begin, Commit, Rollback, Peek, Counts, Look}
 use Rattle.sb_machine.specs.declared.call.Call.{Call}
 use Rattle.sb_machine.specs.declared.call.Which.{Which}
 use Rattle.sb_machine.specs.declared.call.Which.TheVariants.{Number, Id}
@@ -39,6 +39,7 @@ has_names (Commit txn) = true
 has_names (Rollback txn) = true
 has_names (Peek from start count) = is_address from
 has_names (Counts entity) = is_address entity
+has_names (Look what) = true
 
 -- the first field of a description that is out of range
 abbrev pub bad_described : Act → Key

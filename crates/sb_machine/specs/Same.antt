@@ -4,7 +4,7 @@ use Rattle.sb_machine.specs.Names.{is_same_entity, is_same_part, is_same_option}
 use Rattle.sb_machine.specs.Selection.{same_value}
 use Rattle.sb_model.specs.SystemNames.{system_code}
 use Rattle.sb_machine.specs.declared.call.Act.{Act}
-use Rattle.sb_machine.specs.declared.call.Act.TheVariants.{CreateQueue, CreateTopic, CreateSubscription, CreateRule, Delete, DeleteRule, Send, Cancel, Receive, ReceiveDeferred, Settle, Renew, Accept, SessionRenew, SessionClose, SessionSet, SessionState, Begin, Commit, Rollback, Peek, Counts}
+use Rattle.sb_machine.specs.declared.call.Act.TheVariants.{CreateQueue, CreateTopic, CreateSubscription, CreateRule, Delete, DeleteRule, Send, Cancel, Receive, ReceiveDeferred, Settle, Renew, Accept, SessionRenew, SessionClose, SessionSet, SessionState, Begin, Commit, Rollback, Peek, Counts, Look}
 use Rattle.sb_machine.specs.declared.call.Description.{Description}
 use Rattle.sb_machine.specs.declared.call.FilterText.{FilterText}
 use Rattle.sb_machine.specs.declared.call.FilterText.TheVariants.{Sql, Correlation}
@@ -16,6 +16,8 @@ use Rattle.sb_machine.specs.declared.call.Path.{Path}
 use Rattle.sb_machine.specs.declared.call.Token.{Token}
 use Rattle.sb_machine.specs.declared.call.Which.{Which}
 use Rattle.sb_machine.specs.declared.call.Which.TheVariants.{Number, Id}
+use Rattle.sb_machine.specs.declared.look.Look.{Look as Looked}
+use Rattle.sb_machine.specs.declared.look.Look.TheVariants.{Entities, Entity, Sessions, Transactions}
 use Rattle.sb_model.specs.declared.message.Message.{Message}
 use Rattle.sb_model.specs.declared.message.Property.{Property}
 use Rattle.sb_model.specs.declared.message.SystemText.{SystemText}
@@ -98,6 +100,14 @@ same_how Defer Defer = true
 same_how (DeadLetter r d) (DeadLetter s e) = is_same_option r s && is_same_option d e
 same_how _ _ = false
 
+-- whether two looks are equal
+abbrev pub same_look : Looked → Looked → Bool
+same_look (Entities f a n) (Entities g b m) = is_same_option f g && same_option same_path a b && (n == m)
+same_look (Entity p) (Entity q) = same_path p q
+same_look (Sessions p a n) (Sessions q b m) = same_path p q && is_same_option a b && (n == m)
+same_look Transactions Transactions = true
+same_look _ _ = false
+
 -- whether two operations are equal, in all their fields
 abbrev pub same_act : Act → Act → Bool
 same_act (CreateQueue n d) (CreateQueue m e) = bytes_eq n m && same_description d e
@@ -122,4 +132,5 @@ same_act (Commit x) (Commit y) = x == y
 same_act (Rollback x) (Rollback y) = x == y
 same_act (Peek p n m) (Peek q k l) = same_path p q && (n == k) && (m == l)
 same_act (Counts p) (Counts q) = same_path p q
+same_act (Look a) (Look b) = same_look a b
 same_act _ _ = false

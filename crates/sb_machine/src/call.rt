@@ -1,4 +1,4 @@
-use crate::Conditions;
+use crate::{Conditions, Look};
 use sb_model::{Message, Name, Rows, Text};
 
 /// Which of an entity's three queues is meant.
@@ -195,6 +195,10 @@ pub enum Act {
     /// Tells how many copies an entity's parts hold.
     Counts {
         entity: Path,
+    },
+    /// Shows what an operator asks for.
+    Look {
+        what: Look,
     },
 }
 

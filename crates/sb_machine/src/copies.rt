@@ -2,9 +2,13 @@
 // function for each variant keeps what is given up then small.
 ghost use Rattle.std.specs.Prelude.{◌≡◌, IfOk};
 ghost use Rattle.sb_machine.specs.declared.call.Act.TheVariants as act_of;
+ghost use Rattle.sb_machine.specs.declared.look.View.TheVariants as view_of;
 ghost use Rattle.sb_machine.specs.declared.reply.Reply.TheVariants as reply_of;
 
-use crate::{Act, CopyShown, Description, FilterText, How, Path, Receipt, Reply, Token, Which};
+use crate::{
+    Act, CopyShown, Described, Description, EntityShown, FilterText, How, Path, Receipt, Reply,
+    RuleShown, SessionShown, Token, TransactionShown, View, Which,
+};
 use sb_model::{Message, Name, Rows, Text};
 use std::alloc::AllocError;
 
@@ -100,6 +104,9 @@ impl Clone for Act {
             Act::Counts { entity } => Ok(Act::Counts {
                 entity: entity.clone()?,
             }),
+            Act::Look { what } => Ok(Act::Look {
+                what: what.clone()?,
+            }),
         }
     }
 }
@@ -134,6 +141,46 @@ impl Clone for Reply {
                 dead: *dead,
                 transfer: *transfer,
             }),
+            Reply::Seen(view) => seen(view),
+        }
+    }
+}
+
+impl Clone for RuleShown {
+    ghost is_clone = { λ v w. w ≡ v };
+
+    fn clone(&self) -> Result<RuleShown, AllocError> {
+        Ok(RuleShown {
+            name: self.name.clone()?,
+            filter: copy_of_filter(&self.filter)?,
+            action: copy_of_action(&self.action)?,
+        })
+    }
+}
+
+impl Clone for Described {
+    ghost is_clone = { λ v w. w ≡ v };
+
+    fn clone(&self) -> Result<Described, AllocError> {
+        Ok(Described {
+            kind: self.kind,
+            description: self.description.clone()?,
+            forward_there: self.forward_there,
+            forward_dead_there: self.forward_dead_there,
+            rules: self.rules.clone()?,
+        })
+    }
+}
+
+impl Clone for View {
+    ghost is_clone = { λ v w. w ≡ v };
+
+    fn clone(&self) -> Result<View, AllocError> {
+        match self {
+            View::Entities(all) => entities(all),
+            View::Entity(one) => described(one),
+            View::Sessions(all) => sessions(all),
+            View::Transactions(all) => transactions(all),
         }
     }
 }
@@ -305,4 +352,36 @@ fn remembered(state: &Option<Rows<u8>>) -> Result<Reply, AllocError>
     ensures { IfOk result (λ reply. reply ≡ reply_of.State state.now) }
 {
     Ok(Reply::State(state.clone()?))
+}
+
+fn seen(view: &View) -> Result<Reply, AllocError>
+    ensures { IfOk result (λ reply. reply ≡ reply_of.Seen view.now) }
+{
+    Ok(Reply::Seen(view.clone()?))
+}
+
+// ---- views
+
+fn entities(all: &Rows<EntityShown>) -> Result<View, AllocError>
+    ensures { IfOk result (λ view. view ≡ view_of.Entities all.now) }
+{
+    Ok(View::Entities(all.clone()?))
+}
+
+fn described(one: &Described) -> Result<View, AllocError>
+    ensures { IfOk result (λ view. view ≡ view_of.Entity one.now) }
+{
+    Ok(View::Entity(one.clone()?))
+}
+
+fn sessions(all: &Rows<SessionShown>) -> Result<View, AllocError>
+    ensures { IfOk result (λ view. view ≡ view_of.Sessions all.now) }
+{
+    Ok(View::Sessions(all.clone()?))
+}
+
+fn transactions(all: &Rows<TransactionShown>) -> Result<View, AllocError>
+    ensures { IfOk result (λ view. view ≡ view_of.Transactions all.now) }
+{
+    Ok(View::Transactions(all.clone()?))
 }

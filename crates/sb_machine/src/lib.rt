@@ -1,4 +1,4 @@
-//! The namespace machine: what each of its 22 acts is answered in each state, what it changes, what
+//! The namespace machine: what each of its 23 acts is answered in each state, what it changes, what
 //! falls due as time goes on, and which histories are legal.
 //!
 //! Here are the types that all layers above pass (calls, replies, refusals, the state, changes,
@@ -20,6 +20,7 @@ mod changes;
 mod copies;
 mod directory;
 mod history;
+mod look;
 mod lookups;
 mod reason;
 mod reply;
@@ -34,6 +35,9 @@ pub use change::{Cause, Change, Fresh, LeafChange, LeafKey};
 pub use changes::Changes;
 pub use directory::Directory;
 pub use history::Entry;
+pub use look::{
+    Described, EntityShown, Look, PartShown, RuleShown, SessionShown, TransactionShown, View,
+};
 pub use lookups::{has_text_of, is_living_holder, text_of};
 pub use reason::DeadReason;
 pub use reply::{Answer, Answered, CopyShown, CopyState, Receipt, Refusal, Reply, Showing};

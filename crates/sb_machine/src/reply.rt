@@ -1,4 +1,4 @@
-use crate::{Part, Token};
+use crate::{Part, Token, View};
 use sb_model::{Message, Rows, Text};
 
 /// The state in which a copy is seen when it is looked at.
@@ -90,6 +90,8 @@ pub enum Reply {
         dead: u64,
         transfer: u64,
     },
+    /// What a look shows.
+    Seen(View),
 }
 
 /// What an accepted call is answered: its reply, or that of the equal call that acted before.

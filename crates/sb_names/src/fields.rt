@@ -3,16 +3,18 @@ ghost use Rattle.std.specs.Prelude.{◌≡◌, ◌&&◌, ◌||◌, not, length, 
 ghost use Rattle.std.specs.List.{list_all, list_any};
 ghost use Rattle.std.specs.Str.{chars};
 ghost use Rattle.sb_machine.specs.Fields as fields;
+ghost use Rattle.sb_machine.specs.declared.look.Look.TheVariants as look;
 ghost use Rattle.sb_model.specs.Effects as effects;
 
-use crate::address::is_main;
+use crate::address::{is_address, is_main};
 use crate::limits::{
-    MAX_CLIENT, MAX_ID, MAX_MESSAGES, MAX_NUMBER, MAX_PEEKED, MAX_REASON, MAX_TTL,
-    MAX_USER_PROPERTIES,
+    MAX_CLIENT, MAX_ID, MAX_LISTED, MAX_MESSAGES, MAX_NAME, MAX_NUMBER, MAX_PEEKED, MAX_REASON,
+    MAX_TTL, MAX_USER_PROPERTIES,
 };
+use crate::name::are_name_bytes;
 use crate::ranges::{characters, is_between, is_between_or_none, is_number, is_short};
-use sb_machine::{Act, By, FilterText, How, Path, Which};
-use sb_model::{Message, Property, SystemName, SystemText, Text};
+use sb_machine::{Act, By, FilterText, How, Look, Path, Which};
+use sb_model::{Message, Name, Property, SystemName, SystemText, Text};
 
 // The key where the test fails.
 fn unless(passes: bool, key: &'static str) -> Option<&'static str>
@@ -223,6 +225,68 @@ fn bad_in_peek(start: u64, count: u64) -> Option<&'static str>
     unless(is_between(1, MAX_PEEKED, count), "count")
 }
 
+// ---- looks
+
+fn is_front(prefix: &Option<Name>) -> bool
+    ensures { result ≡ fields.is_front prefix.now }
+{
+    match prefix {
+        Some(front) => front.as_bytes().len() <= MAX_NAME && are_name_bytes(front.as_bytes()),
+        None => true,
+    }
+}
+
+fn is_entity_or_none(after: &Option<Path>) -> bool
+    ensures { result ≡ fields.is_entity_or_none after.now }
+{
+    match after {
+        Some(path) => is_address(path) && is_main(path.part),
+        None => true,
+    }
+}
+
+fn bad_in_list(prefix: &Option<Name>, after: &Option<Path>, count: u64) -> Option<&'static str>
+    ensures { option_map (λ k. k.now) result ≡ fields.bad_in_look (look.Entities prefix.now after.now count) }
+{
+    if !is_front(prefix) {
+        return Some("prefix");
+    }
+    if !is_entity_or_none(after) {
+        return Some("after");
+    }
+    unless(is_between(1, MAX_LISTED, count), "count")
+}
+
+fn bad_in_sessions(path: &Path, after: &Option<Text>, count: u64) -> Option<&'static str>
+    ensures { option_map (λ k. k.now) result ≡ fields.bad_in_look (look.Sessions path.now after.now count) }
+{
+    let bad = bad_in_entity(path);
+    if bad.is_some() {
+        return bad;
+    }
+    if !is_short(MAX_ID, after) {
+        return Some("after");
+    }
+    unless(is_between(1, MAX_LISTED, count), "count")
+}
+
+fn bad_in_look(what: &Look) -> Option<&'static str>
+    ensures { option_map (λ k. k.now) result ≡ fields.bad_in_look what.now }
+{
+    match what {
+        Look::Entities {
+            prefix,
+            after,
+            count,
+        } => bad_in_list(prefix, after, *count),
+        Look::Entity { path } => bad_in_entity(path),
+        Look::Sessions { path, after, count } => bad_in_sessions(path, after, *count),
+        Look::Transactions => None,
+    }
+}
+
+// ---- all acts
+
 fn bad_in_act(is_via: bool, act: &Act) -> Option<&'static str>
     ensures { option_map (λ k. k.now) result ≡ fields.bad_in_act is_via act.now }
 {
@@ -245,6 +309,7 @@ fn bad_in_act(is_via: bool, act: &Act) -> Option<&'static str>
         Act::Accept { id, .. } => unless(is_short(MAX_ID, id), "id"),
         Act::Commit { txn } | Act::Rollback { txn } => unless(is_number(*txn), "txn"),
         Act::Peek { start, count, .. } => bad_in_peek(*start, *count),
+        Act::Look { what } => bad_in_look(what),
         Act::CreateQueue { .. }
         | Act::CreateTopic { .. }
         | Act::CreateSubscription { .. }
@@ -264,7 +329,8 @@ pub fn takes_number(act: &Act) -> bool
     ensures { result ≡ fields.takes_number act.now }
 {
     match act {
-        Act::Peek { .. } | Act::SessionState { .. } | Act::Counts { .. } => false,
+        Act::Peek { .. } | Act::SessionState { .. } | Act::Counts { .. } | Act::Look { .. } =>
+            false,
         Act::CreateQueue { .. }
         | Act::CreateTopic { .. }
         | Act::CreateSubscription { .. }

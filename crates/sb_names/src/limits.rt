@@ -9,8 +9,14 @@ pub const MAX_TTL: u64 = 922_337_203_685;
 /// Messages of one send.
 pub const MAX_MESSAGES: usize = 100;
 
-/// Copies of one look.
+/// Copies of one peek.
 pub const MAX_PEEKED: u64 = 100;
+
+/// Entities or sessions of one list.
+pub const MAX_LISTED: u64 = 1000;
+
+/// Bytes of an entity's name.
+pub const MAX_NAME: usize = 260;
 
 /// User properties of one message.
 pub const MAX_USER_PROPERTIES: usize = 256;

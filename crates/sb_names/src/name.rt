@@ -5,6 +5,7 @@ ghost use Rattle.std.specs.Str.{str_to_ascii_lowercase};
 ghost use Rattle.sb_machine.specs.Names as names;
 ghost use Rattle.sb_names.specs.Kinds.{is_name_of};
 
+use crate::limits::MAX_NAME;
 use sb_model::Name;
 
 /// What is named: the lengths differ.
@@ -28,7 +29,7 @@ fn is_name_byte(b: u8) -> bool
     (97 <= b && b <= 122) || (48 <= b && b <= 57) || b == 46 || b == 45 || b == 95
 }
 
-fn are_name_bytes(name: &[u8]) -> bool
+pub(crate) fn are_name_bytes(name: &[u8]) -> bool
     ensures { result ≡ list_all names.is_name_byte name.now }
 {
     name.iter().all(|b| is_name_byte(*b))
@@ -44,7 +45,7 @@ fn is_name_within(most: usize, name: &[u8]) -> bool
 pub fn is_name(name: &str) -> bool
     ensures { result ≡ names.is_name name.now }
 {
-    is_name_within(260, name.as_bytes())
+    is_name_within(MAX_NAME, name.as_bytes())
 }
 
 /// Whether a subscription may be named so.

@@ -4,10 +4,11 @@ ghost use Rattle.std.specs.Ordering.{int_eq};
 ghost use Rattle.sb_machine.specs.Names as name;
 ghost use Rattle.sb_machine.specs.Same as spec;
 ghost use Rattle.sb_machine.specs.Selection.{same_value};
+ghost use Rattle.sb_machine.specs.declared.look.Look.TheVariants as look;
 ghost use Rattle.sb_model.specs.SystemNames.{system_code};
 
-use sb_machine::{Conditions, Description, FilterText, How, Mode, Part, Path, Token, Which};
-use sb_model::{Message, Property, PropertyValue, Rows, SystemText, Text};
+use sb_machine::{Conditions, Description, FilterText, How, Look, Mode, Part, Path, Token, Which};
+use sb_model::{Message, Name, Property, PropertyValue, Rows, SystemText, Text};
 
 // ---- plain values
 
@@ -256,5 +257,80 @@ pub fn is_same_filter(a: &FilterText, b: &FilterText) -> bool
         (FilterText::Sql(a), FilterText::Sql(b)) => is_same_text(a, b),
         (FilterText::Correlation(a), FilterText::Correlation(b)) => is_same_conditions(a, b),
         _ => false,
+    }
+}
+
+// ---- looks
+
+fn is_same_path_option(a: &Option<Path>, b: &Option<Path>) -> bool
+    ensures { result ≡ spec.same_option spec.same_path a.now b.now }
+{
+    match (a, b) {
+        (None, None) => true,
+        (Some(a), Some(b)) => is_same_path(a, b),
+        _ => false,
+    }
+}
+
+fn is_same_list(other: &Look, prefix: &Option<Name>, after: &Option<Path>, count: u64) -> bool
+    ensures { result ≡ spec.same_look (look.Entities prefix.now after.now count) other.now }
+{
+    match other {
+        Look::Entities {
+            prefix: own_prefix,
+            after: own_after,
+            count: own_count,
+        } => is_same_text_option(prefix, own_prefix)
+            && is_same_path_option(after, own_after)
+            && count == *own_count,
+        _ => false,
+    }
+}
+
+fn is_same_entity_look(other: &Look, path: &Path) -> bool
+    ensures { result ≡ spec.same_look (look.Entity path.now) other.now }
+{
+    match other {
+        Look::Entity { path: own_path } => is_same_path(path, own_path),
+        _ => false,
+    }
+}
+
+fn is_same_sessions(other: &Look, path: &Path, after: &Option<Text>, count: u64) -> bool
+    ensures { result ≡ spec.same_look (look.Sessions path.now after.now count) other.now }
+{
+    match other {
+        Look::Sessions {
+            path: own_path,
+            after: own_after,
+            count: own_count,
+        } => is_same_path(path, own_path)
+            && is_same_text_option(after, own_after)
+            && count == *own_count,
+        _ => false,
+    }
+}
+
+fn is_transactions(other: &Look) -> bool
+    ensures { result ≡ spec.same_look look.Transactions other.now }
+{
+    match other {
+        Look::Transactions => true,
+        _ => false,
+    }
+}
+
+pub fn is_same_look(a: &Look, b: &Look) -> bool
+    ensures { result ≡ spec.same_look a.now b.now }
+{
+    match a {
+        Look::Entities {
+            prefix,
+            after,
+            count,
+        } => is_same_list(b, prefix, after, *count),
+        Look::Entity { path } => is_same_entity_look(b, path),
+        Look::Sessions { path, after, count } => is_same_sessions(b, path, after, *count),
+        Look::Transactions => is_transactions(b),
     }
 }

@@ -1,14 +1,14 @@
 // Whether two acts are equal, in all their fields: one test for each kind of act.
 ghost use Rattle.std.specs.Prelude.{◌≡◌, ◌==◌, ◌&&◌};
 ghost use Rattle.sb_machine.specs.Same.{same_act};
-ghost use Rattle.sb_machine.specs.declared.call.Act.TheVariants.{CreateQueue, CreateTopic, CreateSubscription, CreateRule, Delete, DeleteRule, Send, Cancel, Receive, ReceiveDeferred, Settle, Renew, Accept, SessionRenew, SessionClose, SessionSet, SessionState, Begin, Commit, Rollback, Peek, Counts};
+ghost use Rattle.sb_machine.specs.declared.call.Act.TheVariants.{CreateQueue, CreateTopic, CreateSubscription, CreateRule, Delete, DeleteRule, Send, Cancel, Receive, ReceiveDeferred, Settle, Renew, Accept, SessionRenew, SessionClose, SessionSet, SessionState, Begin, Commit, Rollback, Peek, Counts, Look as LooksAt};
 
 use crate::same::{
     are_same_messages, is_same_bytes_option, is_same_description, is_same_filter, is_same_how,
-    is_same_mode, is_same_number_option, is_same_path, is_same_text, is_same_text_option,
-    is_same_token, is_same_token_option, is_same_which,
+    is_same_look, is_same_mode, is_same_number_option, is_same_path, is_same_text,
+    is_same_text_option, is_same_token, is_same_token_option, is_same_which,
 };
-use sb_machine::{Act, Description, FilterText, How, Mode, Path, Token, Which};
+use sb_machine::{Act, Description, FilterText, How, Look, Mode, Path, Token, Which};
 use sb_model::{Message, Rows, Text};
 
 /// Whether these acts are equal in all their fields, so that one repeats the other.
@@ -72,6 +72,7 @@ pub fn is_same_act(a: &Act, b: &Act) -> bool
         Act::Rollback { txn } => is_rollback(b, *txn),
         Act::Peek { from, start, count } => is_peek(b, from, *start, *count),
         Act::Counts { entity } => is_counts(b, entity),
+        Act::Look { what } => is_look(b, what),
     }
 }
 
@@ -381,6 +382,15 @@ fn is_counts(other: &Act, entity: &Path) -> bool
 {
     match other {
         Act::Counts { entity: own_entity } => is_same_path(entity, own_entity),
+        _ => false,
+    }
+}
+
+fn is_look(other: &Act, what: &Look) -> bool
+    ensures { result ≡ same_act (LooksAt what.now) other.now }
+{
+    match other {
+        Act::Look { what: own_what } => is_same_look(what, own_what),
         _ => false,
     }
 }

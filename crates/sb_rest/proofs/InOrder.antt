@@ -34,7 +34,7 @@ use Rattle.sb_rest.specs.declared.asked.PathAct.TheVariants as act
 use Rattle.sb_rest.specs.declared.asked.Scope.{Scope}
 use Rattle.sb_rest.specs.declared.asked.Scope.TheVariants as scope
 use Rattle.sb_rest.specs.declared.call.RestFault.{RestFault}
-use Rattle.sb_rest.specs.declared.call.RestFault.TheVariants.{Foreign, NoKey, BadMethod, Script}
+use Rattle.sb_rest.specs.declared.call.RestFault.TheVariants.{Foreign, NoKey, BadMethod, Script, Page}
 use Rattle.sb_rest.specs.declared.call.Wanted.{Wanted}
 use Rattle.sb_rest.specs.declared.draft.Broker.{Broker}
 use Rattle.sb_rest.specs.declared.draft.Draft.{Draft}
@@ -42,8 +42,10 @@ use Rattle.sb_rest.specs.Brokers as brokers
 use Rattle.sb_rest.specs.Batches as batches
 use Rattle.sb_rest.specs.Headers as headers
 use Rattle.sb_rest.specs.Calls as calls
-use Rattle.sb_rest.specs.Callers.{is_foreign, has_key}
+use Rattle.sb_rest.specs.Callers.{is_foreign}
 use Rattle.sb_rest.specs.Dispositions.{disposition_in, how_of, unless_empty}
+use Rattle.sb_rest.specs.Entities.{entities_in}
+use Rattle.sb_rest.specs.Peeks.{peek_in}
 use Rattle.sb_rest.specs.Lifetimes.{lifetime_in}
 use Rattle.sb_rest.specs.Repeats.{by_of}
 use Rattle.sb_rest.specs.Reserved.{is_reserved}
@@ -207,6 +209,9 @@ wanted_holds asked.Send path query fields body = sent_holds path query fields bo
 wanted_holds (asked.Put a s) path query fields body = put_holds a s path query fields
 wanted_holds (asked.Remember a) path query fields body = asked_holds_with query fields (calls.remembered a path body) (state_holds a path body)
 wanted_holds (asked.Do a) path query fields body = asked_holds_with query fields (calls.act_in a path) (act_holds a path)
+wanted_holds asked.Health path query fields body = tt
+wanted_holds (asked.List s) path query fields body = known_holds IsWantedInOrder (entities_in query) (λ what. Ok (calls.seen s what)) (λ what. tt)
+wanted_holds asked.Peek path query fields body = known_holds IsWantedInOrder (peek_in query) (λ x. Ok (calls.peeked x)) (λ x. tt)
 
 -- ---- requests
 
@@ -226,6 +231,10 @@ script_holds : (b : Bool) → AreInOrder (if b then Err Script else Err (BadMeth
 script_holds true = tt
 script_holds false = tt
 
+page_holds : (b : Bool) → AreInOrder (if b then Err Page else Err (BadMethod route.Page))
+page_holds true = tt
+page_holds false = tt
+
 route_holds : (o : Option Route) (m : RequestMessage) → AreInOrder (calls.on_route o m)
 route_holds None m = tt
 route_holds (Some route.Messages) m = asked_holds route.Messages (calls.asked_at route.Messages m.head.method) m
@@ -240,6 +249,11 @@ route_holds (Some (route.SessionState a)) m = asked_holds (route.SessionState a)
 route_holds (Some (route.SessionHead a)) m = asked_holds (route.SessionHead a) (calls.asked_at (route.SessionHead a) m.head.method) m
 route_holds (Some (route.SessionDeferred a)) m = asked_holds (route.SessionDeferred a) (calls.asked_at (route.SessionDeferred a) m.head.method) m
 route_holds (Some (route.SessionLocked a)) m = asked_holds (route.SessionLocked a) (calls.asked_at (route.SessionLocked a) m.head.method) m
+route_holds (Some route.Health) m = asked_holds route.Health (calls.asked_at route.Health m.head.method) m
+route_holds (Some route.Status) m = asked_holds route.Status (calls.asked_at route.Status m.head.method) m
+route_holds (Some route.Metrics) m = asked_holds route.Metrics (calls.asked_at route.Metrics m.head.method) m
+route_holds (Some route.Peek) m = asked_holds route.Peek (calls.asked_at route.Peek m.head.method) m
+route_holds (Some route.Page) m = page_holds (bytes_eq m.head.method (codes "GET"))
 route_holds (Some route.Script) m = script_holds (bytes_eq m.head.method (codes "POST"))
 
 calls_hold : (foreign keyed : Bool) (m : RequestMessage) → AreInOrder (if foreign then Err Foreign else (if keyed then calls.routed m else Err NoKey))
@@ -248,5 +262,5 @@ calls_hold false true m = route_holds (route_of (path_of m.head.target)) m
 calls_hold false false m = tt
 
 pub answered_in_order : (access : Access) (m : RequestMessage) (r : Result Wanted RestFault) → calls.Answers r (calls.call_of access m) → AreInOrder r
-answered_in_order access m (Ok w) said = subst AreInOrder said (calls_hold (is_foreign access m.head.fields) (has_key access m.head.fields) m)
+answered_in_order access m (Ok w) said = subst AreInOrder said (calls_hold (is_foreign access m.head.fields) (calls.may_call access m) m)
 answered_in_order access m (Err fault) said = tt

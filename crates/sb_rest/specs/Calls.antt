@@ -1,10 +1,10 @@
 -- Which request asks for which call, or what is at fault in it.
-use Rattle.std.specs.Prelude.{◌≡◌, ℕ, suc, Bool, true, false, List, [], ◌∷◌, codes, bytes_eq, is_some, Option, Some, None, Result, Ok, Err, if◌then◌else◌}
+use Rattle.std.specs.Prelude.{◌≡◌, ℕ, suc, ◌||◌, Bool, true, false, List, [], ◌∷◌, codes, bytes_eq, is_some, Option, Some, None, Result, Ok, Err, if◌then◌else◌}
 use Rattle.std.specs.List.{list_any}
 use Rattle.std.specs.Str.{str_to_ascii_lowercase}
 use Rattle.percent_encoding.specs.Percent.{percent_decode}
 use Rattle.sb_machine.specs.declared.call.Act.{Act}
-use Rattle.sb_machine.specs.declared.call.Act.TheVariants.{Cancel, Receive, ReceiveDeferred, Settle, Renew, Send, Accept, SessionRenew, SessionClose, SessionSet, SessionState}
+use Rattle.sb_machine.specs.declared.call.Act.TheVariants.{Cancel, Receive, ReceiveDeferred, Settle, Renew, Send, Accept, SessionRenew, SessionClose, SessionSet, SessionState, Peek, Look}
 use Rattle.sb_machine.specs.declared.call.By.{By}
 use Rattle.sb_machine.specs.declared.call.How.{How}
 use Rattle.sb_machine.specs.declared.call.How.TheVariants.{Complete}
@@ -15,6 +15,8 @@ use Rattle.sb_machine.specs.declared.call.Part.TheVariants.{Main, Dead, Transfer
 use Rattle.sb_machine.specs.declared.call.Path.{Path}
 use Rattle.sb_machine.specs.declared.call.Token.{Token}
 use Rattle.sb_machine.specs.declared.call.Which.TheVariants.{Id}
+use Rattle.sb_machine.specs.declared.look.Look.{Look as Looked}
+use Rattle.sb_machine.specs.declared.look.Look.TheVariants.{Transactions}
 use Rattle.sb_model.specs.declared.message.Message.{Message}
 use Rattle.sb_http.specs.Fields.{Field}
 use Rattle.sb_http.specs.Messages.{RequestMessage}
@@ -32,22 +34,30 @@ use Rattle.sb_rest.specs.declared.asked.PathAct.{PathAct}
 use Rattle.sb_rest.specs.declared.asked.PathAct.TheVariants as act
 use Rattle.sb_rest.specs.declared.asked.Scope.{Scope}
 use Rattle.sb_rest.specs.declared.asked.Scope.TheVariants as scope
+use Rattle.sb_rest.specs.declared.asked.Sight.{Sight}
+use Rattle.sb_rest.specs.declared.asked.Sight.TheVariants as sight
 use Rattle.sb_rest.specs.declared.call.RestFault.{RestFault}
-use Rattle.sb_rest.specs.declared.call.RestFault.TheVariants.{Foreign, NoKey, NoRoute, BadMethod, Bad, Script, OutOfMemory}
+use Rattle.sb_rest.specs.declared.call.RestFault.TheVariants.{Foreign, NoKey, NoRoute, BadMethod, Bad, Script, Page, OutOfMemory}
 use Rattle.sb_rest.specs.declared.call.Wanted.{Wanted}
 use Rattle.sb_rest.specs.declared.access.Access.{Access}
 use Rattle.sb_rest.specs.Callers.{is_foreign, has_key}
 use Rattle.sb_rest.specs.Batches as batches
+use Rattle.sb_rest.specs.Entities.{entities_in}
 use Rattle.sb_rest.specs.Dispositions.{disposition_in, how_of, unless_empty}
 use Rattle.sb_rest.specs.Headers.{message_in}
+use Rattle.sb_rest.specs.Peeks.{peek_in}
 use Rattle.sb_rest.specs.Repeats.{by_of, number_in}
 use Rattle.sb_rest.specs.Timeouts.{timeout_in}
 
 -- ---- methods
 
--- methods are told by their case (RFC 9110, 9.1)
+-- what is asked for by a POST; methods are told by their case (RFC 9110, 9.1)
 abbrev pub if_post : List ℕ → Asked → Option Asked
 if_post method a = if bytes_eq method (codes "POST") then Some a else None
+
+-- what is asked for by a GET
+abbrev pub if_get : List ℕ → Asked → Option Asked
+if_get method a = if bytes_eq method (codes "GET") then Some a else None
 
 -- what the head of an entity or a session is asked for, by the method
 abbrev pub at_head : Address → Scope → List ℕ → Option Asked
@@ -96,6 +106,11 @@ methods_of (route.SessionHead a) = codes "DELETE" ∷ codes "POST" ∷ []
 methods_of (route.SessionDeferred a) = codes "DELETE" ∷ codes "POST" ∷ []
 methods_of (route.SessionLocked a) = codes "DELETE" ∷ codes "PUT" ∷ []
 methods_of route.Script = codes "POST" ∷ []
+methods_of route.Health = codes "GET" ∷ []
+methods_of route.Status = codes "GET" ∷ []
+methods_of route.Metrics = codes "GET" ∷ []
+methods_of route.Peek = codes "GET" ∷ []
+methods_of route.Page = codes "GET" ∷ []
 
 -- what a route of calls is asked for, by the method
 abbrev pub asked_at : Route → List ℕ → Option Asked
@@ -112,10 +127,16 @@ asked_at (route.SessionHead a) method = at_head a scope.Session method
 asked_at (route.SessionDeferred a) method = at_deferred a scope.Session method
 asked_at (route.SessionLocked a) method = at_session_locked a method
 asked_at route.Script method = None
+asked_at route.Health method = if_get method asked.Health
+asked_at route.Status method = if_get method (asked.List sight.Line)
+asked_at route.Metrics method = if_get method (asked.List sight.Metrics)
+asked_at route.Peek method = if_get method asked.Peek
+asked_at route.Page method = None
 
 -- whether a route takes this method
 abbrev pub takes : Route → List ℕ → Bool
 takes route.Script method = bytes_eq method (codes "POST")
+takes route.Page method = bytes_eq method (codes "GET")
 takes r method = is_some (asked_at r method)
 
 -- those are all
@@ -233,9 +254,21 @@ act_in (act.ReadState a) path = then_by (held_in a path) (λ h. Ok (SessionState
 abbrev pub remembered : Address → List ℕ → List ℕ → Result Act (List ℕ)
 remembered a path body = then_by (held_in a path) (λ h. Ok (SessionSet h.0 h.1 (unless_empty body)))
 
--- a call that may wait so many seconds
+-- a call that may wait so many seconds, and is answered as its act says
 abbrev pub in_time : Option By → Act → ℕ → Wanted
-in_time by act timeout = record { call = record { by = by; act = act }; timeout = timeout }
+in_time by act timeout = record { call = record { by = by; act = act }; timeout = timeout; sight = sight.Reply }
+
+-- a call of an operator, at once and without a number
+abbrev pub told : Sight → Act → Wanted
+told s act = record { call = record { by = None; act = act }; timeout = 0; sight = s }
+
+-- a look of an operator
+abbrev pub seen : Sight → Looked → Wanted
+seen s what = told s (Look what)
+
+-- a look at messages
+abbrev pub peeked : Path × ℕ × ℕ → Wanted
+peeked x = told sight.Line (Peek x.0 x.1 x.2)
 
 -- how long it may wait, and its number
 abbrev pub beside : List ℕ → List Field → Result (ℕ × Option By) (List ℕ)
@@ -279,6 +312,9 @@ wanted_by asked.Send path query fields body = sent path query fields body
 wanted_by (asked.Put a s) path query fields body = put a s path query fields
 wanted_by (asked.Remember a) path query fields body = asked_with query fields (remembered a path body)
 wanted_by (asked.Do a) path query fields body = asked_with query fields (act_in a path)
+wanted_by asked.Health path query fields body = Ok (seen sight.Health Transactions)
+wanted_by (asked.List s) path query fields body = then_by (entities_in query) (λ what. Ok (seen s what))
+wanted_by asked.Peek path query fields body = then_by (peek_in query) (λ x. Ok (peeked x))
 
 -- the call of a route, unless its method is another
 abbrev pub on_asked : Route → Option Asked → RequestMessage → Result Wanted RestFault
@@ -289,27 +325,50 @@ on_asked r (Some asked) m = or_bad (wanted_by asked (path_of m.head.target) (que
 abbrev pub on_script : List ℕ → Result Wanted RestFault
 on_script method = if bytes_eq method (codes "POST") then Err Script else Err (BadMethod route.Script)
 
+-- nor is the page
+abbrev pub on_page : List ℕ → Result Wanted RestFault
+on_page method = if bytes_eq method (codes "GET") then Err Page else Err (BadMethod route.Page)
+
 -- the call of each route
 abbrev pub on_route : Option Route → RequestMessage → Result Wanted RestFault
 on_route None m = Err NoRoute
 on_route (Some route.Script) m = on_script m.head.method
+on_route (Some route.Page) m = on_page m.head.method
 on_route (Some r) m = on_asked r (asked_at r m.head.method) m
 
 -- by its path, then its method, then the first key at fault
 abbrev pub routed : RequestMessage → Result Wanted RestFault
 routed m = on_route (route_of (path_of m.head.target)) m
 
+-- whether this is for all: that the namespace acts, and the page, which has nothing of it
+abbrev pub is_open : Option Route → Bool
+is_open (Some route.Health) = true
+is_open (Some route.Page) = true
+is_open _ = false
+
+-- the request shows the key, or needs none
+abbrev pub may_call : Access → RequestMessage → Bool
+may_call access m = has_key access m.head.fields || is_open (route_of (path_of m.head.target))
+
+-- the call of a request that no page of another origin made
+abbrev pub admitted : Access → RequestMessage → Result Wanted RestFault
+admitted access m = if may_call access m then routed m else Err NoKey
+
 -- the call of a request, or why it is none: first who made it
 abbrev pub call_of : Access → RequestMessage → Result Wanted RestFault
-call_of access m = if is_foreign access m.head.fields then Err Foreign else (if has_key access m.head.fields then routed m else Err NoKey)
+call_of access m = if is_foreign access m.head.fields then Err Foreign else admitted access m
 
 -- no page of another origin makes a call
 abbrev pub NoneIsForeign : Type 0
 NoneIsForeign = (access : Access) (m : RequestMessage) → is_foreign access m.head.fields ≡ true → call_of access m ≡ Err Foreign
 
--- nor does who doesn't show the key
+-- nor does who has to show the key, and doesn't
 abbrev pub NoneIsKeyless : Type 0
-NoneIsKeyless = (access : Access) (m : RequestMessage) → is_foreign access m.head.fields ≡ false → has_key access m.head.fields ≡ false → call_of access m ≡ Err NoKey
+NoneIsKeyless = (access : Access) (m : RequestMessage) → is_foreign access m.head.fields ≡ false → may_call access m ≡ false → call_of access m ≡ Err NoKey
+
+-- without the key there is one call alone, whether the namespace acts
+abbrev pub HealthIsOpen : Type 0
+HealthIsOpen = (access : Access) (m : RequestMessage) (w : Wanted) → has_key access m.head.fields ≡ false → call_of access m ≡ Ok w → w ≡ seen sight.Health Transactions
 
 -- the result is what is said, or memory was wanting
 abbrev pub Answers : Result Wanted RestFault → Result Wanted RestFault → Type 0
@@ -320,4 +379,5 @@ Answers (Err NoRoute) said = said ≡ Err NoRoute
 Answers (Err (BadMethod r)) said = said ≡ Err (BadMethod r)
 Answers (Err (Bad key)) said = said ≡ Err (Bad key)
 Answers (Err Script) said = said ≡ Err Script
+Answers (Err Page) said = said ≡ Err Page
 Answers (Err OutOfMemory) said = Unit {0}

@@ -1,5 +1,6 @@
--- REST, in the order to read it: Queries, Timeouts, Values, Lifetimes, Brokers, Reserved, Headers, Batches, Repeats, Dispositions, Callers (the parts of
--- a request); Lines, Calls (which request asks for which call); Moments, Escapes, Shown, Forms, Sessions, Responses (what answers it); Worked.
+-- REST, in the order to read it: Queries, Timeouts, Values, Lifetimes, Brokers, Reserved, Headers, Batches, Repeats, Dispositions, Entities, Peeks, Callers (the
+-- parts of a request); Lines, Calls (which request asks for which call); Moments, Escapes, Shown, Forms, Sessions, Pages, Responses, Sights (what answers
+-- it); Worked.
 pub mod Queries
 pub mod Timeouts
 pub mod Values
@@ -12,11 +13,15 @@ pub mod Batches
 pub mod Lines
 pub mod Repeats
 pub mod Dispositions
+pub mod Entities
 pub mod Calls
 pub mod Moments
 pub mod Escapes
 pub mod Shown
 pub mod Forms
 pub mod Sessions
+pub mod Pages
+pub mod Peeks
 pub mod Responses
+pub mod Sights
 pub mod Worked

@@ -26,10 +26,11 @@ use Rattle.sb_lines.specs.Refusals.{plain, refusal_data}
 use Rattle.sb_lines.specs.Shown.{message_text}
 use Rattle.sb_routes.specs.declared.routes.Route.{Route}
 use Rattle.sb_rest.specs.declared.call.RestFault.{RestFault}
-use Rattle.sb_rest.specs.declared.call.RestFault.TheVariants.{Foreign, NoKey, NoRoute, BadMethod, Bad, Script, OutOfMemory}
+use Rattle.sb_rest.specs.declared.call.RestFault.TheVariants.{Foreign, NoKey, NoRoute, BadMethod, Bad, Script, Page, OutOfMemory}
 use Rattle.sb_rest.specs.Calls.{methods_of}
 use Rattle.sb_rest.specs.Forms.{json_fields, unasked, fits_head}
 use Rattle.sb_rest.specs.Moments.{IsTime, IsUntil}
+use Rattle.sb_rest.specs.Pages.{page_response}
 use Rattle.sb_rest.specs.Sessions.{accepted_fields}
 use Rattle.sb_rest.specs.Shown.{message_fields, place_of, place_text}
 
@@ -109,7 +110,7 @@ method_response r = record { status = status.MethodNotAllowed; fields = (codes "
 abbrev pub key_response : ResponseMessage
 key_response = record { status = status.Unauthorized; fields = (codes "WWW-Authenticate", codes "Bearer") ∷ []; body = []; ends = false }
 
--- where a request is no call; a script line is answered by its reply
+-- where a request is no call; a script line is answered by its reply, and the page is there without one
 abbrev pub fault_response : RestFault → ResponseMessage
 fault_response Foreign = bare status.Forbidden
 fault_response NoKey = key_response
@@ -117,6 +118,7 @@ fault_response NoRoute = bare status.NotFound
 fault_response (BadMethod r) = method_response r
 fault_response (Bad key) = refusal_response (refusal.BadCall key)
 fault_response Script = bare status.InternalServerError
+fault_response Page = page_response
 fault_response OutOfMemory = refusal_response refusal.OutOfMemory
 
 -- ---- replies; one that no call of a route is answered is an error of the server's own
@@ -244,11 +246,11 @@ as_kept r = record r { fields = r.fields ++ (codes "Repeat-Kept", codes "true") 
 abbrev pub GivesKept : Act → List ℕ → Bool → Reply → ResponseMessage → Type 0
 GivesKept act host json reply r = (first : ResponseMessage) × GivesReply act host json reply first × (r ≡ as_kept first)
 
--- this is the response to a call that is answered so; host is that of the request, and json whether it asks for messages as JSON
-abbrev pub Gives : Act → Result Answered Refusal → List ℕ → Bool → ResponseMessage → Type 0
-Gives act (Err refused) host json r = GivesRefusal refused r
-Gives act (Ok (Kept reply)) host json r = GivesKept act host json reply r
-Gives act (Ok (New reply)) host json r = GivesReply act host json reply r
+-- this is the response to a call that is answered so, as its act says; host is that of the request, and json whether it asks for messages as JSON
+abbrev pub GivesAnswer : Act → Result Answered Refusal → List ℕ → Bool → ResponseMessage → Type 0
+GivesAnswer act (Err refused) host json r = GivesRefusal refused r
+GivesAnswer act (Ok (Kept reply)) host json r = GivesKept act host json reply r
+GivesAnswer act (Ok (New reply)) host json r = GivesReply act host json reply r
 
 -- the host of a request, as it was sent
 abbrev pub host_from : Option Field → List ℕ

@@ -14,6 +14,25 @@ pub enum Asked {
     /// That a session remembers the body.
     Remember(Address),
     Do(PathAct),
+    /// Whether the namespace acts.
+    Health,
+    /// How many messages stand how, told so.
+    List(Sight),
+    /// Messages.
+    Peek,
+}
+
+/// How the answer to a call is told.
+#[derive(Clone, Copy, PartialEq, Eq, Drop)]
+pub enum Sight {
+    /// As its act says.
+    Reply,
+    /// That the namespace acts, or why it doesn't.
+    Health,
+    /// As the line of a script has it.
+    Line,
+    /// As numbers, for who gathers such.
+    Metrics,
 }
 
 /// Whose messages are meant.
@@ -70,7 +89,22 @@ pub(crate) fn asked_at(route: Route, method: &[u8]) -> Option<Asked>
         Route::SessionHead(address) => at_head(address, Scope::Session, method),
         Route::SessionDeferred(address) => at_deferred(address, Scope::Session, method),
         Route::SessionLocked(address) => at_session_locked(address, method),
-        Route::Script => None,
+        Route::Health => if_get(method, Asked::Health),
+        Route::Status => if_get(method, Asked::List(Sight::Line)),
+        Route::Metrics => if_get(method, Asked::List(Sight::Metrics)),
+        Route::Peek => if_get(method, Asked::Peek),
+        Route::Script | Route::Page => None,
+    }
+}
+
+// At GET, this.
+fn if_get(method: &[u8], asked: Asked) -> Option<Asked>
+    ensures { result ≡ calls.if_get method.now asked }
+{
+    if is(method, b"GET") {
+        Some(asked)
+    } else {
+        None
     }
 }
 

@@ -3,23 +3,27 @@ ghost use Rattle.std.specs.Prelude.{◌≡◌, All, length, map, IfOk, Ok, Some}
 ghost use Rattle.httparse.specs.Spans.{IsHeaderWithin, header_bytes};
 ghost use Rattle.sb_http.specs.Said.{said_by};
 ghost use Rattle.sb_machine.specs.Ordered.{IsActInOrder};
-ghost use Rattle.sb_lines.specs.Faults.{Answers};
+ghost use Rattle.sb_lines.specs.Faults.{Answers, then_by};
 ghost use Rattle.sb_routes.specs.Paths.{path_of, query_of};
 ghost use Rattle.sb_rest.specs.Calls as calls;
+ghost use Rattle.sb_rest.specs.Entities.{entities_in as entities_of};
+ghost use Rattle.sb_rest.specs.Peeks.{peek_in as peek_of};
 
 use crate::access::{Access, has_key, is_foreign};
 use crate::act::{act_in, locked_in, remembered, settled};
-use crate::asked::{Asked, PathAct, Scope, asked_at, is};
+use crate::asked::{Asked, PathAct, Scope, Sight, asked_at, is};
 use crate::batch::{is_batch, messages_in as batch_in};
 use crate::disposition::{disposition_in, how_of};
+use crate::entities::entities_in;
 use crate::header::message_in;
 use crate::path::name_in;
+use crate::peeks::peek_in;
 use crate::repeat::by_in;
 use crate::timeout::timeout_in;
 use httparse::spans::HeaderSpan;
 use sb_http::Request;
 use sb_lines::LineFault;
-use sb_machine::{Act, By, Call, Part, Path};
+use sb_machine::{Act, By, Call, Look, Part, Path};
 use sb_model::{Message, Rows, Text};
 use sb_routes::{Address, Route, Routes, cut};
 use std::alloc::Global;
@@ -39,16 +43,19 @@ pub enum RestFault {
     Bad { key: Text },
     /// The body is a script line, and the reply to it is the response.
     Script,
+    /// The page for a browser is asked for.
+    Page,
     /// Want of memory: the request may be a call.
     OutOfMemory,
 }
 
-/// A call, and how long it may wait.
+/// A call, how long it may wait, and how its answer is told.
 #[derive(Drop)]
 pub struct Wanted {
     pub call: Call,
     /// For how long a receive may wait for a message, in s: 0 to 3,600.
     pub timeout: u64,
+    pub sight: Sight,
 }
 
 fn messages_in(
@@ -72,6 +79,17 @@ fn in_time(by: Option<By>, act: Act, timeout: u64) -> Wanted
     Wanted {
         call: Call { by, act },
         timeout,
+        sight: Sight::Reply,
+    }
+}
+
+fn told(sight: Sight, act: Act) -> Wanted
+    ensures { result ≡ calls.told sight act }
+{
+    Wanted {
+        call: Call { by: None, act },
+        timeout: 0,
+        sight,
     }
 }
 
@@ -192,6 +210,28 @@ fn put(
     Ok(in_time(by, act, timeout))
 }
 
+fn seen(sight: Sight, what: Look) -> Wanted
+    ensures { result ≡ calls.seen sight what }
+{
+    told(sight, Act::Look { what })
+}
+
+// The entities that a query says, told so.
+fn listed(alloc: Global, sight: Sight, query: &[u8]) -> Result<Wanted, LineFault>
+    ensures { Answers result (then_by (entities_of query.now) (λ what. Ok (calls.seen sight what))) }
+{
+    let what = entities_in(alloc, query)?;
+    Ok(seen(sight, what))
+}
+
+// The messages that a query says.
+fn peeked(alloc: Global, query: &[u8]) -> Result<Wanted, LineFault>
+    ensures { Answers result (then_by (peek_of query.now) (λ x. Ok (calls.peeked x))) }
+{
+    let (from, start, count) = peek_in(alloc, query)?;
+    Ok(told(Sight::Line, Act::Peek { from, start, count }))
+}
+
 // A method and a path that go together, before the query, the headers and the body.
 #[tactic(auto, unfolding(crate::specs::Calls::wanted_by))]
 fn wanted_by(
@@ -211,6 +251,9 @@ fn wanted_by(
             remember(alloc, address, path, query, text, lines, request.body)
         }
         Asked::Do(act) => done(alloc, act, path, query, text, lines),
+        Asked::Health => Ok(seen(Sight::Health, Look::Transactions)),
+        Asked::List(sight) => listed(alloc, sight, query),
+        Asked::Peek => peeked(alloc, query),
     }
 }
 
@@ -248,6 +291,16 @@ fn on_script(method: &[u8]) -> Result<Wanted, RestFault>
     }
 }
 
+fn on_page(method: &[u8]) -> Result<Wanted, RestFault>
+    ensures { result ≡ calls.on_page method.now }
+{
+    if is(method, b"GET") {
+        Err(RestFault::Page)
+    } else {
+        Err(RestFault::BadMethod { route: Route::Page })
+    }
+}
+
 fn on_route(
     alloc: Global,
     route: Route,
@@ -261,6 +314,7 @@ fn on_route(
 {
     match route {
         Route::Script => on_script(request.method),
+        Route::Page => on_page(request.method),
         _ => {
             let asked = asked_at(route, request.method);
             on_asked(alloc, route, asked, path, query, request)
@@ -268,17 +322,48 @@ fn on_route(
     }
 }
 
-fn routed(alloc: Global, routes: &Routes, request: &Request) -> Result<Wanted, RestFault>
-    ensures { calls.Answers result (calls.routed (said_by request.now)) }
+// Whether a path is for all.
+fn is_open(route: Option<Route>) -> bool
+    ensures { result ≡ calls.is_open route }
+{
+    matches!(route, Some(Route::Health) | Some(Route::Page))
+}
+
+// The call of a path that was looked up.
+fn routed(
+    alloc: Global,
+    route: Option<Route>,
+    path: &[u8],
+    query: &[u8],
+    request: &Request,
+) -> Result<Wanted, RestFault>
+    requires path { path.now ≡ path_of request.now.target.now }
+    requires query { query.now ≡ query_of request.now.target.now }
+    ensures { calls.Answers result (calls.on_route route (said_by request.now)) }
+{
+    let Some(route) = route else {
+        return Err(RestFault::NoRoute);
+    };
+    on_route(alloc, route, path, query, request)
+}
+
+// The call of a request that no page of another origin made.
+fn admitted(
+    alloc: Global,
+    routes: &Routes,
+    access: &Access,
+    request: &Request,
+) -> Result<Wanted, RestFault>
+    ensures { calls.Answers result (calls.admitted access.now (said_by request.now)) }
 {
     let (path, query) = cut(request.target, b'?');
     let Ok(route) = routes.of(alloc, path) else {
         return Err(RestFault::OutOfMemory);
     };
-    let Some(route) = route else {
-        return Err(RestFault::NoRoute);
-    };
-    on_route(alloc, route, path, query, request)
+    if !has_key(access, request.text, request.lines) && !is_open(route) {
+        return Err(RestFault::NoKey);
+    }
+    routed(alloc, route, path, query, request)
 }
 
 fn wanted_of(
@@ -292,16 +377,13 @@ fn wanted_of(
     if is_foreign(access, request.text, request.lines) {
         return Err(RestFault::Foreign);
     }
-    if !has_key(access, request.text, request.lines) {
-        return Err(RestFault::NoKey);
-    }
-    routed(alloc, routes, request)
+    admitted(alloc, routes, access, request)
 }
 
 /// The call of a request, or why it is none: first that a page of another origin made it, then that it
-/// doesn't show the key, then that there is no such path, then that its method isn't one of it, then
+/// doesn't show the key, where its path needs one, then that there is no such path, then that its method isn't one of it, then
 /// the first key at fault, by its place: the path (`path`, `token`, `seq`), the query (`timeout`,
-/// `disposition`), the number of the call (`Repeat-Client`, `Repeat-Number`), the headers as they stand,
+/// `disposition`, `after`, `count`, `from`, `start`), the number of the call (`Repeat-Client`, `Repeat-Number`), the headers as they stand,
 /// the body.
 pub fn call_of(
     alloc: Global,

@@ -1,7 +1,7 @@
 // What holds of all texts and methods.
 ghost use Rattle.std.specs.Prelude.{◌≡◌, ℕ, List, true, nat_le};
 ghost use Rattle.std.specs.List.{list_all};
-ghost use Rattle.sb_rest.specs.Calls.{MethodsAreAll, NoneIsForeign, NoneIsKeyless};
+ghost use Rattle.sb_rest.specs.Calls.{HealthIsOpen, MethodsAreAll, NoneIsForeign, NoneIsKeyless};
 ghost use Rattle.sb_rest.specs.Escapes.{ascii_json};
 
 /// JSON that is escaped has no character beyond ASCII, and no U+007F.
@@ -19,7 +19,12 @@ pub fn foreign_is_no_call()
     ensures { NoneIsForeign }
 {}
 
-/// What doesn't show the key that is asked for is no call.
+/// What doesn't show the key where one is asked for is no call.
 pub fn keyless_is_no_call()
     ensures { NoneIsKeyless }
+{}
+
+/// Without the key there is one call alone: whether the namespace acts.
+pub fn health_is_open()
+    ensures { HealthIsOpen }
 {}

@@ -12,7 +12,7 @@
 //! ```rust
 //! let response = match call_of(alloc, &routes, &access, &request) {
 //!     Ok(wanted) => {
-//!         response_of(alloc, &wanted.call, answer, host_of(&request), wants_json(&request))?
+//!         response_of(alloc, wanted.sight, &wanted.call, answer, host_of(&request), wants_json(&request))?
 //!     }
 //!     Err(fault) => fault_response(alloc, fault)?,
 //! };
@@ -28,6 +28,7 @@ mod broker;
 mod call;
 mod disposition;
 mod draft;
+mod entities;
 mod escape;
 mod field;
 mod form;
@@ -36,24 +37,32 @@ mod laws;
 mod lifetime;
 mod location;
 mod media;
+mod metrics;
 mod moment;
+mod page;
 mod path;
+mod peeks;
 mod query;
 mod repeat;
 mod reserved;
 mod response;
 mod session;
 mod shown;
+mod sight;
 mod timeout;
 mod value;
 mod worked;
 
 pub use access::Access;
+pub use asked::Sight;
 pub use call::{RestFault, Wanted, call_of};
 pub use form::wants_json;
-pub use laws::{escaped_is_ascii, foreign_is_no_call, keyless_is_no_call, methods_are_told};
+pub use laws::{
+    escaped_is_ascii, foreign_is_no_call, health_is_open, keyless_is_no_call, methods_are_told,
+};
 pub use media::has_media_type;
-pub use response::{fault_response, host_of, line_response, response_of};
+pub use response::{fault_response, host_of, line_response};
+pub use sight::response_of;
 pub use worked::{
     worked_callers, worked_calls, worked_dispositions, worked_forms, worked_numbers, worked_parts,
     worked_responses, worked_session_responses, worked_sessions,

@@ -31,7 +31,8 @@ fn push_base(out: &mut String, path: &Path) -> Result<(), AllocError>
     }
 }
 
-fn push_address(out: &mut String, path: &Path) -> Result<(), AllocError>
+/// Adds an address.
+pub(crate) fn push_address(out: &mut String, path: &Path) -> Result<(), AllocError>
     ensures { OnOk result (string_bytes out.new ≡ string_bytes out.old ++ shown.address_text path.now) }
 {
     push_base(out, path)?;

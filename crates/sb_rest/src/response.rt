@@ -13,19 +13,19 @@ use crate::field::{message_fields, push_field};
 use crate::form::{fits_head, json_fields, push_unasked};
 use crate::location::{place_of, place_text};
 use crate::moment::{time_text, until_text};
+use crate::page::page_response;
 use crate::session::accepted_fields;
 use crate::shown::json_line;
 use httparse::spans::HeaderSpan;
 use sb_http::{Header, Request, Response, Status, is_word};
 use sb_lines::{message_text, refusal_value};
-use sb_machine::{
-    Act, Answer, Answered, Call, CopyShown, Mode, Path, Receipt, Refusal, Reply, Token,
-};
+use sb_machine::{Act, Answer, Answered, CopyShown, Mode, Path, Receipt, Refusal, Reply, Token};
 use sb_model::Message;
 use sb_routes::Route;
 use std::alloc::{AllocError, Global};
 
-fn bare(alloc: Global, status: Status) -> Response
+/// A status alone.
+pub(crate) fn bare(alloc: Global, status: Status) -> Response
     ensures { said_in result ≡ responses.bare status }
 {
     Response {
@@ -61,7 +61,8 @@ fn refusal_status(refusal: &Refusal) -> Status
     }
 }
 
-fn refusal_ends(refusal: &Refusal) -> bool
+/// Whether a refusal ends the connection.
+pub(crate) fn refusal_ends(refusal: &Refusal) -> bool
     ensures { result ≡ responses.refusal_ends refusal.now }
 {
     match refusal {
@@ -84,7 +85,8 @@ fn stopped_text() -> &'static str
     "{\"refused\":\"Stopped\"}"
 }
 
-fn refusal_text(alloc: Global, refusal: &Refusal) -> Result<String, AllocError>
+/// A refusal's line without its line feed.
+pub(crate) fn refusal_text(alloc: Global, refusal: &Refusal) -> Result<String, AllocError>
     ensures { IfOk result (λ s. string_bytes s ≡ responses.refusal_text refusal.now) }
 {
     match refusal {
@@ -129,8 +131,8 @@ fn timed_refusal(alloc: Global, until: u64, moment: &str) -> Result<Response, Al
     Ok(response)
 }
 
-// The response to a call that was refused.
-fn refused_response(alloc: Global, refusal: &Refusal) -> Result<Response, AllocError>
+/// The response to a call that was refused.
+pub(crate) fn refused_response(alloc: Global, refusal: &Refusal) -> Result<Response, AllocError>
     ensures { IfOk result (λ r. responses.GivesRefusal refusal.now (said_in r)) }
 {
     match refusal {
@@ -155,6 +157,7 @@ fn allowed(route: Route) -> &'static [u8]
         Route::SessionHead(_) | Route::SessionDeferred(_) => b"DELETE, POST",
         Route::SessionLocked(_) => b"DELETE, PUT",
         Route::Script => b"POST",
+        Route::Health | Route::Status | Route::Metrics | Route::Peek | Route::Page => b"GET",
     }
 }
 
@@ -196,6 +199,7 @@ pub fn fault_response(alloc: Global, fault: RestFault) -> Result<Response, Alloc
         RestFault::BadMethod { route } => method_response(alloc, route),
         RestFault::Bad { key } => refusal_response(alloc, &Refusal::BadCall { key }),
         RestFault::Script => Ok(bare(alloc, Status::InternalServerError)),
+        RestFault::Page => page_response(alloc),
         RestFault::OutOfMemory => refusal_response(alloc, &Refusal::OutOfMemory),
     }
 }
@@ -544,25 +548,19 @@ fn kept_response(
     Ok(response)
 }
 
-/// The response to a call that is answered so, with the host that its request names (`host_of`), and
-/// whether that asks for messages as JSON (`wants_json`). A message that is received has its texts
-/// and properties as fields, or is all in the body as JSON where that is asked for, or where an
-/// ordinary client could not take the head (64 lines of fields, 16,384 bytes). The send of one
-/// scheduled message is answered with its number, an accepted session with its place, and the call for a
-/// session that somebody holds with the moment up to which the lock lives. A reply that no call of a route is answered is an error
-/// of the server's own. It fails for want of memory alone.
-pub fn response_of(
+/// The response to a call of this act that is answered so, as the act says.
+pub(crate) fn answer_response(
     alloc: Global,
-    call: &Call,
+    act: &Act,
     answer: &Answer,
     host: &[u8],
     json: bool,
 ) -> Result<Response, AllocError>
-    ensures { IfOk result (λ r. responses.Gives call.now.act answer.now host.now json (said_in r)) }
+    ensures { IfOk result (λ r. responses.GivesAnswer act.now answer.now host.now json (said_in r)) }
 {
     match answer {
-        Ok(Answered::New(reply)) => reply_response(alloc, &call.act, host, json, reply),
-        Ok(Answered::Kept(reply)) => kept_response(alloc, &call.act, host, json, reply),
+        Ok(Answered::New(reply)) => reply_response(alloc, act, host, json, reply),
+        Ok(Answered::Kept(reply)) => kept_response(alloc, act, host, json, reply),
         Err(refusal) => refused_response(alloc, refusal),
     }
 }

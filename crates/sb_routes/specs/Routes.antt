@@ -12,6 +12,7 @@ use Rattle.sb_routes.specs.declared.routes.Address.TheVariants.{Entity, Subscrip
 use Rattle.sb_routes.specs.declared.routes.Route.{Route}
 use Rattle.sb_routes.specs.declared.routes.Route.TheVariants.{Messages, Head, Deferred, Locked, Scheduled, Script}
 use Rattle.sb_routes.specs.declared.routes.Route.TheVariants.{NextSession, NamedSession, HeldSession, SessionState, SessionHead, SessionDeferred, SessionLocked}
+use Rattle.sb_routes.specs.declared.routes.Route.TheVariants.{Health, Status, Metrics, Peek, Page}
 use Rattle.sb_routes.specs.Paths.{looked_up, as_text}
 
 -- ---- the table
@@ -52,9 +53,13 @@ addresses =
     ∷ (codes "/{topic}/subscriptions/{name}/$transfer/$deadletterqueue", Subscription Transfer)
     ∷ []
 
--- where is sent to; and of script lines: a shell takes a dollar sign for itself
+-- for an operator; no name begins with a dollar sign
+unfoldable pub sights : List (List ℕ × Route)
+sights = (codes "/$health", Health) ∷ (codes "/$status", Status) ∷ (codes "/$metrics", Metrics) ∷ (codes "/$peek", Peek) ∷ (codes "/$page", Page) ∷ []
+
+-- where is sent to; of script lines: a shell takes a dollar sign for itself; and for an operator
 unfoldable pub others : List (List ℕ × Route)
-others = (codes "/{name}/messages", Messages) ∷ (codes "/$script", Script) ∷ (codes "/script", Script) ∷ []
+others = (codes "/{name}/messages", Messages) ∷ (codes "/$script", Script) ∷ (codes "/script", Script) ∷ sights
 
 -- ---- a router
 

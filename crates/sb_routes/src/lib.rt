@@ -1,6 +1,6 @@
 //! Which path names which messages of a queue, or which session of it, as the REST interface of Service Bus
 //! has its paths (Microsoft Learn, Service Bus REST API reference, "Service Bus runtime REST"); those of
-//! sessions are added to it.
+//! sessions are added to it, and those that an operator asks for.
 //!
 //! `specs/Routes` has the table: a row for each route, with what it names. A path is looked up by the
 //! kit's `matchit` with its ASCII letters folded and `%24` read as `$`; what its segments stand for is

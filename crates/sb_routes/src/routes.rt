@@ -1,7 +1,7 @@
 // The routes, and the one that a path has.
 ghost use Rattle.std.specs.Prelude.{◌≡◌, [], ◌++◌, fold, OnOk, IfOk, option_map};
 ghost use Rattle.matchit.specs.Seek.{first};
-ghost use Rattle.sb_routes.specs.Routes.{with_route, with_rows, with_address, of_messages, of_sessions, of_address, addresses, others, table, route_at, route_of};
+ghost use Rattle.sb_routes.specs.Routes.{with_route, with_rows, with_address, of_messages, of_sessions, of_address, addresses, sights, others, table, route_at, route_of};
 
 use crate::path::{looked, text_of};
 use matchit::Router;
@@ -46,6 +46,16 @@ pub enum Route {
     SessionLocked(Address),
     /// Where script lines go.
     Script,
+    /// Whether the namespace acts.
+    Health,
+    /// How many messages stand how, as a reply has it.
+    Status,
+    /// The same, for who gathers such numbers.
+    Metrics,
+    /// Messages, as a reply has them.
+    Peek,
+    /// A page for a browser.
+    Page,
 }
 
 /// All routes.
@@ -197,7 +207,20 @@ fn add_addresses(alloc: Global, router: &mut Router<Route>) -> Result<(), AllocE
     Ok(())
 }
 
-// The routes of sends and of script lines.
+// The routes of what an operator asks for.
+#[tactic(auto, unfolding(crate::specs::Routes::sights))]
+fn add_sights(router: &mut Router<Route>) -> Result<(), AllocError>
+    ensures { OnOk result (router.new ≡ with_rows sights router.old) }
+{
+    add(router, "/$health", Route::Health)?;
+    add(router, "/$status", Route::Status)?;
+    add(router, "/$metrics", Route::Metrics)?;
+    add(router, "/$peek", Route::Peek)?;
+    add(router, "/$page", Route::Page)?;
+    Ok(())
+}
+
+// The routes of sends, of script lines, and of what an operator asks for.
 #[tactic(auto, unfolding(crate::specs::Routes::others))]
 fn add_others(router: &mut Router<Route>) -> Result<(), AllocError>
     ensures { OnOk result (router.new ≡ with_rows others router.old) }
@@ -205,6 +228,7 @@ fn add_others(router: &mut Router<Route>) -> Result<(), AllocError>
     add(router, "/{name}/messages", Route::Messages)?;
     add(router, "/$script", Route::Script)?;
     add(router, "/script", Route::Script)?;
+    add_sights(router)?;
     Ok(())
 }
 

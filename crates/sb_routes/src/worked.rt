@@ -4,6 +4,7 @@ ghost use Rattle.sb_machine.specs.declared.call.Part.TheVariants.{Main, Dead};
 ghost use Rattle.sb_routes.specs.declared.routes.Address.TheVariants.{Entity, Subscription};
 ghost use Rattle.sb_routes.specs.declared.routes.Route.TheVariants.{Messages, Head, Deferred, Locked, Scheduled, Script};
 ghost use Rattle.sb_routes.specs.declared.routes.Route.TheVariants.{NextSession, NamedSession, HeldSession, SessionState, SessionHead, SessionDeferred, SessionLocked};
+ghost use Rattle.sb_routes.specs.declared.routes.Route.TheVariants.{Health, Status, Metrics, Peek, Page};
 ghost use Rattle.sb_routes.specs.Routes.{route_of};
 ghost use Rattle.sb_routes.specs.Paths.{path_of, query_of, segment};
 
@@ -24,6 +25,11 @@ pub fn worked_routes()
     ensures session_locked { route_of (codes "/q/sessions/a/x/messages/7/y") ≡ Some (SessionLocked (Entity Main)) }
     ensures script { route_of (codes "/$script") ≡ Some Script }
     ensures plain_script { route_of (codes "/Script") ≡ Some Script }
+    ensures health { route_of (codes "/$Health") ≡ Some Health }
+    ensures status { route_of (codes "/%24status") ≡ Some Status }
+    ensures metrics { route_of (codes "/$metrics") ≡ Some Metrics }
+    ensures peek { route_of (codes "/$PEEK") ≡ Some Peek }
+    ensures page { route_of (codes "/$page") ≡ Some Page }
     ensures none { route_of (codes "/x/y/z") ≡ None }
     ensures path { path_of (codes "/q?a=1?b") ≡ codes "/q" }
     ensures query { query_of (codes "/q?a=1?b") ≡ codes "a=1?b" }

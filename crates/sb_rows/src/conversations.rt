@@ -14,7 +14,7 @@ use sb_machine::{Answer, Call, Refusal};
 use sb_model::Text;
 use sb_node::Node;
 use sb_outside::MemDisk;
-use sb_rest::{RestFault, fault_response, host_of, line_response, response_of, wants_json};
+use sb_rest::{RestFault, Sight, fault_response, host_of, line_response, response_of, wants_json};
 use sb_routes::Routes;
 use std::alloc::{AllocError, Global};
 
@@ -158,6 +158,7 @@ fn response_to_script(
 fn response_to_call(
     alloc: Global,
     node: &mut Node<MemDisk>,
+    sight: Sight,
     call: &Call,
     host: &[u8],
     json: bool,
@@ -166,7 +167,7 @@ fn response_to_call(
     requires order { IsActInOrder call.now.act }
 {
     let answer = node.step(moment, call);
-    let response = response_of(alloc, call, &answer, host, json);
+    let response = response_of(alloc, sight, call, &answer, host, json);
     drop(answer);
     response
 }
@@ -182,7 +183,8 @@ fn response_to(
         Ok(wanted) => {
             let host = host_of(request);
             let json = wants_json(request);
-            let response = response_to_call(alloc, node, &wanted.call, host, json, moment);
+            let sight = wanted.sight;
+            let response = response_to_call(alloc, node, sight, &wanted.call, host, json, moment);
             drop(wanted);
             response
         }

@@ -6,7 +6,7 @@ use anyhow::{Result, bail};
 use sb_http::{Response, write_response};
 use sb_machine::{Act, Call, Mode, Part, Path, Refusal};
 use sb_model::Text;
-use sb_rest::response_of;
+use sb_rest::{Sight, response_of};
 use std::alloc::{AllocError, Global};
 
 /// Rows of a refusal's name, and of the response to a receive that is refused so.
@@ -71,7 +71,7 @@ fn refusal_named(alloc: Global, name: &str) -> Result<Refusal> {
 // The response to a call that is refused so.
 fn response_to(alloc: Global, call: &Call, refusal: Refusal) -> Result<Vec<u8>, AllocError> {
     let answer = Err(refusal);
-    let response = response_of(alloc, call, &answer, b"h", false);
+    let response = response_of(alloc, Sight::Reply, call, &answer, b"h", false);
     drop(answer);
     written(alloc, response?)
 }

@@ -8,17 +8,19 @@ use anyhow::{Context, Result, bail};
 use sb_http::{Incoming, Request};
 use sb_lines::read_line;
 use sb_machine::Act;
+use sb_model::Text;
 use sb_repeats::is_same_act;
-use sb_rest::{Access, RestFault, Wanted, call_of};
+use sb_rest::{Access, RestFault, Sight, Wanted, call_of};
 use sb_routes::Routes;
 use std::alloc::{AllocError, Global};
 
-/// Rows of a request, and of `403`, `404`, `405`, `400 KEY`, `script`, or the script line of its call, before
-/// which stands its timeout where that isn't 60 seconds. Before them stands `front TEXT`, with which each
-/// request begins.
+/// Rows of a request, and of `401`, `403`, `404`, `405`, `400 KEY`, `script`, `page`, or the script line of its
+/// call, before which stands its timeout where that isn't 60 seconds, or how its answer is told, as `health`.
+/// Before them stands `front TEXT`, with which each request begins, and `key TEXT`, which each has to show.
 #[derive(Drop)]
 pub struct Requests {
     front: String,
+    access: Access,
     routes: Routes,
 }
 
@@ -26,18 +28,24 @@ impl Requests {
     pub fn new(alloc: Global) -> Result<Requests> {
         Ok(Requests {
             front: String::new(alloc),
+            access: Access::unlocked(alloc),
             routes: Routes::new(alloc)?,
         })
     }
 }
 
-// The timeout and the script line of a call.
-fn timed(wanted: &str) -> (u64, &str) {
+// How the answer to a call is told, its timeout and its script line.
+fn manner(wanted: &str) -> (Sight, u64, &str) {
     if wanted.starts_with('{') {
-        return (60, wanted);
+        return (Sight::Reply, 60, wanted);
     }
-    let (timeout, line) = wanted.split_once(' ').unwrap_or(("", ""));
-    (timeout.parse::<u64>().unwrap_or(60), line)
+    let (word, line) = wanted.split_once(' ').unwrap_or(("", ""));
+    match word {
+        "health" => (Sight::Health, 0, line),
+        "line" => (Sight::Line, 0, line),
+        "metrics" => (Sight::Metrics, 0, line),
+        _ => (Sight::Reply, word.parse::<u64>().unwrap_or(60), line),
+    }
 }
 
 fn is_of_line(alloc: Global, act: &Act, line: &str) -> bool {
@@ -55,11 +63,14 @@ fn is_of_line(alloc: Global, act: &Act, line: &str) -> bool {
 }
 
 fn is_call(alloc: Global, found: &Wanted, wanted: &str) -> bool {
-    let (timeout, line) = timed(wanted);
-    found.timeout == timeout && found.call.by.is_none() && is_of_line(alloc, &found.call.act, line)
+    let (sight, timeout, line) = manner(wanted);
+    found.sight == sight
+        && found.timeout == timeout
+        && found.call.by.is_none()
+        && is_of_line(alloc, &found.call.act, line)
 }
 
-/// The call of a request of anybody, or its fault.
+/// The call of a request where anybody may call, or its fault.
 pub fn found_in(alloc: Global, routes: &Routes, request: &Request) -> Result<Wanted, RestFault>
     ensures in_order { IfOk result (λ wanted. IsActInOrder wanted.call.act) }
 {
@@ -83,25 +94,33 @@ fn told(alloc: Global, found: Wanted, wanted: &str) -> Result<String, AllocError
 fn came(
     alloc: Global,
     routes: &Routes,
+    access: &Access,
     request: &Request,
     wanted: &str,
 ) -> Result<String, AllocError> {
-    match found_in(alloc, routes, request) {
+    match call_of(alloc, routes, access, request) {
         Ok(found) => told(alloc, found, wanted),
         Err(RestFault::Foreign) => String::from_str(alloc, "403"),
         Err(RestFault::NoKey) => String::from_str(alloc, "401"),
         Err(RestFault::NoRoute) => String::from_str(alloc, "404"),
         Err(RestFault::BadMethod { .. }) => String::from_str(alloc, "405"),
         Err(RestFault::Script) => String::from_str(alloc, "script"),
+        Err(RestFault::Page) => String::from_str(alloc, "page"),
         Err(RestFault::Bad { key }) => format!(in alloc; "400 {}", key.as_str()),
         Err(RestFault::OutOfMemory) => Err(AllocError),
     }
 }
 
 // What comes of the one request of a stream.
-fn came_of(alloc: Global, routes: &Routes, stream: &[u8], wanted: &str) -> Result<String> {
+fn came_of(
+    alloc: Global,
+    routes: &Routes,
+    access: &Access,
+    stream: &[u8],
+    wanted: &str,
+) -> Result<String> {
     let mut incoming = Incoming::new(alloc)?;
-    let came = came_through(alloc, routes, &mut incoming, stream, wanted);
+    let came = came_through(alloc, routes, access, &mut incoming, stream, wanted);
     drop(incoming);
     came
 }
@@ -109,6 +128,7 @@ fn came_of(alloc: Global, routes: &Routes, stream: &[u8], wanted: &str) -> Resul
 fn came_through(
     alloc: Global,
     routes: &Routes,
+    access: &Access,
     incoming: &mut Incoming,
     stream: &[u8],
     wanted: &str,
@@ -120,22 +140,23 @@ fn came_through(
         bail!("no request of HTTP");
     };
     let request = next.context("no whole request")?;
-    Ok(came(alloc, routes, &request, wanted)?)
+    Ok(came(alloc, routes, access, &request, wanted)?)
 }
 
 impl Rows for Requests {
     fn set(&mut self, alloc: Global, key: &str, value: &str) -> Result<bool> {
-        if key != "front" {
-            return Ok(false);
+        match key {
+            "front" => self.front = String::from_str(alloc, value)?,
+            "key" => self.access.key = Some(Text::of(alloc, value)?),
+            _ => return Ok(false),
         }
-        self.front = String::from_str(alloc, value)?;
         Ok(true)
     }
 
     fn other(&self, alloc: Global, asked: &str, wanted: &str) -> Result<Option<String>> {
         let row = format!(in alloc; "{}{asked}", self.front.as_str())?;
         let stream = request_of(alloc, row.as_str())?;
-        let came = came_of(alloc, &self.routes, &stream, wanted)?;
+        let came = came_of(alloc, &self.routes, &self.access, &stream, wanted)?;
         Ok(Some(came).filter(|came| came.as_str() != wanted))
     }
 }

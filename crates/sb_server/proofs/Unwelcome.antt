@@ -5,10 +5,10 @@ use Rattle.sb_machine.specs.declared.history.Entry.{Entry}
 use Rattle.sb_http.specs.Messages.{RequestMessage}
 use Rattle.sb_rest.specs.declared.access.Access.{Access}
 use Rattle.sb_rest.specs.declared.call.RestFault.{RestFault}
-use Rattle.sb_rest.specs.declared.call.RestFault.TheVariants.{Foreign, NoKey, NoRoute, BadMethod, Bad, Script, OutOfMemory}
+use Rattle.sb_rest.specs.declared.call.RestFault.TheVariants.{Foreign, NoKey, NoRoute, BadMethod, Bad, Script, Page, OutOfMemory}
 use Rattle.sb_rest.specs.declared.call.Wanted.{Wanted}
-use Rattle.sb_rest.specs.Callers.{is_foreign, has_key}
-use Rattle.sb_rest.specs.Calls.{call_of, routed}
+use Rattle.sb_rest.specs.Callers.{is_foreign}
+use Rattle.sb_rest.specs.Calls.{call_of, may_call, routed}
 use Rattle.sb_server.specs.declared.telling.Turn.{Turn}
 use Rattle.sb_server.specs.declared.ask.Ask.{Ask}
 use Rattle.sb_server.specs.declared.ask.Ask.TheVariants.{Once, Patient, Line, BadLine, Lines, Fault}
@@ -26,6 +26,7 @@ IsNone (Err NoKey) = Unit {0}
 IsNone (Err NoRoute) = Unit {0}
 IsNone (Err (BadMethod r)) = Unit {0}
 IsNone (Err (Bad key)) = Unit {0}
+IsNone (Err Page) = Unit {0}
 IsNone (Err OutOfMemory) = Unit {0}
 
 none_by : (foreign keyed : Bool) (said : Result Wanted RestFault) → (foreign ≡ true) ⊎ (keyed ≡ false) → IsNone (if foreign then Err Foreign else (if keyed then said else Err NoKey))
@@ -35,7 +36,7 @@ none_by false true said (inl e) = absurd cc
 none_by false true said (inr e) = absurd cc
 
 none_called : (access : Access) (m : RequestMessage) → IsUnwelcome access m → IsNone (call_of access m)
-none_called access m u = none_by (is_foreign access m.head.fields) (has_key access m.head.fields) (routed m) u
+none_called access m u = none_by (is_foreign access m.head.fields) (may_call access m) (routed m) u
 
 pub responds_none : (IsReading : ℕ → Type 0) (access : Access) (seat : ℕ) (m : RequestMessage) (ask : Ask) (closes : Bool) (made : List Entry) (out : List ℕ) (turn : Turn)
     → IsUnwelcome access m → AsksFor access m ask → RespondsTo IsReading seat ask closes made out turn → made ≡ []

@@ -19,7 +19,7 @@ use Rattle.sb_rest.specs.Calls.{call_of}
 use Rattle.sb_rest.specs.Forms.{wants_json}
 use Rattle.sb_rest.specs.Responses.{host_in}
 use Rattle.sb_rest.specs.declared.call.RestFault.{RestFault}
-use Rattle.sb_rest.specs.declared.call.RestFault.TheVariants.{Foreign, NoKey, NoRoute, BadMethod, Bad, Script, OutOfMemory}
+use Rattle.sb_rest.specs.declared.call.RestFault.TheVariants.{Foreign, NoKey, NoRoute, BadMethod, Bad, Script, Page, OutOfMemory}
 use Rattle.sb_rest.specs.declared.call.Wanted.{Wanted}
 use Rattle.sb_server.specs.declared.ask.Ask.{Ask}
 use Rattle.sb_server.specs.declared.ask.Asker.{Asker}
@@ -104,6 +104,7 @@ IsFault access NoRoute m = call_of access m ≡ Err NoRoute
 IsFault access (BadMethod r) m = call_of access m ≡ Err (BadMethod r)
 IsFault access (Bad key) m = call_of access m ≡ Err (Bad key)
 IsFault access Script m = ⊥
+IsFault access Page m = call_of access m ≡ Err Page
 IsFault access OutOfMemory m = Unit {0}
 
 -- a call, what its response has of who asks, and whether it waits

@@ -47,7 +47,7 @@ use Rattle.sb_server.specs.Waiting.{GoesBy, Waiting, is_empty}
 
 -- this is its response
 abbrev pub Says : Said → Bool → List ℕ → Type 0
-Says (OfCall wanted asker answer) closes out = AnswersCall wanted.call answer asker closes out
+Says (OfCall wanted asker answer) closes out = AnswersCall wanted answer asker closes out
 Says (OfLine form answer) closes out = out ≡ line_bytes form answer closes
 Says (OfLines text stopped) closes out = out ≡ lines_bytes text.items stopped closes
 Says (OfFault fault) closes out = out ≡ fault_bytes fault closes

@@ -18,9 +18,12 @@ use Rattle.sb_lines.specs.Replies.{answer_line}
 use Rattle.sb_lines.specs.declared.form.Form.{Form}
 use Rattle.sb_lines.specs.declared.form.Form.TheVariants.{Plain}
 use Rattle.sb_rest.specs.declared.access.Access.{Access}
-use Rattle.sb_rest.specs.Callers.{is_foreign, has_key}
-use Rattle.sb_rest.specs.Responses.{Gives, fault_response, line_response}
+use Rattle.sb_rest.specs.Callers.{is_foreign}
+use Rattle.sb_rest.specs.Calls.{may_call}
+use Rattle.sb_rest.specs.Responses.{fault_response, line_response}
+use Rattle.sb_rest.specs.Sights.{Gives}
 use Rattle.sb_rest.specs.declared.call.RestFault.{RestFault}
+use Rattle.sb_rest.specs.declared.call.Wanted.{Wanted}
 use Rattle.sb_server.specs.declared.ask.Ask.{Ask}
 use Rattle.sb_server.specs.declared.ask.Asker.{Asker}
 use Rattle.sb_server.specs.declared.ask.Ask.TheVariants.{Once, Patient, Line, BadLine, Lines, Fault}
@@ -49,8 +52,8 @@ abbrev pub closed : Bool → ResponseMessage → ResponseMessage
 closed closes said = record said { ends = said.ends || closes }
 
 -- the bytes of the response to a call
-abbrev pub AnswersCall : Call → Result Answered Refusal → Asker → Bool → List ℕ → Type 0
-AnswersCall call answer asker closes out = (said : ResponseMessage) × Gives call.act answer asker.host asker.json said × (out ≡ response_bytes (closed closes said))
+abbrev pub AnswersCall : Wanted → Result Answered Refusal → Asker → Bool → List ℕ → Type 0
+AnswersCall w answer asker closes out = (said : ResponseMessage) × Gives w.sight w.call.act answer asker.host asker.json said × (out ≡ response_bytes (closed closes said))
 
 -- the bytes of the response to a script line: the line of its reply in the form that it asks for, which ends the
 -- connection too where the namespace acts no more
@@ -66,7 +69,7 @@ waiter_call (ByLine line) = line.timed.call
 
 -- the bytes of the response, by the answer of the last call
 abbrev pub AnswersWaiter : Waiter → Result Answered Refusal → Bool → List ℕ → Type 0
-AnswersWaiter (ByRest w asker) answer closes out = AnswersCall w.call answer asker closes out
+AnswersWaiter (ByRest w asker) answer closes out = AnswersCall w answer asker closes out
 AnswersWaiter (ByLine line) answer closes out = out ≡ line_bytes line.form answer closes
 
 -- ---- the response to several lines
@@ -127,7 +130,7 @@ IsInOrder (Fault fault) = Unit {0}
 -- this is the response, these are the entries of its calls, and so it goes on
 abbrev pub RespondsTo : (ℕ → Type 0) → ℕ → Ask → Bool → List Entry → List ℕ → Turn → Type 0
 RespondsTo IsReading seat (Once w asker) closes made out turn =
-    (answer : Result Answered Refusal) × IsOne IsReading seat w.call made answer × AnswersCall w.call answer asker closes out × (turn ≡ turn_of closes (stops answer))
+    (answer : Result Answered Refusal) × IsOne IsReading seat w.call made answer × AnswersCall w answer asker closes out × (turn ≡ turn_of closes (stops answer))
 RespondsTo IsReading seat (Patient waiter limit) closes made out turn =
     (answer : Result Answered Refusal) × Waits IsReading seat (waiter_call waiter) limit made answer × AnswersWaiter waiter answer closes out × (turn ≡ turn_of closes (stops answer))
 RespondsTo IsReading seat (Line line) closes made out turn =
@@ -170,9 +173,9 @@ Responds IsReading access seat (m ∷ ms) made out after =
     × (made ≡ mine ++ rest) × (out ≡ first ++ others) × Responded IsReading access seat m mine first turn
     × (((turn ≡ Goes) × Responds IsReading access seat ms rest others after) ⊎ IsLast turn ms rest others after)
 
--- a request that is foreign, or doesn't show the key
+-- a request that is foreign, or has to show the key and doesn't
 abbrev pub IsUnwelcome : Access → RequestMessage → Type 0
-IsUnwelcome access m = (is_foreign access m.head.fields ≡ true) ⊎ (has_key access m.head.fields ≡ false)
+IsUnwelcome access m = (is_foreign access m.head.fields ≡ true) ⊎ (may_call access m ≡ false)
 
 -- is answered, and makes no call
 abbrev pub MakesNone : (ℕ → Type 0) → Type 0

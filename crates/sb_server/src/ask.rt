@@ -88,6 +88,9 @@ pub(crate) fn ask_of(alloc: Global, routes: &Routes, access: &Access, request: &
         Err(RestFault::Bad { key }) => Ask::Fault {
             fault: RestFault::Bad { key },
         },
+        Err(RestFault::Page) => Ask::Fault {
+            fault: RestFault::Page,
+        },
         Err(RestFault::OutOfMemory) => Ask::Fault {
             fault: RestFault::OutOfMemory,
         },

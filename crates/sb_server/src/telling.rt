@@ -12,7 +12,7 @@ use crate::head::LINES_TYPE;
 use crate::patience::Patience;
 use sb_http::{Header, Response, Status, write_response};
 use sb_lines::{Form, reply_line};
-use sb_machine::{Answer, Call, Refusal};
+use sb_machine::{Answer, Refusal};
 use sb_rest::{RestFault, Wanted, fault_response, line_response, response_of};
 use std::alloc::{AllocError, Global};
 
@@ -121,7 +121,7 @@ pub(crate) fn response_to(alloc: Global, telling: &Telling) -> Result<Vec<u8>, A
             wanted,
             asker,
             answer,
-        } => call_bytes(alloc, &wanted.call, answer, asker, closes),
+        } => call_bytes(alloc, wanted, answer, asker, closes),
         Said::Line { form, answer } => line_bytes(alloc, *form, answer, closes),
         Said::Lines { text, stopped } => lines_bytes(alloc, text, *stopped, closes),
         Said::Fault { fault } => fault_bytes(alloc, fault, closes),
@@ -140,15 +140,15 @@ fn bytes_of(alloc: Global, response: Response, closes: bool) -> Result<Vec<u8>, 
 // The bytes of the response to a call.
 fn call_bytes(
     alloc: Global,
-    call: &Call,
+    wanted: &Wanted,
     answer: &Answer,
     asker: &Asker,
     closes: bool,
 ) -> Result<Vec<u8>, AllocError>
-    ensures { IfOk result (λ v. responds.AnswersCall call.now answer.now asker.now closes v.items) }
+    ensures { IfOk result (λ v. responds.AnswersCall wanted.now answer.now asker.now closes v.items) }
 {
     let host = asker.host.as_slice();
-    let response = response_of(alloc, call, answer, host, asker.json)?;
+    let response = response_of(alloc, wanted.sight, &wanted.call, answer, host, asker.json)?;
     bytes_of(alloc, response, closes)
 }
 
@@ -209,6 +209,7 @@ fn copy_of(fault: &RestFault) -> Result<RestFault, AllocError>
             Ok(RestFault::Bad { key })
         }
         RestFault::Script => Ok(RestFault::Script),
+        RestFault::Page => Ok(RestFault::Page),
         RestFault::OutOfMemory => Ok(RestFault::OutOfMemory),
     }
 }

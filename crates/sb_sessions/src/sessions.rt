@@ -1,5 +1,5 @@
 // The sessions of one part, by id.
-ghost use Rattle.std.specs.Prelude.{◌≡◌, ◌==◌, ◌≤◌, ◌-◌, max, [], ◌∷◌, ◌++◌, length, find, if◌then◌else◌, OnOk, OnErr, None};
+ghost use Rattle.std.specs.Prelude.{◌≡◌, ◌==◌, ◌≤◌, ◌<◌, ◌-◌, ◌^◌, max, [], ◌∷◌, ◌++◌, length, find, if◌then◌else◌, OnOk, OnErr, None};
 ghost use Rattle.std.specs.Option.{option_map};
 ghost use Rattle.sb_machine.specs.Keyed.{changed};
 ghost use Rattle.sb_machine.specs.Leases.{is_living_holder};
@@ -96,6 +96,13 @@ impl Sessions {
 
     // ---- reading
 
+    pub fn size(&self) -> usize
+        ensures value { result ≡ length self.now.sessions }
+        ensures bound { result < 2 ^ 63 }
+    {
+        self.sessions.len()
+    }
+
     pub fn as_slice(&self) -> &[Session]
         ensures { result.now ≡ self.now.sessions }
     {
@@ -134,6 +141,13 @@ impl Sessions {
         ensures { result ≡ least_end self.now.sessions }
     {
         self.least
+    }
+
+    /// Their ids rise: for the proofs of what lists them.
+    pub fn rises(&self)
+        ensures { AreSorted self.now.sessions }
+    {
+        let _ = &self.sessions;
     }
 
     // ---- changes

@@ -356,6 +356,7 @@ answer_asked (reply.Aborted p n) is = (tt, tt)
 answer_asked (reply.Copies copies) is = absurd is
 answer_asked (reply.State state) is = absurd is
 answer_asked (reply.Counts main dead transfer) is = absurd is
+answer_asked (reply.Seen view) is = absurd is
 
 kept_asked : (k : Kept) → IsKept k → kept.Asks k
 unfolding kept event a_call by

@@ -95,6 +95,7 @@ answer_each (reply.Aborted p n) = is_case answer_choice aborted (part_is then_is
 answer_each (reply.Copies copies) = is_case answer_choice no_reply nothing_is (λ _. refl) (reply.Copies copies)
 answer_each (reply.State state) = is_case answer_choice no_reply nothing_is (λ _. refl) (reply.State state)
 answer_each (reply.Counts main dead transfer) = is_case answer_choice no_reply nothing_is (λ _. refl) (reply.Counts main dead transfer)
+answer_each (reply.Seen view) = is_case answer_choice no_reply nothing_is (λ _. refl) (reply.Seen view)
 
 pub answer_is : IsForm answer
 unfolding answer

@@ -116,6 +116,7 @@ answer_case (reply.Aborted p n) = of aborted (p, n)
 answer_case (reply.Copies copies) = of no_reply (reply.Copies copies)
 answer_case (reply.State state) = of no_reply (reply.State state)
 answer_case (reply.Counts main dead transfer) = of no_reply (reply.Counts main dead transfer)
+answer_case (reply.Seen view) = of no_reply (reply.Seen view)
 
 -- what is read behind each code
 abbrev pub answer_choice : Choice Reply

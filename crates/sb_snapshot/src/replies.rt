@@ -115,7 +115,9 @@ impl Piece for ReplyPiece {
             Reply::Committed => put_code(9, out),
             Reply::Aborted { part, number } => put_aborted(part, number, out),
             // Of these none is asked for.
-            Reply::Copies(_) | Reply::State(_) | Reply::Counts { .. } => put_code(11, out),
+            Reply::Copies(_) | Reply::State(_) | Reply::Counts { .. } | Reply::Seen(_) => {
+                put_code(11, out)
+            }
         }
     }
 

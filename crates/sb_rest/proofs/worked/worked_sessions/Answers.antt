@@ -5,12 +5,12 @@ use Rattle.matchit.proofs.OnLiterals.{matchit_on_literals}
 use Rattle.form_urlencoded.proofs.OnLiterals.{form_urlencoded_on_literals}
 use Rattle.uuid.proofs.OnLiterals.{uuid_on_literals}
 use Rattle.sb_routes.specs.Paths.{undollared, segment}
-use Rattle.sb_routes.specs.Routes.{table, with_route, addresses, of_messages, of_sessions, of_address, others}
+use Rattle.sb_routes.specs.Routes.{table, with_route, addresses, of_messages, of_sessions, of_address, sights, others}
 use Rattle.sb_rest.specs.Calls.{address_in, put, wanted_by}
 use Rattle.sb_rest.proofs.worked.worked_sessions.Goals as goal
 
 pub returns-clause-next : goal.returns-clause-next
-unfolding utf8_lossy utf8_valid_len utf8_error_len matchit_on_literals undollared segment table with_route addresses of_messages of_sessions of_address others is_utf8 chars lib.Utf8.encode form_urlencoded_on_literals address_in wanted_by
+unfolding utf8_lossy utf8_valid_len utf8_error_len matchit_on_literals undollared segment table with_route addresses of_messages of_sessions of_address sights others is_utf8 chars lib.Utf8.encode form_urlencoded_on_literals address_in wanted_by
 returns-clause-next c = refl
 
 pub returns-clause-named : goal.returns-clause-named

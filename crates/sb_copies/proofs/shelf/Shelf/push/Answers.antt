@@ -1,4 +1,4 @@
-use Rattle.std.proofs.Common.{◌≡◌, ◌≤◌, ◌∷◌, ◌++◌, [], ◌∙◌, false, List, ap, sym, subst, arith}
+use Rattle.std.proofs.Common.{◌≡◌, ◌≤◌, ◌<◌, ◌+◌, length, ◌∷◌, ◌++◌, [], ◌∙◌, false, List, ap, sym, subst, arith}
 use Rattle.sb_index.specs.Rows.{Lacks}
 use Rattle.sb_index.specs.declared.row.Row.{Row}
 use Rattle.sb_machine.specs.Leases.{is_ready}
@@ -14,6 +14,7 @@ use Rattle.sb_copies.proofs.Finding.{number_lacks}
 use Rattle.sb_copies.proofs.Grouped.{group_lacks, put_so}
 use Rattle.sb_copies.proofs.SlotChanges.{put_led, put_long, put_mirrors}
 use Rattle.sb_copies.proofs.Undue.{heads_put, own_put, undue_lacks, undue_put, undue_rising}
+use Rattle.sb_copies.proofs.Tallying.{put_fits, tally_put}
 use Rattle.sb_copies.proofs.shelf.Shelf.push.Goals as goal
 
 pub insert-requires-clause-apart : goal.insert-requires-clause-apart
@@ -52,6 +53,13 @@ one_more c =
 pub returns-clause-copies : goal.returns-clause-copies
 returns-clause-copies c = one_more c ∙ ap (λ (v : Shelved). v.copies ++ c.args.copy ∷ []) c.self.view_is
 
+pub with_one-self-inside-requires : goal.with_one-self-inside-requires
+with_one-self-inside-requires c =
+    let s = c.self.inside in
+    let fits : length (copies_in s.slots s.order.rows) + s.order.spare < 18446744073709551616 = subst (λ (v : Shelved). length v.copies + v.spare < 18446744073709551616) (sym c.self.view_is) c.fits.ensures in
+    let room : 1 ≤ s.order.spare = subst (λ (v : Shelved). 1 ≤ v.spare) (sym c.self.view_is) c.requires.room in
+    put_fits 18446744073709551616 s.tally (copies_in s.slots s.order.rows) c.self.invariant.11 (omega (arith, fits, room))
+
 pub invariant_of-self : goal.invariant_of-self
 invariant_of-self c =
     let s = c.self.inside in
@@ -70,6 +78,7 @@ invariant_of-self c =
       own_put c.args.copy s.by_session.rows c.put.new.by_session.rows c.self.invariant.8 c.put.ensures.rows,
       omega (arith, room, c.self.invariant.9, c.put_under.ensures.spare, c.insert.ensures.spare),
       put_so under_lock (λ x. false) c.args.copy s.under.rows c.put_under.new.under.rows before after (omega arith) c.rises-3.ensures (above c) c.self.invariant.10 c.put_under.ensures.rows (one_more c),
+      tally_put c.args.copy s.tally c.with_one-self-inside.result before after c.self.invariant.11 c.with_one-self-inside.ensures (one_more c),
     )
 
 pub returns-clause-heads : goal.returns-clause-heads

@@ -15,6 +15,7 @@ use Rattle.sb_copies.proofs.GroupMoves.{moved_lacks, moved_so}
 use Rattle.sb_copies.proofs.Mirror.{renewed}
 use Rattle.sb_copies.proofs.Renewing.{not_under, renewed_under, still_locked}
 use Rattle.sb_copies.proofs.SlotChanges.{told_led, told_long, told_mirrors}
+use Rattle.sb_copies.proofs.Tallying.{renewed_alike, tally_stays}
 use Rattle.sb_copies.proofs.shelf.Shelf.renew.Goals as goal
 
 stands : (c : goal.After-regroup) → copies_in c.prolong_row.new.slots c.change.new.self.rows ≡ changed (has_number c.args.number) (λ x. record x { standing = prolonged_standing c.args.until x.standing } ∷ []) (copies_in c.self.inside.slots c.self.inside.order.rows)
@@ -51,4 +52,5 @@ invariant_of-self c =
       c.self.invariant.8,
       omega (arith, c.self.invariant.9, c.regroup.ensures.spare, c.change.ensures.spare),
       moved_so under_lock (λ x. false) c.args.number g (λ x. refl) c.session_lock_at-under.result None s.under.rows c.regroup.new.index.rows before after (omega arith) ordered c.self.invariant.3 c.rises-2.ensures was_under (λ x. not_under c.args.until x.standing) (λ x. refl) c.self.invariant.10 c.regroup.ensures.rows (stands c),
+      tally_stays c.args.number g (λ x t. renewed_alike c.args.until x.standing t) s.tally before after c.self.invariant.11 (stands c),
     )

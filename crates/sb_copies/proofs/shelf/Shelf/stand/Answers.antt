@@ -1,4 +1,4 @@
-use Rattle.std.proofs.Common.{◌≡◌, ◌≤◌, ◌∷◌, [], ◌∙◌, false, find, ℕ, Bool, Option, List, ap, refl, sym, subst, arith}
+use Rattle.std.proofs.Common.{◌≡◌, ◌≤◌, ◌<◌, ◌+◌, length, ◌∷◌, [], ◌∙◌, false, find, ℕ, Bool, Option, List, ap, refl, sym, subst, arith}
 use Rattle.std.specs.Option.{option_map}
 use Rattle.sb_machine.specs.Keyed.{changed}
 use Rattle.sb_machine.specs.Leases.{is_ready}
@@ -10,6 +10,7 @@ use Rattle.sb_copies.specs.Dues.{never}
 use Rattle.sb_copies.specs.Grouped.{rows_taken, told_grouped}
 use Rattle.sb_copies.specs.Heads.{except, undue_rows}
 use Rattle.sb_copies.specs.Shelf.{AreInOrder, Shelved, copies_in}
+use Rattle.sb_copies.specs.Tally.{standing_at}
 use Rattle.sb_copies.specs.UnderSession.{under_lock}
 use Rattle.sb_copies.proofs.Below.{below_changed}
 use Rattle.sb_copies.proofs.GroupChanges.{told_so}
@@ -19,6 +20,7 @@ use Rattle.sb_copies.proofs.OneRow.{heads_marked}
 use Rattle.sb_copies.proofs.Renewing.{fewer_under}
 use Rattle.sb_copies.proofs.SlotChanges.{told_led, told_long, told_mirrors}
 use Rattle.sb_copies.proofs.Undue.{own_marked, undue_marked}
+use Rattle.sb_copies.proofs.Tallying.{moved_fits, tally_moved}
 use Rattle.sb_copies.proofs.shelf.Shelf.stand.Goals as goal
 
 pub returns-clause-copies : goal.returns-clause-copies
@@ -38,6 +40,13 @@ regroup-requires-2-clause-apart c =
     let was_under : c.session_lock_at-under.result ≡ option_map under_lock (find (has_number c.args.number) (copies_in s.slots s.order.rows)) = subst (λ (v : Shelved). c.session_lock_at-under.result ≡ option_map under_lock (find (has_number c.args.number) v.copies)) (sym c.self.view_is) c.session_lock_at-under.ensures in
     moved_lacks under_lock (λ x. false) c.session_lock_at-under.result c.args.number s.under.rows (copies_in s.slots s.order.rows) (omega arith) ordered c.self.invariant.3 was_under c.self.invariant.10
 
+pub moved-self-inside-requires : goal.moved-self-inside-requires
+moved-self-inside-requires c =
+    let s = c.self.inside in
+    let stood_so : c.standing_at-stood.result ≡ standing_at c.args.number (copies_in s.slots s.order.rows) = subst (λ (v : Shelved). c.standing_at-stood.result ≡ standing_at c.args.number v.copies) (sym c.self.view_is) c.standing_at-stood.ensures in
+    let fits : length (copies_in s.slots s.order.rows) + s.order.spare < 18446744073709551616 = subst (λ (v : Shelved). length v.copies + v.spare < 18446744073709551616) (sym c.self.view_is) c.fits.ensures in
+    moved_fits c.args.number 18446744073709551616 c.standing_at-stood.result s.tally (copies_in s.slots s.order.rows) stood_so c.self.invariant.11 (omega (arith, fits))
+
 pub invariant_of-self : goal.invariant_of-self
 invariant_of-self c =
     let s = c.self.inside in
@@ -49,6 +58,7 @@ invariant_of-self c =
     let room : locks_taken c.args.standing ≤ s.locks = subst (λ (v : Shelved). locks_taken c.args.standing ≤ v.locks) (sym c.self.view_is) c.requires.room in
     let same : rows_taken c.lock_of.result ≡ locks_taken c.args.standing = ap rows_taken c.lock_of.ensures in
     let fewer : rows_taken c.session_lock_of-under_now.result ≤ locks_taken c.args.standing = subst (λ (o : Option ℕ). rows_taken o ≤ locks_taken c.args.standing) (sym c.session_lock_of-under_now.ensures) (fewer_under c.args.standing) in
+    let stood_so : c.standing_at-stood.result ≡ standing_at c.args.number (copies_in s.slots s.order.rows) = subst (λ (v : Shelved). c.standing_at-stood.result ≡ standing_at c.args.number v.copies) (sym c.self.view_is) c.standing_at-stood.ensures in
     let g : StoredCopy → StoredCopy = λ x. record x { count = c.args.count; standing = c.args.standing } in
     let stands : after ≡ changed (has_number c.args.number) (λ x. g x ∷ []) before = told_led c.from.result c.is_ready-marked.result c.due_at-due.result c.stand_row.new.slots c.self.inside.order.rows c.change.new.self.rows _ c.change.ensures.rows c.stand_row.ensures.copies in (
       omega (arith, c.self.invariant.0, c.change.ensures.spare, c.stand_row.ensures.len, c.stand_row.ensures.capacity),
@@ -64,6 +74,7 @@ invariant_of-self c =
       own_marked c.hash_at-hash.result c.args.number c.is_ready-marked.result s.by_session.rows c.mark.new.index.rows c.self.invariant.8 c.mark.ensures.rows,
       omega (arith, room, same, fewer, c.self.invariant.9, c.regroup-2.ensures.spare, c.change.ensures.spare, c.locks_taken.ensures),
       moved_so under_lock (λ x. false) c.args.number g (λ x. refl) c.session_lock_at-under.result c.session_lock_of-under_now.result s.under.rows c.regroup-2.new.index.rows before after (omega arith) ordered c.self.invariant.3 c.rises-3.ensures was_under (λ x. sym c.session_lock_of-under_now.ensures) (λ x. refl) c.self.invariant.10 c.regroup-2.ensures.rows stands,
+      tally_moved c.args.number g c.args.standing (λ x t. refl) c.standing_at-stood.result s.tally c.moved-self-inside.result before after stood_so c.self.invariant.11 c.moved-self-inside.ensures stands,
     )
 
 pub returns-clause-heads : goal.returns-clause-heads

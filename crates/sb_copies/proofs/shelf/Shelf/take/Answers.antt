@@ -7,6 +7,7 @@ use Rattle.sb_copies.specs.ByLock.{held_lock}
 use Rattle.sb_copies.specs.BySession.{session_hash_of}
 use Rattle.sb_copies.specs.Heads.{except, undue_rows}
 use Rattle.sb_copies.specs.Shelf.{AreInOrder, Shelved, copies_in}
+use Rattle.sb_copies.specs.Tally.{standing_at}
 use Rattle.sb_copies.specs.UnderSession.{under_lock}
 use Rattle.sb_copies.proofs.Below.{below_taken}
 use Rattle.sb_copies.proofs.GroupChanges.{taken_so}
@@ -14,6 +15,7 @@ use Rattle.sb_copies.proofs.GroupMoves.{left_so, moved_lacks}
 use Rattle.sb_copies.proofs.OneRow.{heads_taken}
 use Rattle.sb_copies.proofs.SlotChanges.{taken_mirrors}
 use Rattle.sb_copies.proofs.Undue.{own_taken, undue_taken}
+use Rattle.sb_copies.proofs.Tallying.{tally_taken}
 use Rattle.sb_copies.proofs.shelf.Shelf.take.Goals as goal
 
 pub regroup-requires-clause-apart : goal.regroup-requires-clause-apart
@@ -37,7 +39,8 @@ invariant_of-self c =
     let after : List StoredCopy = copies_in c.take_row.new.slots c.take_row.new.order.rows in
     let ordered : AreInOrder before = subst (λ (v : Shelved). AreInOrder v.copies) (sym c.self.view_is) c.rises.ensures in
     let was : c.lock_at-held.result ≡ option_map held_lock (find (has_number c.args.number) (copies_in s.slots s.order.rows)) = subst (λ (v : Shelved). c.lock_at-held.result ≡ option_map held_lock (find (has_number c.args.number) v.copies)) (sym c.self.view_is) c.lock_at-held.ensures in
-    let was_under : c.session_lock_at-under.result ≡ option_map under_lock (find (has_number c.args.number) (copies_in s.slots s.order.rows)) = subst (λ (v : Shelved). c.session_lock_at-under.result ≡ option_map under_lock (find (has_number c.args.number) v.copies)) (sym c.self.view_is) c.session_lock_at-under.ensures in (
+    let was_under : c.session_lock_at-under.result ≡ option_map under_lock (find (has_number c.args.number) (copies_in s.slots s.order.rows)) = subst (λ (v : Shelved). c.session_lock_at-under.result ≡ option_map under_lock (find (has_number c.args.number) v.copies)) (sym c.self.view_is) c.session_lock_at-under.ensures in
+    let stood_so : c.standing_at-stood.result ≡ standing_at c.args.number (copies_in s.slots s.order.rows) = subst (λ (v : Shelved). c.standing_at-stood.result ≡ standing_at c.args.number v.copies) (sym c.self.view_is) c.standing_at-stood.ensures in (
       omega (arith, c.self.invariant.0, c.take_row.ensures.fewer, c.take_row.ensures.capacity, c.take_row.ensures.spare),
       c.take_row.ensures.count,
       taken_mirrors s.expires c.args.number s.slots c.take_row.new.slots s.order.rows c.take_row.new.order.rows c.self.invariant.2 ordered c.take_row.ensures.rows c.take_row.ensures.copies,
@@ -49,6 +52,7 @@ invariant_of-self c =
       own_taken c.hash_at-hash.result c.args.number s.by_session.rows c.take.new.index.rows c.self.invariant.8 c.take.ensures.rows,
       omega (arith, c.self.invariant.9, c.regroup-2.ensures.spare, c.take_row.ensures.spare),
       left_so under_lock (λ x. false) c.session_lock_at-under.result c.args.number s.under.rows c.regroup-2.new.index.rows before after (omega arith) ordered c.self.invariant.3 was_under c.self.invariant.10 c.regroup-2.ensures.rows c.take_row.ensures.copies,
+      tally_taken c.args.number c.standing_at-stood.result s.tally c.gone-self-inside.result before after stood_so c.self.invariant.11 c.gone-self-inside.ensures c.take_row.ensures.copies,
     )
 
 pub returns-clause-heads : goal.returns-clause-heads

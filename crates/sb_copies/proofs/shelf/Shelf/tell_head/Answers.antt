@@ -20,6 +20,7 @@ invariant_of-self c =
       own_stays c.hash_at-hash.result c.args.number true s.by_session.rows c.tell.new.by_session.rows c.self.invariant.8 c.tell.ensures.rows,
       c.self.invariant.9,
       c.self.invariant.10,
+      c.self.invariant.11,
     )
 
 pub returns-clause-heads : goal.returns-clause-heads
