@@ -6,8 +6,9 @@ usage: tools/client_examples.py PROGRAM [LINES]
 PROGRAM is the built program (crates/sb_bus/out/sb_bus). So many numbered sends, 1,000 where nothing is said, go on through a server that is killed
 and started again, and through a second call with the same lines; the worker gets an order that takes longer than
 its lock and one that is none; the sessions are worked off in order; readings are added up by one program and then by the
-other, each once, though a worker died that had counted one and not completed it; and what is left is shown as a table. It needs
-node, curl and awk. The exit status is 1 where something else happens.
+other, each once, though a worker died that had counted one and not completed it; and what is left is shown as a table. Then a server's
+own numbers are looked at, by `/$metrics` and `/$status`: each call is counted once, by what it asks for and how it was answered. It
+needs node, curl and awk. The exit status is 1 where something else happens.
 """
 import json
 import os
@@ -20,6 +21,23 @@ import time
 import lib
 
 EXAMPLES = os.path.join(lib.TOP, "examples")
+HISTOGRAM = "zolmutarn_call_microseconds"
+BOUNDS = [10, 25, 50, 100, 250, 500, 1000, 2500, 5000, 10000, 25000, 50000, 100000, 250000, 1000000, "+Inf"]
+SEND = {"do": "send", "messages": [{"body": "hi"}]}
+TAKE = {"do": "receive", "from": "q", "mode": "delete"}
+# Calls with their answers, and whether each is a record of the journal.
+COUNTED = [
+    ({"do": "create-queue", "name": "q"}, "done", True),
+    ({**SEND, "to": "q"}, "done", True),
+    ({**SEND, "to": "q", "client": "c", "number": 1}, "done", True),
+    ({**SEND, "to": "q", "client": "c", "number": 1}, "kept", False),
+    ({**SEND, "to": "nowhere"}, "refused", False),
+    (TAKE, "done", True),
+    (TAKE, "done", True),
+    (TAKE, "empty", False),
+    ({"do": "counts", "entity": "q"}, "done", False),
+    ({"do": "counts", "entity": "nowhere"}, "refused", False),
+]
 
 
 def made_queue(port, name, **fields):
@@ -132,6 +150,98 @@ def table(port):
     lib.wants([line.split() for line in told.splitlines()] == wanted, f"the table is {told}")
 
 
+def numbers_of(caller):
+    """The values of a server's metrics, by their names with their labels."""
+    status, head, text = caller.ask("GET", "/$metrics")
+    lib.wants(status == 200, f"the metrics were answered {head}")
+    lines = [line for line in text.decode().splitlines() if not line.startswith("#")]
+    return {name: float(value) for name, value in (line.rsplit(" ", 1) for line in lines)}
+
+
+def counts_of(numbers):
+    """How many calls there were, by act and answer."""
+    form = re.compile(r'zolmutarn_calls_total\{act="([a-z-]+)",answer="([a-z]+)"\}')
+    found = [(form.fullmatch(name), n) for name, n in numbers.items()]
+    return {(name[1], name[2]): n for name, n in found if name}
+
+
+def is_histogram(numbers):
+    """The counts rise along the bounds up to that of all calls."""
+    counts = [numbers[f'{HISTOGRAM}_bucket{{le="{most}"}}'] for most in BOUNDS]
+    all_calls = numbers[f"{HISTOGRAM}_count"]
+    lib.wants(counts == sorted(counts) and counts[-1] == all_calls, f"of {all_calls} calls took at most so long: {counts}")
+    lib.wants(sum(counts_of(numbers).values()) == all_calls, f"{all_calls} calls are {counts_of(numbers)}")
+    lib.wants(all_calls == 0 or numbers[f"{HISTOGRAM}_sum"] > 0, f"{all_calls} calls took no time")
+
+
+def counted(caller, call, answer, is_record):
+    """A call adds one to its count, and the look at the numbers one to that of lists; a record is two syncs."""
+    before = numbers_of(caller)
+    reply = caller.line(call)
+    lib.wants(("refused" in reply) == (answer == "refused"), f"{call} was answered {reply}")
+    now = numbers_of(caller)
+    is_histogram(now)
+    was, counts = counts_of(before), counts_of(now)
+    risen = {key: n - was.get(key, 0) for key, n in counts.items() if n > was.get(key, 0)}
+    lib.wants(risen == {(call["do"], answer): 1, ("list", "done"): 1}, f"{call} has raised {risen}")
+    names = ("journal_records_total", "syncs_total", "journal_bytes")
+    records, syncs, grown = (now[f"zolmutarn_{name}"] - before[f"zolmutarn_{name}"] for name in names)
+    fits = (records, syncs, grown > 0) == (is_record, 2 * is_record, is_record)
+    lib.wants(fits, f"{call} made {records} records, {syncs} syncs and {grown} bytes")
+    lib.wants(now["zolmutarn_connections"] >= 1, f"{now['zolmutarn_connections']} connections, where one asks")
+
+
+def until(caller, wanted):
+    """Waits until so many calls wait and so many connections are open, some seconds at most."""
+    for _ in range(100):
+        now = numbers_of(caller)
+        came = [now["zolmutarn_waiting_receives"], now["zolmutarn_connections"]]
+        if came == wanted:
+            return
+        time.sleep(0.05)
+    raise lib.Failed(f"there are {came[0]} calls that wait and {came[1]} connections, not {wanted}")
+
+
+def waiting(port, caller):
+    """A receive on a connection of its own waits, gets its message, and goes."""
+    until(caller, [0, 1])
+    with lib.Caller(port) as other:
+        other.socket.sendall(b"DELETE /q/messages/head?timeout=60 HTTP/1.1\r\nHost: h\r\n\r\n")
+        until(caller, [1, 2])
+        caller.line({**SEND, "to": "q"})
+        status, _, body = other.answer()
+        lib.wants((status, body) == (200, b"hi"), f"a receive that waits was answered {status}, {body}")
+        until(caller, [0, 2])
+    until(caller, [0, 1])
+
+
+def server_of(program, caller, begun):
+    """What `/$status` says of a server that was called with two threads and three workers."""
+    status, head, body = caller.ask("GET", "/$status")
+    lib.wants(status == 200, f"the status was answered {head}")
+    server = json.loads(body)["server"]
+    version = subprocess.run([program, "--version"], capture_output=True, text=True, check=True).stdout.split()[-1]
+    metrics = numbers_of(caller)
+    shown = [server["journal_bytes"], server["journal_records"], server["syncs"]]
+    same = [metrics[f"zolmutarn_{name}"] for name in ("journal_bytes", "journal_records_total", "syncs_total")]
+    lib.wants(shown == same, f"the status says {shown} of the journal, and the metrics {same}")
+    is_young = 0 <= server["uptime_seconds"] <= metrics["zolmutarn_uptime_seconds"] <= time.monotonic() - begun + 1
+    lib.wants(is_young, f"the server has run for {server['uptime_seconds']} s")
+    rest = [server[name] for name in ("version", "threads", "workers", "connections", "waiting")]
+    lib.wants(rest == [version, 2, 3, 1, 0] and len(server) == 9, f"the status shows {server}")
+
+
+def numbers(program):
+    """Over a server of its own, to whom nobody else speaks."""
+    port, begun = lib.free_port(), time.monotonic()
+    with tempfile.TemporaryDirectory() as folder, lib.serving(program, folder, port, "--workers", "3", "--threads", "2"):
+        with lib.Caller(port) as caller:
+            for row in COUNTED:
+                counted(caller, *row)
+            waiting(port, caller)
+            server_of(program, caller, begun)
+
+
 def tried(program, count):
     with tempfile.TemporaryDirectory() as folder:
         numbered_sends(program, folder, lib.free_port(), count)
@@ -141,6 +251,7 @@ def tried(program, count):
         sessions(port)
         readings(port)
         table(port)
+    numbers(program)
 
 
 def main():

@@ -1,4 +1,4 @@
-ghost use Rattle.std.specs.Prelude.{◌≡◌, ◌<◌, List, [], length, map, IfOk, IfErr};
+ghost use Rattle.std.specs.Prelude.{◌≡◌, ◌<◌, ◌≤◌, List, [], length, map, vec_capacity, IfOk, IfErr};
 ghost use Rattle.sb_machine.specs.Ordered.{IsActInOrder};
 ghost use Rattle.sb_machine.specs.declared.history.Entry.{Entry};
 ghost use Rattle.sb_machine.specs.declared.state.State.{State};
@@ -8,15 +8,15 @@ ghost use Rattle.sb_desk.specs.Lists.{IsFront, Each, HaveSeatsBelow, longer};
 ghost use Rattle.sb_desk.specs.Spared.{Spares};
 ghost use Rattle.sb_desk.specs.Steps.{IsSized};
 
-use crate::arrivals::Arrivals;
-use crate::bells::Bells;
+use crate::beside::Beside;
 use crate::closing::{finish, gather_all};
 use crate::notes::{note, take_in};
 use crate::opening::{deal_out, open_table};
 use crate::turns::{Place, Whole, serve_one};
 use crate::{Pass, Report, Served};
 use sb_machine::{Answer, Call, Path};
-use std::alloc::Global;
+use sb_numbers::Board;
+use std::alloc::{AllocError, Global};
 use std::marker::Model;
 use std::sync::Wait;
 
@@ -27,8 +27,7 @@ const MAX_PASSES: usize = 1 << 32;
 #[derive(Drop)]
 pub struct Desk<V: Served> {
     table: Whole<V>,
-    bells: Bells,
-    arrivals: Arrivals,
+    beside: Beside,
 }
 
 impl<V: Served> Model for Desk<V> {
@@ -66,24 +65,13 @@ impl<V: Served> Desk<V> {
         if passes > MAX_PASSES {
             return Err(NewFault::OutOfMemory { value });
         }
-        let Ok(room) = Vec::with_capacity(alloc, passes) else {
-            return Err(NewFault::OutOfMemory { value });
-        };
-        let Ok(bells) = Bells::new(alloc) else {
+        let Ok((room, beside)) = room_for(alloc, passes) else {
             return Err(NewFault::OutOfMemory { value });
         };
         match open_table(alloc, value, passes) {
             Ok((table, place)) => {
                 let dealt = deal_out(&table.shared, place, room, passes);
-                let arrivals = Arrivals::new();
-                Ok((
-                    Desk {
-                        table,
-                        bells,
-                        arrivals,
-                    },
-                    dealt,
-                ))
+                Ok((Desk { table, beside }, dealt))
             }
             Err(value) => Err(NewFault::OutOfMemory { value }),
         }
@@ -104,8 +92,7 @@ impl<V: Served> Desk<V> {
         let answer = serve_one(
             rt,
             &self.table.shared,
-            &self.bells,
-            &self.arrivals,
+            &self.beside,
             &mut place,
             reading,
             call,
@@ -121,13 +108,19 @@ impl<V: Served> Desk<V> {
     /// The marks of the parts for which something to receive may have come since this was last asked,
     /// by whoever asks: who takes them tells all who wait. Nothing is promised of when one comes.
     pub fn take_arrivals(&self) -> u64 {
-        self.arrivals.take()
+        self.beside.arrivals.take()
     }
 
     /// Before this moment, in ms since 1970, nothing comes due by itself, as the last step told it. Nothing
     /// is promised of it.
     pub fn soonest(&self) -> u64 {
-        self.arrivals.soonest()
+        self.beside.arrivals.soonest()
+    }
+
+    /// The numbers of this desk and of who uses it, for who looks after them. Each call notes what the journal has; the
+    /// rest is noted by who makes the calls.
+    pub fn board(&self) -> &Board {
+        &self.beside.board
     }
 
     /// The mark of what this path names among arrivals.
@@ -172,11 +165,7 @@ impl<V: Served> Desk<V> {
         ensures err { IfErr result (λ _. ⊥) }
     {
         let mut passes = passes;
-        let Desk {
-            table,
-            bells: _,
-            arrivals: _,
-        } = self;
+        let Desk { table, beside: _ } = self;
         let Pass { badge } = passes.pop().unwrap();
         let mut place: Place<V> = badge.into_seat();
         gather_all(&table.shared, &mut place, passes);
@@ -184,4 +173,13 @@ impl<V: Served> Desk<V> {
         let report = value.tally();
         Ok((value, report))
     }
+}
+
+// Room for so many passes, and what a desk has beside its table.
+fn room_for(alloc: Global, passes: usize) -> Result<(Vec<Pass>, Beside), AllocError>
+    ensures { IfOk result (λ r. (r.0.items ≡ []) × (passes ≤ vec_capacity r.0)) }
+{
+    let room = Vec::with_capacity(alloc, passes)?;
+    let beside = Beside::new(alloc)?;
+    Ok((room, beside))
 }

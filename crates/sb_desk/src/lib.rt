@@ -12,7 +12,8 @@
 //! that each step keeps (`specs/Rule`); beside it words on which seats sleep, of which who leaves rings
 //! the one of the next ticket. Nothing is said of who comes first, nor that anybody is
 //! served. A step also tells, as hints, for which entities something came and when the next thing comes
-//! due; whoever waits for a message may ask the desk for that.
+//! due; whoever waits for a message may ask the desk for that. What its calls and connections come to in numbers
+//! stands on its board, for who looks after them.
 //!
 //! ```text
 //! let (desk, passes) = Desk::new(alloc, namespace, 8)?;
@@ -24,6 +25,7 @@
 
 mod arrivals;
 mod bells;
+mod beside;
 mod closing;
 mod desk;
 mod notes;

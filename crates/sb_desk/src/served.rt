@@ -12,6 +12,7 @@ ghost use Rattle.sb_desk.specs.declared.report.Origin.{Origin};
 
 use crate::Report;
 use sb_machine::{Answer, Call, Path};
+use sb_numbers::JournalSizes;
 
 /// What a step came to.
 #[derive(Drop)]
@@ -25,6 +26,8 @@ pub struct Stepped {
     /// Nothing comes due by itself before this moment, in ms since 1970; `u64::MAX` where nothing does. A
     /// hint too.
     pub soonest: u64,
+    /// What its journal has behind this step. A hint too.
+    pub sizes: JournalSizes,
 }
 
 /// A namespace that answers calls, each by one entry of a history and at most a tick before it.

@@ -11,8 +11,8 @@ ghost use Rattle.sb_desk.specs.Rule.{word, ticket_of, log_of};
 ghost use Rattle.sb_desk.specs.Spared.{Spares};
 ghost use Rattle.sb_desk.specs.Steps.{IsSized, placed, with_made};
 
-use crate::arrivals::Arrivals;
 use crate::bells::{Bells, bell_of};
+use crate::beside::Beside;
 use crate::plays::{Draw, Give, Leave, Look, Record, Take};
 use crate::view::{Held, Key, Made, Turns, View};
 use crate::{Served, Stepped};
@@ -39,8 +39,7 @@ const SERVING: usize = 2;
 pub(crate) fn serve_one<V: Served, R: Wait>(
     rt: &R,
     top: &Top<V>,
-    bells: &Bells,
-    arrivals: &Arrivals,
+    beside: &Beside,
     place: &mut Place<V>,
     reading: u64,
     call: &Call,
@@ -56,13 +55,13 @@ pub(crate) fn serve_one<V: Served, R: Wait>(
     ensures seats { HaveSeatsBelow place.new.me.0.passes place.new.me.0.seen }
 {
     let ticket = draw(top, place);
-    wait(rt, top, bells, place, ticket);
+    wait(rt, top, &beside.bells, place, ticket);
     let mut value = take_out(top, place);
     let stepped = value.step(reading, call);
     record_step(top, place, value, reading, call, &stepped);
     give_back(top, place);
-    arrivals.note(&stepped);
-    leave(top, bells, place);
+    beside.note(&stepped);
+    leave(top, &beside.bells, place);
     stepped.answer
 }
 

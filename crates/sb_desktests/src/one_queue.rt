@@ -5,6 +5,7 @@ ghost use Rattle.sb_desktests.specs.Namespaces.{creation, no_disks, none_spared,
 
 use sb_desk::{Report, Served, Stepped};
 use sb_machine::{Act, Answer, Answered, Call, Description, Path, Refusal, Reply};
+use sb_numbers::JournalSizes;
 
 /// The begin of 9999-12-31, in ms since 1970: the last moment that counts.
 const MAX_MOMENT: u64 = 253_402_214_400_000;
@@ -79,6 +80,11 @@ impl Served for OneQueue {
             tick: None,
             entered: 0,
             soonest: u64::MAX,
+            sizes: JournalSizes {
+                records: 0,
+                bytes: 0,
+                syncs: 0,
+            },
         }
     }
 

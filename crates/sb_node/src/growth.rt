@@ -1,6 +1,9 @@
 // How far a journal has grown, and when that is enough to go on with a new file.
 ghost use Rattle.std.specs.Prelude.{◌≡◌, true, nat_lt};
 
+// The bytes of a file without a base and records: its head and the gate of the next record.
+const HEAD: u64 = 43;
+
 /// When a journal goes on with a new file by itself. All are numbers of bytes, and but for the first hints.
 #[derive(Clone, Copy)]
 pub(crate) struct Growth {
@@ -39,6 +42,13 @@ impl Growth {
         records > self.checkpoint_after
             && records >= self.base.saturating_mul(2)
             && records >= self.least
+    }
+
+    /// How many bytes its file has, where since the opening, or since it went on, so much was written. A hint.
+    pub(crate) fn bytes(&self, written: u64) -> u64 {
+        HEAD.saturating_add(self.base)
+            .saturating_add(self.opened)
+            .saturating_add(written)
     }
 
     /// It went on with a file whose base takes so much.

@@ -30,6 +30,7 @@ impl<D: Disk> Served for Node<D> {
             tick,
             entered,
             soonest: self.soonest(),
+            sizes: self.sizes(),
         }
     }
 

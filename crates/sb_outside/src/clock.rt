@@ -13,4 +13,8 @@ pub trait Clock {
 
     /// Lets a little time pass, for a caller that asks again.
     fn pause(&self);
+
+    /// Microseconds since some moment, for who measures how long something takes. No clause says anything of
+    /// it, and nothing that the namespace does depends on it.
+    fn micros(&self) -> u64;
 }

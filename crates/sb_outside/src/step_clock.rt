@@ -45,4 +45,8 @@ impl Clock for StepClock {
     fn pause(&self) {
         self.pauses.fetch_add(1, Ordering::SeqCst);
     }
+
+    fn micros(&self) -> u64 {
+        self.now().wrapping_mul(1000)
+    }
 }

@@ -1,6 +1,6 @@
 -- REST, in the order to read it: Queries, Timeouts, Values, Lifetimes, Brokers, Reserved, Headers, Batches, Repeats, Dispositions, Entities, Peeks, Callers (the
--- parts of a request); Lines, Calls (which request asks for which call); Moments, Escapes, Shown, Forms, Sessions, Pages, Responses, Sights (what answers
--- it); Worked.
+-- parts of a request); Lines, Calls (which request asks for which call); Moments, Escapes, Shown, Forms, Sessions, Pages, Responses, Expositions, ServerNumbers,
+-- Sights (what answers it); Worked.
 pub mod Queries
 pub mod Timeouts
 pub mod Values
@@ -23,5 +23,7 @@ pub mod Sessions
 pub mod Pages
 pub mod Peeks
 pub mod Responses
+pub mod Expositions
+pub mod ServerNumbers
 pub mod Sights
 pub mod Worked

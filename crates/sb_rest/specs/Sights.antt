@@ -1,6 +1,6 @@
--- What an operator sees at a path of its own: whether the namespace acts, and how many messages stand how, as the line of the reply has it or for
--- who gathers such numbers (Prometheus, Exposition formats, "Text-based format").
-use Rattle.std.specs.Prelude.{◌≡◌, ℕ, ◌/◌, ◌%◌, nat_lt, Bool, false, List, [], ◌∷◌, ◌++◌, codes, Option, Some, None, Result, Ok, Err, if◌then◌else◌}
+-- What an operator sees at a path of its own: whether the namespace acts, how many messages stand how, and what the server does, as the line of the
+-- reply has it or for who gathers such numbers (Prometheus, Exposition formats, "Text-based format").
+use Rattle.std.specs.Prelude.{◌≡◌, ℕ, ◌-◌, ◌/◌, ◌%◌, nat_lt, Bool, true, false, List, [], ◌∷◌, ◌++◌, codes, length, take, Option, Some, None, Result, Ok, Err, if◌then◌else◌}
 use Rattle.std.specs.Fmt.{decimal}
 use Rattle.std.specs.List.{flat_map}
 use Rattle.serde_json.specs.Written.{compact_text}
@@ -17,9 +17,12 @@ use Rattle.sb_http.specs.declared.response.Status.TheVariants as status
 use Rattle.sb_http.specs.Responses.{ResponseMessage}
 use Rattle.sb_lines.specs.Replies.{answer_data}
 use Rattle.sb_lines.specs.declared.form.Form.TheVariants.{Plain}
+use Rattle.sb_numbers.specs.declared.numbers.Numbers.{Numbers}
 use Rattle.sb_rest.specs.declared.asked.Sight.{Sight}
 use Rattle.sb_rest.specs.declared.asked.Sight.TheVariants as sight
+use Rattle.sb_rest.specs.Expositions.{about, label, value_text}
 use Rattle.sb_rest.specs.Responses.{GivesAnswer, GivesRefusal, bare, refusal_text, refusal_ends}
+use Rattle.sb_rest.specs.ServerNumbers.{server_text, numbers_text}
 use Rattle.sb_rest.specs.Shown.{address_text}
 
 -- what is asked for, of this media type
@@ -52,7 +55,22 @@ abbrev pub GivesLine : Result Answered Refusal → ResponseMessage → Type 0
 GivesLine (Err refused) r = GivesRefusal refused r
 GivesLine (Ok answered) r = r ≡ text_response json_type (line_text (Ok answered))
 
--- ---- numbers
+-- ---- the same with the numbers of the server
+
+-- without its last byte
+abbrev pub without_last : List ℕ → List ℕ
+without_last text = take (length text - 1) text
+
+-- one key more, `server`, behind those of the reply's object
+unfoldable pub status_text : Result Answered Refusal → Numbers → List ℕ
+status_text answer numbers = without_last (line_text answer) ++ codes ",\"server\":" ++ server_text numbers ++ codes "}"
+
+-- this is the response where the list is asked for with them
+abbrev pub GivesStatus : Result Answered Refusal → Numbers → ResponseMessage → Type 0
+GivesStatus (Err refused) numbers r = GivesRefusal refused r
+GivesStatus (Ok answered) numbers r = r ≡ text_response json_type (status_text (Ok answered) numbers)
+
+-- ---- metrics
 
 abbrev pub metrics_type : List ℕ
 metrics_type = codes "text/plain; version=0.0.4; charset=utf-8"
@@ -60,18 +78,6 @@ metrics_type = codes "text/plain; version=0.0.4; charset=utf-8"
 -- a metric of an entity, by its address: a name has small letters, digits and `._-` alone, so it needs no escapes in quotes
 unfoldable pub of_entity : List ℕ → Path → List ℕ
 of_entity name path = name ++ codes "{entity=\"" ++ address_text path ++ codes "\""
-
--- one more label of it
-unfoldable pub label : List ℕ → List ℕ → List ℕ
-label name value = codes "," ++ name ++ codes "=\"" ++ value ++ codes "\""
-
--- its value, which ends the line
-unfoldable pub value_text : List ℕ → List ℕ
-value_text value = codes "} " ++ value ++ codes "\n"
-
--- what a metric is, and that it may rise and fall
-unfoldable pub about : List ℕ → List ℕ → List ℕ
-about name help = codes "# HELP " ++ name ++ codes " " ++ help ++ codes "\n# TYPE " ++ name ++ codes " gauge\n"
 
 -- how many messages of a part stand so
 unfoldable pub messages_line : Path → List ℕ → List ℕ → ℕ → List ℕ
@@ -110,43 +116,55 @@ sessions_line path state n = of_entity (codes "zolmutarn_sessions") path ++ labe
 unfoldable pub sessions_lines : EntityShown → List ℕ
 sessions_lines e = if nat_lt 0 e.sessions then sessions_line e.path (codes "held") e.held_sessions ++ sessions_line e.path (codes "known") e.sessions else []
 
--- what each metric says
-abbrev pub messages_help : List ℕ
-messages_help = codes "Messages of a part of an entity, by state."
+-- what each metric is
+unfoldable pub messages_about : List ℕ
+messages_about = about (codes "zolmutarn_messages") (codes "gauge") (codes "Messages of a part of an entity, by state.")
 
-abbrev pub oldest_help : List ℕ
-oldest_help = codes "EnqueuedTime of the oldest message that may be received, in seconds since 1970: time() - it is its age."
+unfoldable pub oldest_about : List ℕ
+oldest_about =
+    about (codes "zolmutarn_oldest_seconds") (codes "gauge")
+    (codes "EnqueuedTime of the oldest message that may be received, in seconds since 1970: time() - it is its age.")
 
-abbrev pub sessions_help : List ℕ
-sessions_help = codes "Sessions of an entity that are held, and all that are known."
+unfoldable pub sessions_about : List ℕ
+sessions_about = about (codes "zolmutarn_sessions") (codes "gauge") (codes "Sessions of an entity that are held, and all that are known.")
 
 -- the lines of a metric stand together, in order of the entities: of messages
 unfoldable pub messages_text : List EntityShown → List ℕ
-messages_text rows = about (codes "zolmutarn_messages") messages_help ++ flat_map messages_lines rows
+messages_text rows = messages_about ++ flat_map messages_lines rows
 
 -- of the oldest
 unfoldable pub oldest_text : List EntityShown → List ℕ
-oldest_text rows = about (codes "zolmutarn_oldest_seconds") oldest_help ++ flat_map oldest_lines rows
+oldest_text rows = oldest_about ++ flat_map oldest_lines rows
 
 -- of sessions
 unfoldable pub sessions_text : List EntityShown → List ℕ
-sessions_text rows = about (codes "zolmutarn_sessions") sessions_help ++ flat_map sessions_lines rows
+sessions_text rows = sessions_about ++ flat_map sessions_lines rows
 
--- all metrics
-unfoldable pub metrics_text : List EntityShown → List ℕ
-metrics_text rows = messages_text rows ++ oldest_text rows ++ sessions_text rows
+-- all metrics, those of the server behind those of the entities
+unfoldable pub metrics_text : List EntityShown → Numbers → List ℕ
+metrics_text rows numbers = messages_text rows ++ oldest_text rows ++ sessions_text rows ++ numbers_text numbers
 
--- this is the response where numbers are asked for; another reply is an error of the server's own
-abbrev pub GivesMetrics : Result Answered Refusal → ResponseMessage → Type 0
-GivesMetrics (Err refused) r = GivesRefusal refused r
-GivesMetrics (Ok (New (Seen (Entities rows)))) r = r ≡ text_response metrics_type (metrics_text rows)
-GivesMetrics (Ok _) r = r ≡ bare status.InternalServerError
+-- this is the response where they are asked for; another reply is an error of the server's own
+abbrev pub GivesMetrics : Result Answered Refusal → Numbers → ResponseMessage → Type 0
+GivesMetrics (Err refused) numbers r = GivesRefusal refused r
+GivesMetrics (Ok (New (Seen (Entities rows)))) numbers r = r ≡ text_response metrics_type (metrics_text rows numbers)
+GivesMetrics (Ok _) numbers r = r ≡ bare status.InternalServerError
 
 -- ---- answers
 
--- this is the response to a call that is answered so, where this is asked for; host is that of the request, and json whether it asks for messages as JSON
-abbrev pub Gives : Sight → Act → Result Answered Refusal → List ℕ → Bool → ResponseMessage → Type 0
-Gives sight.Reply act answer host json r = GivesAnswer act answer host json r
-Gives sight.Health act answer host json r = r ≡ health_response answer
-Gives sight.Line act answer host json r = GivesLine answer r
-Gives sight.Metrics act answer host json r = GivesMetrics answer r
+-- this is the response to a call that is answered so, where this is asked for; host is that of the request, json whether it asks for messages as JSON,
+-- and the numbers are the server's
+abbrev pub Gives : Sight → Act → Result Answered Refusal → List ℕ → Bool → Numbers → ResponseMessage → Type 0
+Gives sight.Reply act answer host json numbers r = GivesAnswer act answer host json r
+Gives sight.Health act answer host json numbers r = r ≡ health_response answer
+Gives sight.Line act answer host json numbers r = GivesLine answer r
+Gives sight.Status act answer host json numbers r = GivesStatus answer numbers r
+Gives sight.Metrics act answer host json numbers r = GivesMetrics answer numbers r
+
+-- whether it has some of these numbers
+abbrev pub shows_numbers : Sight → Bool
+shows_numbers sight.Reply = false
+shows_numbers sight.Health = false
+shows_numbers sight.Line = false
+shows_numbers sight.Status = true
+shows_numbers sight.Metrics = true

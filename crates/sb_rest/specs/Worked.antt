@@ -1,5 +1,6 @@
 -- Requests that were worked out by hand, and what they ask for.
-use Rattle.std.specs.Prelude.{ℕ, List, [], ◌∷◌, ◌++◌, codes, Some, None, Result, Ok}
+use Rattle.std.specs.Prelude.{ℕ, Vec, List, [], ◌∷◌, ◌++◌, codes, Some, None, Result, Ok}
+use Rattle.std.specs.declared.alloc.Global.{Global}
 use Rattle.sb_machine.specs.declared.call.Act.{Act}
 use Rattle.sb_machine.specs.declared.call.Act.TheVariants.{Cancel, Receive, ReceiveDeferred, Send, Settle}
 use Rattle.sb_machine.specs.declared.call.How.{How}
@@ -13,6 +14,10 @@ use Rattle.sb_machine.specs.declared.reply.CopyShown.{CopyShown}
 use Rattle.sb_machine.specs.declared.reply.Showing.TheVariants.{Locked}
 use Rattle.sb_model.specs.declared.message.Message.{Message}
 use Rattle.sb_model.specs.declared.message.SystemName.TheVariants.{SessionId}
+use Rattle.sb_numbers.specs.declared.numbers.Bucket.{Bucket}
+use Rattle.sb_numbers.specs.declared.numbers.Counted.{Counted}
+use Rattle.sb_numbers.specs.declared.numbers.JournalSizes.{JournalSizes}
+use Rattle.sb_numbers.specs.declared.numbers.Numbers.{Numbers}
 use Rattle.sb_routes.specs.declared.routes.Address.TheVariants.{Entity}
 use Rattle.sb_routes.specs.declared.routes.Route.{Route}
 use Rattle.sb_http.specs.Fields.{Field}
@@ -132,3 +137,24 @@ showing value = (codes "Authorization", value)
 -- the first message of q, received a second after 1970 began
 abbrev pub first_copy : CopyShown
 first_copy = record { number = 1; enqueued_seq = 1; enqueued = 1000; delivery = 1; message = text_alone (codes "hi"); showing = Locked first_token 61000 }
+
+-- ---- a server
+
+-- a journal with the record of one send
+abbrev pub one_record : JournalSizes
+one_record = record { records = 1; bytes = 43; syncs = 2 }
+
+-- almost 13 s after its begin, with these calls
+abbrev pub young : Vec Counted Global → Vec Bucket Global → Numbers
+young calls spent = record {
+  uptime_ms = 12999;
+  threads = 1;
+  workers = 16;
+  connections = 1;
+  waiting = 0;
+  journal = one_record;
+  calls = calls;
+  spent = spent;
+  spent_micros = 240;
+  called = 1;
+}

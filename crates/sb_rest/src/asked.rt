@@ -31,6 +31,8 @@ pub enum Sight {
     Health,
     /// As the line of a script has it.
     Line,
+    /// As that line, with the numbers of the server.
+    Status,
     /// As numbers, for who gathers such.
     Metrics,
 }
@@ -90,7 +92,7 @@ pub(crate) fn asked_at(route: Route, method: &[u8]) -> Option<Asked>
         Route::SessionDeferred(address) => at_deferred(address, Scope::Session, method),
         Route::SessionLocked(address) => at_session_locked(address, method),
         Route::Health => if_get(method, Asked::Health),
-        Route::Status => if_get(method, Asked::List(Sight::Line)),
+        Route::Status => if_get(method, Asked::List(Sight::Status)),
         Route::Metrics => if_get(method, Asked::List(Sight::Metrics)),
         Route::Peek => if_get(method, Asked::Peek),
         Route::Script | Route::Page => None,

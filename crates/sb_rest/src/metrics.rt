@@ -1,22 +1,29 @@
-// How many messages stand how, as text for who gathers numbers.
+// How many messages stand how, and what the server does, as text for who gathers numbers.
 ghost use Rattle.std.specs.Prelude.{◌≡◌, ◌++◌, IfOk, OnOk, string_bytes};
-ghost use Rattle.std.specs.Fmt.{decimal};
 ghost use Rattle.std.specs.List.{flat_map};
 ghost use Rattle.sb_rest.specs.Sights as sights;
 
+use crate::exposition::{push_about, push_label, push_number, push_value};
 use crate::location::push_address;
+use crate::server_numbers::push_numbers_text;
 use sb_machine::{EntityShown, PartShown, Path};
+use sb_numbers::Numbers;
 use std::alloc::{AllocError, Global};
 
-/// The text of all metrics of these entities.
+/// The text of all metrics of these entities, and of the server behind them.
 #[tactic(auto, unfolding(crate::specs::Sights::metrics_text))]
-pub(crate) fn metrics_text(alloc: Global, rows: &[EntityShown]) -> Result<String, AllocError>
-    ensures { IfOk result (λ s. string_bytes s ≡ sights.metrics_text rows.now) }
+pub(crate) fn metrics_text(
+    alloc: Global,
+    rows: &[EntityShown],
+    numbers: &Numbers,
+) -> Result<String, AllocError>
+    ensures { IfOk result (λ s. string_bytes s ≡ sights.metrics_text rows.now numbers.now) }
 {
     let mut out = String::new(alloc);
     push_messages_text(alloc, &mut out, rows)?;
     push_oldest_text(alloc, &mut out, rows)?;
     push_sessions_text(alloc, &mut out, rows)?;
+    push_numbers_text(alloc, &mut out, numbers)?;
     Ok(out)
 }
 
@@ -30,7 +37,7 @@ fn push_messages_text(
 ) -> Result<(), AllocError>
     ensures { OnOk result (string_bytes out.new ≡ string_bytes out.old ++ sights.messages_text rows.now) }
 {
-    push_about(out, "zolmutarn_messages", messages_help())?;
+    push_messages_about(out)?;
     push_messages(alloc, out, rows)?;
     Ok(())
 }
@@ -39,7 +46,7 @@ fn push_messages_text(
 fn push_oldest_text(alloc: Global, out: &mut String, rows: &[EntityShown]) -> Result<(), AllocError>
     ensures { OnOk result (string_bytes out.new ≡ string_bytes out.old ++ sights.oldest_text rows.now) }
 {
-    push_about(out, "zolmutarn_oldest_seconds", oldest_help())?;
+    push_oldest_about(out)?;
     push_oldest(alloc, out, rows)?;
     Ok(())
 }
@@ -52,46 +59,48 @@ fn push_sessions_text(
 ) -> Result<(), AllocError>
     ensures { OnOk result (string_bytes out.new ≡ string_bytes out.old ++ sights.sessions_text rows.now) }
 {
-    push_about(out, "zolmutarn_sessions", sessions_help())?;
+    push_sessions_about(out)?;
     push_sessions(alloc, out, rows)?;
     Ok(())
 }
 
 // ---- what a metric is
 
-fn messages_help() -> &'static str
-    ensures { result.now ≡ sights.messages_help }
+#[tactic(auto, unfolding(crate::specs::Sights::messages_about))]
+fn push_messages_about(out: &mut String) -> Result<(), AllocError>
+    ensures { OnOk result (string_bytes out.new ≡ string_bytes out.old ++ sights.messages_about) }
 {
-    "Messages of a part of an entity, by state."
+    push_about(
+        out,
+        "zolmutarn_messages",
+        "gauge",
+        "Messages of a part of an entity, by state.",
+    )
 }
 
-fn oldest_help() -> &'static str
-    ensures { result.now ≡ sights.oldest_help }
+#[tactic(auto, unfolding(crate::specs::Sights::oldest_about))]
+fn push_oldest_about(out: &mut String) -> Result<(), AllocError>
+    ensures { OnOk result (string_bytes out.new ≡ string_bytes out.old ++ sights.oldest_about) }
 {
-    "EnqueuedTime of the oldest message that may be received, in seconds since 1970: time() - it is its age."
+    push_about(
+        out,
+        "zolmutarn_oldest_seconds",
+        "gauge",
+        "EnqueuedTime of the oldest message that may be received, in seconds since 1970: time() - it is its age.",
+    )
 }
 
-fn sessions_help() -> &'static str
-    ensures { result.now ≡ sights.sessions_help }
+#[tactic(auto, unfolding(crate::specs::Sights::sessions_about))]
+fn push_sessions_about(out: &mut String) -> Result<(), AllocError>
+    ensures { OnOk result (string_bytes out.new ≡ string_bytes out.old ++ sights.sessions_about) }
 {
-    "Sessions of an entity that are held, and all that are known."
+    push_about(
+        out,
+        "zolmutarn_sessions",
+        "gauge",
+        "Sessions of an entity that are held, and all that are known.",
+    )
 }
-
-// What a metric is, and that it may rise and fall.
-#[tactic(auto, unfolding(crate::specs::Sights::about))]
-fn push_about(out: &mut String, name: &str, help: &str) -> Result<(), AllocError>
-    ensures { OnOk result (string_bytes out.new ≡ string_bytes out.old ++ sights.about name.now help.now) }
-{
-    out.push_str("# HELP ")?;
-    out.push_str(name)?;
-    out.push_str(" ")?;
-    out.push_str(help)?;
-    out.push_str("\n# TYPE ")?;
-    out.push_str(name)?;
-    out.push_str(" gauge\n")
-}
-
-// ---- the pieces of a line
 
 // A metric of an entity.
 #[tactic(auto, unfolding(crate::specs::Sights::of_entity))]
@@ -102,28 +111,6 @@ fn push_entity(out: &mut String, name: &str, path: &Path) -> Result<(), AllocErr
     out.push_str("{entity=\"")?;
     push_address(out, path)?;
     out.push_str("\"")
-}
-
-// One more label of it.
-#[tactic(auto, unfolding(crate::specs::Sights::label))]
-fn push_label(out: &mut String, name: &str, value: &str) -> Result<(), AllocError>
-    ensures { OnOk result (string_bytes out.new ≡ string_bytes out.old ++ sights.label name.now value.now) }
-{
-    out.push_str(",")?;
-    out.push_str(name)?;
-    out.push_str("=\"")?;
-    out.push_str(value)?;
-    out.push_str("\"")
-}
-
-// Its value, which ends the line.
-#[tactic(auto, unfolding(crate::specs::Sights::value_text))]
-fn push_value(out: &mut String, value: &str) -> Result<(), AllocError>
-    ensures { OnOk result (string_bytes out.new ≡ string_bytes out.old ++ sights.value_text value.now) }
-{
-    out.push_str("} ")?;
-    out.push_str(value)?;
-    out.push_str("\n")
 }
 
 // ---- messages
@@ -185,13 +172,6 @@ fn push_messages(alloc: Global, out: &mut String, rows: &[EntityShown]) -> Resul
 }
 
 // ---- the oldest message
-
-fn push_number(alloc: Global, out: &mut String, n: u64) -> Result<(), AllocError>
-    ensures { OnOk result (string_bytes out.new ≡ string_bytes out.old ++ decimal n) }
-{
-    let digits = n.to_string(alloc)?;
-    out.push_str(digits.as_str())
-}
 
 // A moment in ms since 1970, in seconds with three decimals.
 #[tactic(auto, unfolding(crate::specs::Sights::seconds_text))]

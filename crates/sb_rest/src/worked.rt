@@ -1,5 +1,6 @@
 // Requests and their calls, worked out by hand.
-ghost use Rattle.std.specs.Prelude.{◌≡◌, ◌∷◌, [], codes, true, false, replicate, Err, None, Ok, Some, pos, neg_ℤ};
+ghost use Rattle.std.specs.Prelude.{◌≡◌, ◌∷◌, [], codes, true, false, replicate, Vec, Err, None, Ok, Some, pos, neg_ℤ};
+ghost use Rattle.std.specs.declared.alloc.Global.{Global};
 ghost use Rattle.serde_json.specs.Data.{string};
 ghost use Rattle.serde_json.specs.Read.{read};
 ghost use Rattle.sb_machine.specs.declared.reply.Refusal.TheVariants.{BadCall, NotDeferred, NotScheduled, SessionLost, SessionNotAllowed, Stopped};
@@ -11,6 +12,10 @@ ghost use Rattle.sb_machine.specs.declared.call.Part.TheVariants.{Main};
 ghost use Rattle.sb_machine.specs.declared.call.Which.TheVariants.{Id};
 ghost use Rattle.sb_machine.specs.declared.reply.Receipt.TheVariants.{Number, Duplicate};
 ghost use Rattle.sb_machine.specs.declared.reply.Reply.TheVariants.{Sent, State};
+ghost use Rattle.sb_numbers.specs.declared.kind.Kind.TheVariants as kind;
+ghost use Rattle.sb_numbers.specs.declared.kind.Outcome.TheVariants as outcome;
+ghost use Rattle.sb_numbers.specs.declared.numbers.Bucket.{Bucket};
+ghost use Rattle.sb_numbers.specs.declared.numbers.Counted.{Counted};
 ghost use Rattle.sb_routes.specs.declared.routes.Address.TheVariants.{Entity};
 ghost use Rattle.sb_routes.specs.declared.routes.Route.TheVariants.{Messages, Deferred, Locked, Scheduled};
 ghost use Rattle.sb_routes.specs.declared.routes.Route.TheVariants.{NamedSession, HeldSession, SessionState, SessionHead, SessionDeferred, SessionLocked};
@@ -30,9 +35,10 @@ ghost use Rattle.sb_rest.specs.Lifetimes.{span_in};
 ghost use Rattle.sb_rest.specs.Values.{header_value};
 ghost use Rattle.sb_rest.specs.Repeats as repeats;
 ghost use Rattle.sb_rest.specs.Responses.{refusal_status, refusal_text, method_response, key_response, sent_response, accepted_response, held_response, state_response};
+ghost use Rattle.sb_rest.specs.ServerNumbers.{server_text, calls_text, bucket_of, journal_text};
 ghost use Rattle.sb_rest.specs.Shown.{broker_text, location_text, place_of, property_fields};
 ghost use Rattle.sb_rest.specs.Worked.{request, sends, takes, takes_as, living, text_alone, q, unlocked, hosted, keyed, showing, waiting, takes_deferred, cancels, puts, settles, why, first_token, first_copy, with_umlaut, smile};
-ghost use Rattle.sb_rest.specs.Worked.{held, makes, of_session, on};
+ghost use Rattle.sb_rest.specs.Worked.{held, makes, of_session, on, one_record, young};
 
 /// The definitions say of these requests what was worked out by hand.
 pub fn worked_calls()
@@ -224,4 +230,15 @@ pub fn worked_session_responses()
     ensures no_state { (state_response (State None)).status ≡ status.NoContent }
     ensures allow_state { (method_response (SessionState (Entity Main))).fields ≡ (codes "Allow", codes "GET, PUT") ∷ [] }
     ensures allow_locked { (method_response (SessionLocked (Entity Main))).fields ≡ (codes "Allow", codes "DELETE, PUT") ∷ [] }
+{}
+
+/// The same of the numbers of a server.
+pub fn worked_server_numbers()
+    ensures server { (calls : Vec Counted Global) → (spent : Vec Bucket Global) → server_text (young calls spent)
+        ≡ codes "{\"connections\":1,\"journal_bytes\":43,\"journal_records\":1,\"syncs\":2,\"threads\":1,\"uptime_seconds\":12,\"version\":\"0.1.0\",\"waiting\":0,\"workers\":16}" }
+    ensures calls { calls_text (record { kind = kind.CreateQueue; outcome = outcome.Refused; count = 10 } ∷ [])
+        ≡ codes "# HELP zolmutarn_calls_total Calls since the server began, by what they ask for and how they were answered.\n# TYPE zolmutarn_calls_total counter\nzolmutarn_calls_total{act=\"create-queue\",answer=\"refused\"} 10\n" }
+    ensures bucket { bucket_of (record { most = 250; count = 1 }) ≡ codes "zolmutarn_call_microseconds_bucket{le=\"250\"} 1\n" }
+    ensures journal { journal_text one_record
+        ≡ codes "# HELP zolmutarn_syncs_total Syncs of the journal's records since the server began, two for each record.\n# TYPE zolmutarn_syncs_total counter\nzolmutarn_syncs_total 2\n# HELP zolmutarn_journal_records_total Records of the journal since the namespace began.\n# TYPE zolmutarn_journal_records_total counter\nzolmutarn_journal_records_total 1\n# HELP zolmutarn_journal_bytes Bytes of the journal's file.\n# TYPE zolmutarn_journal_bytes gauge\nzolmutarn_journal_bytes 43\n" }
 {}

@@ -6,6 +6,7 @@ use crate::http::{request_of, response_bytes};
 use crate::journals::Journals;
 use crate::outcome::{Outcome, differing, no_such_key};
 use crate::requests::found_in;
+use crate::server::server_numbers;
 use crate::table::{Case, Line};
 use anyhow::{Context, Result, bail, ensure};
 use sb_http::{Incoming, Request, Response, write_response};
@@ -166,9 +167,11 @@ fn response_to_call(
 ) -> Result<Response, AllocError>
     requires order { IsActInOrder call.now.act }
 {
+    let numbers = server_numbers(alloc)?;
     let answer = node.step(moment, call);
-    let response = response_of(alloc, sight, call, &answer, host, json);
+    let response = response_of(alloc, sight, call, &answer, host, json, &numbers);
     drop(answer);
+    drop(numbers);
     response
 }
 

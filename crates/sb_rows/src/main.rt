@@ -24,6 +24,7 @@ mod outcome;
 mod refusals;
 mod requests;
 mod scripts;
+mod server;
 mod table;
 mod texts;
 

@@ -6,6 +6,7 @@ use anyhow::{Result, bail};
 use sb_http::{Response, write_response};
 use sb_machine::{Act, Call, Mode, Part, Path, Refusal};
 use sb_model::Text;
+use sb_numbers::Numbers;
 use sb_rest::{Sight, response_of};
 use std::alloc::{AllocError, Global};
 
@@ -70,9 +71,11 @@ fn refusal_named(alloc: Global, name: &str) -> Result<Refusal> {
 
 // The response to a call that is refused so.
 fn response_to(alloc: Global, call: &Call, refusal: Refusal) -> Result<Vec<u8>, AllocError> {
+    let numbers = Numbers::none(alloc);
     let answer = Err(refusal);
-    let response = response_of(alloc, Sight::Reply, call, &answer, b"h", false);
+    let response = response_of(alloc, Sight::Reply, call, &answer, b"h", false, &numbers);
     drop(answer);
+    drop(numbers);
     written(alloc, response?)
 }
 

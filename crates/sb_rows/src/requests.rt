@@ -44,6 +44,7 @@ fn manner(wanted: &str) -> (Sight, u64, &str) {
         "health" => (Sight::Health, 0, line),
         "line" => (Sight::Line, 0, line),
         "metrics" => (Sight::Metrics, 0, line),
+        "status" => (Sight::Status, 0, line),
         _ => (Sight::Reply, word.parse::<u64>().unwrap_or(60), line),
     }
 }

@@ -17,6 +17,7 @@ use Rattle.sb_http.specs.Responses.{ResponseMessage, response_bytes}
 use Rattle.sb_lines.specs.Replies.{answer_line}
 use Rattle.sb_lines.specs.declared.form.Form.{Form}
 use Rattle.sb_lines.specs.declared.form.Form.TheVariants.{Plain}
+use Rattle.sb_numbers.specs.declared.numbers.Numbers.{Numbers}
 use Rattle.sb_rest.specs.declared.access.Access.{Access}
 use Rattle.sb_rest.specs.Callers.{is_foreign}
 use Rattle.sb_rest.specs.Calls.{may_call}
@@ -51,9 +52,10 @@ IsOne IsReading seat call made answer = (tick : Option ℕ) × (reading : ℕ) �
 abbrev pub closed : Bool → ResponseMessage → ResponseMessage
 closed closes said = record said { ends = said.ends || closes }
 
--- the bytes of the response to a call
+-- the bytes of the response to a call; which numbers of the server it shows, where it is asked for them, nothing promises
 abbrev pub AnswersCall : Wanted → Result Answered Refusal → Asker → Bool → List ℕ → Type 0
-AnswersCall w answer asker closes out = (said : ResponseMessage) × Gives w.sight w.call.act answer asker.host asker.json said × (out ≡ response_bytes (closed closes said))
+AnswersCall w answer asker closes out =
+    (numbers : Numbers) × (said : ResponseMessage) × Gives w.sight w.call.act answer asker.host asker.json numbers said × (out ≡ response_bytes (closed closes said))
 
 -- the bytes of the response to a script line: the line of its reply in the form that it asks for, which ends the
 -- connection too where the namespace acts no more

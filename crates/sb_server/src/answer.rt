@@ -38,7 +38,7 @@ pub(crate) fn answer<V: Served, R: Wait, C: Clock>(
 {
     match ask {
         Ask::Once { wanted, asker } => {
-            let (pass, answer) = call_once(rt, desk, pass, clock.now(), &wanted.call);
+            let (pass, answer) = call_once(rt, desk, pass, clock, clock.now(), &wanted.call);
             let said = Said::Call {
                 wanted,
                 asker,
@@ -50,7 +50,7 @@ pub(crate) fn answer<V: Served, R: Wait, C: Clock>(
             ask_first(rt, desk, pass, clock, waiter, limit_ms, closes)
         }
         Ask::Line { line } => {
-            let (pass, answer) = call_once(rt, desk, pass, clock.now(), &line.timed.call);
+            let (pass, answer) = call_once(rt, desk, pass, clock, clock.now(), &line.timed.call);
             let form = line.form;
             drop(line);
             let said = Said::Line { form, answer };
@@ -86,7 +86,7 @@ fn ask_first<V: Served, R: Wait, C: Clock>(
     ensures in_order { IsBegunInOrder result.1 }
 {
     let first_ms = clock.now();
-    let (pass, answer) = call_once(rt, desk, pass, first_ms, waiter.call());
+    let (pass, answer) = call_once(rt, desk, pass, clock, first_ms, waiter.call());
     let patience = Patience {
         waiter,
         limit_ms,
@@ -122,7 +122,7 @@ pub(crate) fn ask_again<V: Served, R: Wait, C: Clock>(
         answer: _,
     } = patience;
     let asked_ms = clock.now();
-    let (pass, answer) = call_once(rt, desk, pass, asked_ms, waiter.call());
+    let (pass, answer) = call_once(rt, desk, pass, clock, asked_ms, waiter.call());
     let patience = Patience {
         waiter,
         limit_ms,

@@ -39,6 +39,7 @@ pub fn serve_connection<V: Served, R: Wait, C: Clock, N: Conn>(
     let Ok(mut inbox) = Inbox::new(alloc) else {
         return (pass, Ending::OutOfMemory);
     };
+    desk.board().opened();
     let mut current = pass;
     let mut doing = Doing::Reads;
     let mut since = Since::Never;
@@ -53,6 +54,7 @@ pub fn serve_connection<V: Served, R: Wait, C: Clock, N: Conn>(
             Went::On => {}
             Went::NothingYet | Went::Blocked => clock.pause(),
             Went::Over(ending) => {
+                desk.board().ended();
                 drop(doing);
                 return (current, ending);
             }

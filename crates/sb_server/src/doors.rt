@@ -58,6 +58,7 @@ where
     ensures serves { Serving (Working (ServesBy (C.reads clock.now) access.now limits D.Conn.left D.Conn.given D.Conn.reads D.Conn.writes) D.left D.taken D.ended D.count D.out desk.now most) passes.old.items passes.new.items doors.old.items doors.new.items result }
     ensures desk { (length passes.new.items ≡ length passes.old.items) × Each (IsOf desk.now) passes.new.items }
 {
+    begins(desk, clock, lobby, doors.len());
     let Ok(room) = Vec::with_capacity(alloc, doors.len()) else {
         return ServeEnding::OutOfMemory;
     };
@@ -77,6 +78,13 @@ where
     let ending = ending_of(jobs.as_slice());
     put_back(jobs, passes, doors);
     ending
+}
+
+// Notes on the desk's board when the server begins, and with how many threads and workers.
+fn begins<V: Served, C: Clock, L: Lobby>(desk: &Desk<V>, clock: &C, lobby: &L, workers: usize) {
+    let threads = workers.div_ceil(lobby.share().max(1));
+    desk.board()
+        .begins(clock.now(), threads as u64, workers as u64);
 }
 
 // Shares the workers among threads, each of which goes round its own.

@@ -6,7 +6,9 @@
 //! [`receive_waiting`] is a call that waits: a receive, or the accept of a session. It stands on `sb_desk` for calls,
 //! `sb_http` for the bytes of requests and responses, `sb_rest` and `sb_lines` for what they ask for,
 //! and `sb_outside` for connections and the clock. A connection whose other side is slower than its
-//! [`Limits`] is ended; nothing is said of how long a worker waits.
+//! [`Limits`] is ended; nothing is said of how long a worker waits. Connections, calls and what waits are counted
+//! on the desk's board (`sb_numbers`), whose numbers the responses show that are asked for them; nothing is said of
+//! these either.
 //!
 //! ```text
 //! let routes = Routes::new(alloc)?;
@@ -23,6 +25,7 @@ mod ask;
 mod body;
 mod came;
 mod connection;
+mod counting;
 mod doing;
 mod doors;
 mod ending;

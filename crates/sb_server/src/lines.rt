@@ -78,7 +78,7 @@ pub(crate) fn call_on<V: Served, R: Wait, C: Clock>(
     let mut script = script;
     match script.left.pop_front() {
         Some(LineAsk::Call { line }) => {
-            let (pass, answer) = call_once(rt, desk, pass, clock.now(), &line.timed.call);
+            let (pass, answer) = call_once(rt, desk, pass, clock, clock.now(), &line.timed.call);
             let form = line.form;
             drop(line);
             turn(doing, Doing::Says(script, form, answer));

@@ -9,15 +9,17 @@ ghost use Rattle.sb_server.specs.Talks as talks;
 
 use crate::answer::{answer, ask_again};
 use crate::came::Came;
+use crate::counting::{asked_again, asked_first};
 use crate::doing::{Doing, Outgoing, Went, begin, behind, turn};
 use crate::ending::Ending;
 use crate::inbox::Inbox;
 use crate::lines::{call_on, say_on, take_script};
-use crate::telling::{Telling, farewell, response_to};
+use crate::telling::{Said, Telling, farewell, response_to};
 use sb_desk::{Desk, Pass, Served};
 use sb_http::{HttpFault, Response, Status, write_response};
+use sb_numbers::Numbers;
 use sb_outside::{Clock, Conn};
-use sb_rest::Access;
+use sb_rest::{Access, shows_numbers};
 use sb_routes::Routes;
 use std::alloc::{AllocError, Global};
 use std::mem;
@@ -63,7 +65,7 @@ pub(crate) fn step<V: Served, R: Wait, C: Clock, N: Conn>(
             turn(doing, Doing::Calls(script));
             (pass, Went::On)
         }
-        Doing::Tells(telling) => match tell_on(alloc, access, clock, conn, telling) {
+        Doing::Tells(telling) => match tell_on(alloc, access, desk, clock, conn, telling) {
             Some(outgoing) => {
                 turn(doing, Doing::Writes(outgoing));
                 (pass, Went::On)
@@ -105,6 +107,7 @@ fn read_on<V: Served, R: Wait, C: Clock, N: Conn>(
     match inbox.next(rt, alloc, routes, access, conn) {
         Came::Asked(ask, closes) => {
             let (pass, begun) = answer(rt, alloc, desk, pass, clock, ask, closes);
+            asked_first(desk.board(), &begun);
             (pass, begin(doing, begun))
         }
         Came::NothingYet => (pass, Went::NothingYet),
@@ -143,17 +146,20 @@ fn wait_on<V: Served, R: Wait, C: Clock, N: Conn>(
         unreachable!()
     };
     if inbox.watch(alloc, conn) {
+        desk.board().goes_on();
         turn(doing, Doing::Tells(farewell(patience)));
         return (pass, Went::On);
     }
     let (pass, begun) = ask_again(rt, desk, pass, clock, patience);
+    asked_again(desk.board(), &begun);
     (pass, begin(doing, begun))
 }
 
 // Begins to write a response, if there is memory for it.
-fn tell_on<C: Clock, N: Conn>(
+fn tell_on<V: Served, C: Clock, N: Conn>(
     alloc: Global,
     access: &Access,
+    desk: &Desk<V>,
     clock: &C,
     conn: &mut N,
     telling: &Telling,
@@ -164,8 +170,7 @@ fn tell_on<C: Clock, N: Conn>(
     ensures reads { N.reads conn.new ≡ N.reads conn.old }
 {
     let _ = access;
-    let _ = clock;
-    let Ok(bytes) = response_to(alloc, telling) else {
+    let Ok(bytes) = bytes_for(alloc, desk, clock, telling) else {
         return None;
     };
     conn.answered(&bytes);
@@ -174,6 +179,34 @@ fn tell_on<C: Clock, N: Conn>(
         at: 0,
         after: telling.after,
     })
+}
+
+// The bytes of the response.
+fn bytes_for<V: Served, C: Clock>(
+    alloc: Global,
+    desk: &Desk<V>,
+    clock: &C,
+    telling: &Telling,
+) -> Result<Vec<u8>, AllocError>
+    ensures { IfOk result (λ v. doings.Says telling.now.said telling.now.closes v.items) }
+{
+    let numbers = numbers_for(alloc, desk, clock, telling)?;
+    response_to(alloc, telling, &numbers)
+}
+
+// The numbers of the server, where the response shows some.
+fn numbers_for<V: Served, C: Clock>(
+    alloc: Global,
+    desk: &Desk<V>,
+    clock: &C,
+    telling: &Telling,
+) -> Result<Numbers, AllocError> {
+    if let Said::Call { wanted, .. } = &telling.said {
+        if shows_numbers(wanted.sight) {
+            return desk.board().numbers(alloc, clock.now());
+        }
+    }
+    Ok(Numbers::none(alloc))
 }
 
 // Writes some more of a response.

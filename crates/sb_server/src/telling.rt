@@ -13,6 +13,7 @@ use crate::patience::Patience;
 use sb_http::{Header, Response, Status, write_response};
 use sb_lines::{Form, reply_line};
 use sb_machine::{Answer, Refusal};
+use sb_numbers::Numbers;
 use sb_rest::{RestFault, Wanted, fault_response, line_response, response_of};
 use std::alloc::{AllocError, Global};
 
@@ -111,8 +112,12 @@ pub(crate) fn farewell(patience: Patience) -> Telling
     }
 }
 
-/// The bytes of the response.
-pub(crate) fn response_to(alloc: Global, telling: &Telling) -> Result<Vec<u8>, AllocError>
+/// The bytes of the response, which shows these numbers where it is asked for them.
+pub(crate) fn response_to(
+    alloc: Global,
+    telling: &Telling,
+    numbers: &Numbers,
+) -> Result<Vec<u8>, AllocError>
     ensures { IfOk result (λ v. doings.Says telling.now.said telling.now.closes v.items) }
 {
     let closes = telling.closes;
@@ -121,7 +126,7 @@ pub(crate) fn response_to(alloc: Global, telling: &Telling) -> Result<Vec<u8>, A
             wanted,
             asker,
             answer,
-        } => call_bytes(alloc, wanted, answer, asker, closes),
+        } => call_bytes(alloc, wanted, answer, asker, numbers, closes),
         Said::Line { form, answer } => line_bytes(alloc, *form, answer, closes),
         Said::Lines { text, stopped } => lines_bytes(alloc, text, *stopped, closes),
         Said::Fault { fault } => fault_bytes(alloc, fault, closes),
@@ -143,12 +148,21 @@ fn call_bytes(
     wanted: &Wanted,
     answer: &Answer,
     asker: &Asker,
+    numbers: &Numbers,
     closes: bool,
 ) -> Result<Vec<u8>, AllocError>
     ensures { IfOk result (λ v. responds.AnswersCall wanted.now answer.now asker.now closes v.items) }
 {
     let host = asker.host.as_slice();
-    let response = response_of(alloc, wanted.sight, &wanted.call, answer, host, asker.json)?;
+    let response = response_of(
+        alloc,
+        wanted.sight,
+        &wanted.call,
+        answer,
+        host,
+        asker.json,
+        numbers,
+    )?;
     bytes_of(alloc, response, closes)
 }
 

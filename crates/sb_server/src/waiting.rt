@@ -7,6 +7,7 @@ ghost use Rattle.sb_desk.specs.Desks.{IsOf, HasLegal};
 ghost use Rattle.sb_desk.specs.Spared.{Spares};
 ghost use Rattle.sb_server.specs.Waiting.{GoesBy, GoesByCall, Waits, is_empty};
 
+use crate::counting::{kind_of, outcome_of};
 use sb_desk::{Desk, Pass, Served};
 use sb_machine::{Answer, Answered, Call, Reply};
 use sb_outside::Clock;
@@ -33,25 +34,27 @@ pub fn receive_waiting<V: Served, R: Wait, C: Clock>(
 {
     let first = clock.now();
     let mut now = first;
-    let (mut current, mut answer) = call_once(rt, desk, pass, first, call);
+    let (mut current, mut answer) = call_once(rt, desk, pass, clock, first, call);
     for _ in rt.forever() {
         if is_done(&answer, first, limit, now) {
             break;
         }
         clock.pause();
         now = clock.now();
-        let (next, found) = call_once(rt, desk, current, now, call);
+        let (next, found) = call_once(rt, desk, current, clock, now, call);
         current = next;
         answer = found;
     }
     (current, answer)
 }
 
-/// Makes a call at this pass, at a reading of the clock in ms since 1970.
-pub(crate) fn call_once<V: Served, R: Wait>(
+/// Makes a call at this pass, at a reading of the clock in ms since 1970. The desk's board counts it, with how
+/// long it took.
+pub(crate) fn call_once<V: Served, R: Wait, C: Clock>(
     rt: &R,
     desk: &Desk<V>,
     pass: Pass,
+    clock: &C,
     reading: u64,
     call: &Call,
 ) -> (Pass, Answer)
@@ -62,7 +65,12 @@ pub(crate) fn call_once<V: Served, R: Wait>(
     ensures spares { Spares V.spared result.0.start result.0.seen }
     ensures desk { IsOf desk.now result.0 }
 {
-    desk.call(rt, pass, reading, call)
+    let began = clock.micros();
+    let (pass, answer) = desk.call(rt, pass, reading, call);
+    let took = clock.micros().saturating_sub(began);
+    desk.board()
+        .called(kind_of(&call.act), outcome_of(&answer), took);
+    (pass, answer)
 }
 
 // Whether there was nothing to receive, or no session to accept.

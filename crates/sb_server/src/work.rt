@@ -121,7 +121,7 @@ pub(crate) fn go_on<V: Served, R: Wait, C: Clock, D: Door>(
 {
     match stage {
         Stage::Wants(left) => {
-            let next = want(alloc, access, limits, clock, door, *left);
+            let next = want(alloc, access, limits, desk, clock, door, *left);
             let again = again_at(&next);
             stand_at(stage, next);
             (pass, again)
@@ -132,6 +132,7 @@ pub(crate) fn go_on<V: Served, R: Wait, C: Clock, D: Door>(
                 rt, alloc, routes, access, limits, desk, pass, clock, guest,
             );
             if let Some(ending) = over {
+                desk.board().ended();
                 give_back(door, stage, left, ending);
                 return (pass, 0);
             }
@@ -177,10 +178,11 @@ fn due_at(soonest_ms: u64, asked_ms: u64) -> u64 {
 }
 
 // Takes the next connection of a door, if another one may be served.
-fn want<C: Clock, D: Door>(
+fn want<V: Served, C: Clock, D: Door>(
     alloc: Global,
     access: &Access,
     limits: Limits,
+    desk: &Desk<V>,
     clock: &C,
     door: &mut D,
     left: u64,
@@ -204,6 +206,7 @@ fn want<C: Clock, D: Door>(
                 door.done(conn);
                 return Stage::Over(Stop::OutOfMemory);
             };
+            desk.board().opened();
             let guest = Guest {
                 conn,
                 inbox,

@@ -13,6 +13,8 @@ mod lines_tests;
 #[cfg(test)]
 mod linked_tests;
 #[cfg(test)]
+mod numbers_tests;
+#[cfg(test)]
 mod patient_lines_tests;
 #[cfg(test)]
 mod server_tests;

@@ -35,6 +35,10 @@ impl Clock for Seconds {
     fn pause(&self) {
         self.now.fetch_add(1000, Ordering::SeqCst);
     }
+
+    fn micros(&self) -> u64 {
+        self.now().wrapping_mul(1000)
+    }
 }
 
 /// A connection that gives so many bytes of its request at once, and takes so many of its response, each

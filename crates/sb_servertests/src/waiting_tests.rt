@@ -44,6 +44,10 @@ impl Clock for Still {
     fn pause(&self) {
         self.pauses.fetch_add(1, Ordering::SeqCst);
     }
+
+    fn micros(&self) -> u64 {
+        self.now().wrapping_mul(1000)
+    }
 }
 
 /// A connection that gives its request once the clock was paused so often, ends behind its response, or
@@ -163,6 +167,23 @@ pub(crate) fn is_given(door: &Single<'_>, begins: &[u8], ends: &[u8]) -> bool {
         Some(conn) => conn.given.starts_with(begins) && conn.given.ends_with(ends),
         None => false,
     }
+}
+
+/// Whether this stands in what the door's connection was given.
+pub(crate) fn says(door: &Single<'_>, text: &[u8]) -> bool {
+    match &door.taken {
+        Some(conn) => stands_in(conn.given.as_slice(), text),
+        None => false,
+    }
+}
+
+fn stands_in(given: &[u8], text: &[u8]) -> bool {
+    for start in 0..given.len() {
+        if given[start..].starts_with(text) {
+            return true;
+        }
+    }
+    false
 }
 
 // Serves these doors over a queue without a message, so many a thread, and gives the status.

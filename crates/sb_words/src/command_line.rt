@@ -5,10 +5,8 @@ ghost use Rattle.sb_words.specs.Words as line;
 ghost use Rattle.clap.specs.declared.builder.command.Command.TheViews.{out-Command as fields_of};
 
 use clap::{Arg, ArgAction, ArgMatches};
+use sb_numbers::VERSION;
 use std::alloc::{AllocError, Global};
-
-/// What the program tells as its version.
-const VERSION: &str = "0.1.0";
 
 // What stands at the end of the program's help.
 const EXAMPLES: &str =
