@@ -5,10 +5,9 @@
 //
 // A reading is a message whose body is a whole number and whose SessionId is its instrument; the queue is one with
 // "requires_session":true. The next instrument that has readings is accepted, they are received in their order,
-// and its session remembers their count, their sum, and the SequenceNumber up to which they are counted. That is set
-// before a reading is completed: so each counts once, also where a worker dies between the two and it comes again.
-// Several of these may run at once; what one that dies held comes to another once its lock has ended. With SECONDS it
-// ends where no instrument has readings for so long; else it goes on.
+// and its session remembers their count and their sum. That is set as a reading is completed, both in one request or
+// neither: so each counts once, wherever a worker dies. Several of these may run at once; what one that dies held comes to
+// another once its lock has ended. With SECONDS it ends where no instrument has readings for so long; else it goes on.
 import { setTimeout as pause } from 'node:timers/promises'
 
 const [port, queue, seconds] = process.argv.slice(2)
@@ -29,19 +28,20 @@ function place(response) {
   return [response.headers.get('location'), JSON.parse(response.headers.get('brokerproperties'))]
 }
 
-// Counts a reading, unless it is counted already, and completes it; what is known behind it.
+// Counts a reading and completes it, or does neither; what is known behind it.
 async function count(session, known, response) {
-  const [message, { SequenceNumber: last }] = place(response)
+  const [message, { SequenceNumber: seq, LockToken: token }] = place(response)
   const body = await response.text()
   if (!/^-?\d+$/.test(body.trim())) {
     await ask('PUT', `${message}?disposition=dead-letter`, undefined, { BrokerProperties: '{"DeadLetterReason":"NoNumber"}' })
     return known
   }
-  if (last > known.last) {
-    known = { count: known.count + 1, sum: known.sum + Number(body), last }
-    await ask('PUT', `${session}/state`, JSON.stringify(known))
-  }
-  await ask('DELETE', message)
+  known = { count: known.count + 1, sum: known.sum + Number(body) }
+  const held = { from: queue, session: session.split('/').pop() }
+  const completed = { do: 'complete', ...held, seq, token }
+  const remembered = { do: 'session-set', ...held, state: JSON.stringify(known) }
+  const turn = { do: 'together', entity: queue, operations: [completed, remembered] }
+  await ask('POST', new URL('/$together', session), JSON.stringify(turn))
   return known
 }
 
@@ -51,7 +51,7 @@ async function work(response) {
   const half = (Date.parse(until) - Date.now()) / 2
   let renewed = performance.now()
   const state = await ask('GET', `${session}/state`)
-  let known = state.status === 200 ? await state.json() : { count: 0, sum: 0, last: 0 }
+  let known = state.status === 200 ? await state.json() : { count: 0, sum: 0 }
   for (;;) {
     if (performance.now() - renewed > half) { // receiving doesn't renew the session's lock
       await ask('POST', session)

@@ -5,10 +5,9 @@ usage: readings.py PORT QUEUE [SECONDS]
 
 A reading is a message whose body is a whole number and whose SessionId is its instrument; the queue is one with
 "requires_session":true. The next instrument that has readings is accepted, they are received in their order,
-and its session remembers their count, their sum, and the SequenceNumber up to which they are counted. That is set before
-a reading is completed: so each counts once, also where a worker dies between the two and it comes again. Several of these
-may run at once; what one that dies held comes to another once its lock has ended. With SECONDS it ends where no
-instrument has readings for so long; else it goes on.
+and its session remembers their count and their sum. That is set as a reading is completed, both in one request or
+neither: so each counts once, wherever a worker dies. Several of these may run at once; what one that dies held comes to
+another once its lock has ended. With SECONDS it ends where no instrument has readings for so long; else it goes on.
 """
 import http.client
 import json
@@ -42,28 +41,30 @@ def place(fields):
     return urlsplit(fields["Location"]).path, json.loads(fields["BrokerProperties"])
 
 
-def count(lab, session, known, fields, body):
-    """Counts a reading, unless it is counted already, and completes it; what is known behind it."""
+def count(lab, queue, session, known, fields, body):
+    """Counts a reading and completes it, or does neither; what is known behind it."""
     message, told = place(fields)
     try:
         value = int(body)
     except ValueError:
         lab.ask("PUT", f"{message}?disposition=dead-letter", BrokerProperties='{"DeadLetterReason":"NoNumber"}')
         return known
-    if told["SequenceNumber"] > known["last"]:
-        known = {"count": known["count"] + 1, "sum": known["sum"] + value, "last": told["SequenceNumber"]}
-        lab.ask("PUT", f"{session}/state", json.dumps(known))
-    lab.ask("DELETE", message)
+    known = {"count": known["count"] + 1, "sum": known["sum"] + value}
+    held = {"from": queue, "session": session.rsplit("/", 1)[1]}
+    completed = {"do": "complete", **held, "seq": told["SequenceNumber"], "token": told["LockToken"]}
+    remembered = {"do": "session-set", **held, "state": json.dumps(known)}
+    turn = {"do": "together", "entity": queue, "operations": [completed, remembered]}
+    lab.ask("POST", "/$together", json.dumps(turn))
     return known
 
 
-def work(lab, fields):
+def work(lab, queue, fields):
     """Counts the readings of an instrument whose session was accepted, and gives that back."""
     session, told = place(fields)
     half = (parsedate_to_datetime(told["LockedUntilUtc"]).timestamp() - time.time()) / 2
     renewed = time.monotonic()
     status, _, body = lab.ask("GET", f"{session}/state")
-    known = json.loads(body) if status == 200 else {"count": 0, "sum": 0, "last": 0}
+    known = json.loads(body) if status == 200 else {"count": 0, "sum": 0}
     while True:
         if time.monotonic() - renewed > half:  # receiving doesn't renew the session's lock
             lab.ask("POST", session)
@@ -71,7 +72,7 @@ def work(lab, fields):
         status, fields, body = lab.ask("POST", f"{session}/messages/head?timeout=0")
         if status == 204:
             break
-        known = count(lab, session, known, fields, body)
+        known = count(lab, queue, session, known, fields, body)
     lab.ask("DELETE", session)
     print(f"{told['SessionId']}: {known['count']} readings, {known['sum']} together", flush=True)
 
@@ -86,7 +87,7 @@ def main():
         try:
             status, fields, _ = lab.ask("POST", f"/{queue}/sessions/head?timeout={seconds}")
             if status == 201:
-                work(lab, fields)
+                work(lab, queue, fields)
             elif ends:
                 break
         except FAULTS as fault:

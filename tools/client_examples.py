@@ -6,7 +6,7 @@ usage: tools/client_examples.py PROGRAM [LINES]
 PROGRAM is the built program (crates/sb_bus/out/sb_bus). So many numbered sends, 1,000 where nothing is said, go on through a server that is killed
 and started again, and through a second call with the same lines; the worker gets an order that takes longer than
 its lock and one that is none; the sessions are worked off in order; readings are added up by one program and then by the
-other, each once, though a worker died that had counted one and not completed it; and what is left is shown as a table. Then a server's
+other, each once, though a worker lost its session whose turn on one came late; and what is left is shown as a table. Then a server's
 own numbers are looked at, by `/$metrics` and `/$status`: each call is counted once, by what it asks for and how it was answered. It
 needs node, curl and awk. The exit status is 1 where something else happens.
 """
@@ -25,6 +25,7 @@ HISTOGRAM = "zolmutarn_call_microseconds"
 BOUNDS = [10, 25, 50, 100, 250, 500, 1000, 2500, 5000, 10000, 25000, 50000, 100000, 250000, 1000000, "+Inf"]
 SEND = {"do": "send", "messages": [{"body": "hi"}]}
 TAKE = {"do": "receive", "from": "q", "mode": "delete"}
+TOGETHER = {"do": "together", "entity": "q", "operations": [{**SEND, "to": "q"}, {**SEND, "to": "q"}]}
 # Calls with their answers, and whether each is a record of the journal.
 COUNTED = [
     ({"do": "create-queue", "name": "q"}, "done", True),
@@ -32,8 +33,9 @@ COUNTED = [
     ({**SEND, "to": "q", "client": "c", "number": 1}, "done", True),
     ({**SEND, "to": "q", "client": "c", "number": 1}, "kept", False),
     ({**SEND, "to": "nowhere"}, "refused", False),
-    (TAKE, "done", True),
-    (TAKE, "done", True),
+    (TOGETHER, "done", True),
+    ({**TOGETHER, "operations": []}, "refused", False),
+    *[(TAKE, "done", True)] * 4,
     (TAKE, "empty", False),
     ({"do": "counts", "entity": "q"}, "done", False),
     ({"do": "counts", "entity": "nowhere"}, "refused", False),
@@ -114,15 +116,22 @@ def sessions(port):
     lib.wants(state == {"ok": "state", "state": "3"}, f"the session remembers {state}")
 
 
-def counted_only(port, session, known):
-    """As of a worker that has counted the first reading of a session, and gave up before it completed it."""
+def came_late(port, session, known):
+    """As of a worker that received the first reading of a session, and gave the session back before its turn: nothing is done."""
     with lib.Caller(port) as caller:
         status, head, _ = caller.ask("POST", f"/readings/sessions/{session}")
         lib.wants(status == 201, f"the accept of a session was answered {head}")
-        held = re.search(r"\r\nLocation: http://[^/]+(\S+)", head)[1]
-        calls = [("POST", "/messages/head", b""), ("PUT", "/state", json.dumps(known).encode()), ("DELETE", "", b"")]
-        statuses = [caller.ask(method, held + behind, body)[0] for method, behind, body in calls]
-    lib.wants(statuses == [201, 200, 200], f"a session's holder was answered {statuses}")
+        place = re.search(r"\r\nLocation: http://[^/]+(\S+)", head)[1]
+        status, head, _ = caller.ask("POST", f"{place}/messages/head")
+        lib.wants(status == 201, f"a receive of a session was answered {head}")
+        told = json.loads(re.search(r"\r\nBrokerProperties: (.*?)\r\n", head)[1])
+        held = {"from": "readings", "session": place.rsplit("/", 1)[1]}
+        completed = {"do": "complete", **held, "seq": told["SequenceNumber"], "token": told["LockToken"]}
+        remembered = {"do": "session-set", **held, "state": json.dumps(known)}
+        turn = {"do": "together", "entity": "readings", "operations": [completed, remembered]}
+        calls = [("DELETE", place, b""), ("POST", "/$together", json.dumps(turn).encode())]
+        answers = [caller.ask(method, path, body)[::2] for method, path, body in calls]
+    lib.wants(answers == [(200, b""), (404, b'{"refused":"SessionLost"}')], f"a session's holder was answered {answers}")
 
 
 def readings(port):
@@ -133,7 +142,7 @@ def readings(port):
     wanted = ["thermo 1: 3 readings, 15 together", "scale: 1 readings, 5 together"]
     lib.wants(told.splitlines() == wanted, f"the readings were told as {told}")
     sent(port, "readings", ["20", "30"], sys={"SessionId": "thermo 1"})
-    counted_only(port, "thermo%201", {"count": 4, "sum": 35, "last": 6})
+    came_late(port, "thermo%201", {"count": 4, "sum": 35})
     told = output(example("readings.mjs", str(port), "readings", "0"))
     lib.wants(told == "thermo 1: 5 readings, 65 together\n", f"more readings were told as {told}")
     with lib.Caller(port) as caller:

@@ -18,7 +18,7 @@ use Rattle.sb_app.specs.Lawful.{HasLaws}
 
 pub lawful : (s : State) (h : List Entry) → IsConsistent s → IsLegal s h → HasLaws s h
 lawful s h consistent legal = record {
-  numbers = once_numbers s h;
+  numbers = once_numbers s h consistent legal;
   ids = once_ids s h consistent legal;
   notes = sent_notes s h consistent legal;
   thin = thin_same s h legal;

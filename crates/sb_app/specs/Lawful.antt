@@ -8,7 +8,7 @@ use Rattle.sb_laws.specs.Handed.{AreHandedInOrder}
 use Rattle.sb_laws.specs.Holders.{AreHeldAlone}
 use Rattle.sb_laws.specs.Spent.{AllLived, AllSettle}
 use Rattle.sb_laws.specs.Thin.{Alike}
-use Rattle.sb_machine.specs.Accounts.{acted_numbers, ends_of, noted_ids, spent_locks}
+use Rattle.sb_machine.specs.Accounts.{ends_of, noted_ids, number_uses, spent_locks}
 use Rattle.sb_machine.specs.Events.{replayed, thinned}
 use Rattle.sb_machine.specs.History.{fresh_log, state_after}
 use Rattle.sb_machine.specs.declared.history.Entry.{Entry}
@@ -16,8 +16,8 @@ use Rattle.sb_machine.specs.declared.state.State.{State}
 
 -- what holds of a legal history: numbers, ids, messages, locks and sessions, each as its law says
 pub record HasLaws (s : State) (h : List Entry) : Type 0 where
-  -- a repeat acts once: each client's numbers rise, and none acts twice
-  pub numbers : ActOnce s (acted_numbers (fresh_log s) h)
+  -- a repeat acts once: each client's numbers rise, and none acts twice until the client is forgotten
+  pub numbers : ActOnce s (number_uses (fresh_log s) h)
   -- nor does an id within its entity's window
   pub ids : Apart (kept_ids s.space) (noted_ids (fresh_log s) h)
   -- and a send notes the ids of just those messages that got a number

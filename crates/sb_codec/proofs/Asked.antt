@@ -1,22 +1,18 @@
 -- What the machine's tests ask of a call makes its event one that may be written.
-use Rattle.std.proofs.Common.{◌≡◌, ◌≤◌, ◌<◌, ◌+◌, ◌^◌, ℕ, List, [], ◌∷◌, length, Bool, true, false, ◌&&◌, ◌||◌, nat_le, nat_lt, Option, Some, None, refl, sym, ap, subst, arith, ◌⊎◌, inl, inr}
-use Rattle.std.specs.Prelude.{IfSome, is_none, ◌==◌, codes, bytes_eq, not, nat_lt}
+use Rattle.std.proofs.Common.{◌≡◌, ◌≤◌, ◌<◌, ◌+◌, ◌^◌, ℕ, List, [], ◌∷◌, length, Bool, true, ◌||◌, nat_le, Option, Some, None, refl, ap, arith, ◌⊎◌, inl, inr}
+use Rattle.std.specs.Prelude.{IfSome, is_none, ◌==◌, codes, bytes_eq, not}
 use Rattle.std.specs.List.{list_all, sum_by}
 use Rattle.std.proofs.lemmas.Bool.{leb-true, ltb-true, eqb-true}
 use Rattle.std.proofs.lemmas.List.Sums.{sum_by-cons}
 use Rattle.std.proofs.lemmas.Slice.Eq.{bytes_eq-Decides}
-use Rattle.std.proofs.lemmas.Str.{IsUtf8-from_is_utf8}
-use Rattle.sb_machine.specs.Administration.{filter_of, action_of, large_filter, conditions_size}
 use Rattle.sb_machine.specs.Descriptions.{bad_in_description, has_copies, is_sent_to, has_rules, is_name_or_none, is_fit}
-use Rattle.sb_machine.specs.Each.{Each, is_read}
+use Rattle.sb_machine.specs.Each.{Each}
 use Rattle.sb_model.specs.Effects.{property_size, value_size, text_size, property_bytes}
-use Rattle.sb_machine.specs.Fields.{first_some, unless, is_between, is_between_or_none, max_ttl, bad_in_act, bad_in_by, bad_in_message, bad_in_messages, bad_in_conditions, bad_in_filter, bad_in_how, bad_in_which, are_properties, is_short}
-use Rattle.sb_machine.specs.Messages.{large_in, large_one, large_size, above, first_size, max_body}
+use Rattle.sb_machine.specs.Fields.{first_some, unless, is_between, is_between_or_none, max_ttl, bad_in_message, bad_in_messages, bad_in_conditions, are_properties}
+use Rattle.sb_machine.specs.Messages.{all_bytes, large_in, large_one}
 use Rattle.sb_machine.specs.Names.{is_name_within, is_name, is_short_name, is_rule_name, is_address, is_subscription}
-use Rattle.sb_machine.specs.Ordered.{IsActInOrder, IsFilterInOrder, asked_of}
 use Rattle.sb_model.specs.Orders.{AreRising, IsInOrder, name_before, code_before, is_set}
 use Rattle.sb_model.specs.SystemNames.{system_code}
-use Rattle.sb_machine.specs.declared.call.By.{By}
 use Rattle.sb_machine.specs.declared.call.Description.{Description}
 use Rattle.sb_machine.specs.declared.call.Path.{Path}
 use Rattle.sb_model.specs.declared.message.Message.{Message}
@@ -27,14 +23,14 @@ use Rattle.sb_model.specs.declared.message.SystemName.{SystemName}
 use Rattle.sb_model.specs.declared.message.SystemName.TheVariants.{MessageId, Label, CorrelationId, SessionId, To, ReplyTo, ReplyToSessionId, ContentType}
 use Rattle.sb_model.specs.declared.message.SystemText.{SystemText}
 use Rattle.sb_machine.specs.declared.state.EntityKind.{EntityKind}
-use Rattle.sb_codec.specs.Forms.{Form, Follow, text, optional, number32, number64}
+use Rattle.sb_codec.specs.Forms.{Follow, text, number32, number64}
 use Rattle.sb_codec.specs.Messages.{value, signed64, system, systems, is_next_system, property, properties, is_next_property, message, any_next}
-use Rattle.sb_codec.specs.Pieces.{path, description, by}
+use Rattle.sb_codec.specs.Pieces.{path, description}
 use Rattle.sb_machine.proofs.Passed.{both, both_true, either, first_none, unless_none, first_size_none, above_none, between_most, fit}
 
 -- ---- texts and numbers
 
-pub short_text : (t : List ℕ) → length t ≤ 65536 → text.Asks t
+pub short_text : (t : List ℕ) → length t ≤ 262144 → text.Asks t
 short_text t le utf8 = omega (arith, le)
 
 pub any_number : (o : Option ℕ) → IfSome o number64.Asks
@@ -147,7 +143,7 @@ abbrev IsBehind : {X : Type 0} → (X → X → Bool) → Option X → List X �
 IsBehind before None xs = Unit {0}
 IsBehind before (Some last) xs = list_all (before last) xs ≡ true
 
-value_asked : (v : PropertyValue) → value_size v ≤ 65536 → value.Asks v
+value_asked : (v : PropertyValue) → value_size v ≤ 262144 → value.Asks v
 unfolding value signed64
 value_asked (Int z) le = tt
 value_asked (Text t) le = short_text t le
@@ -157,29 +153,29 @@ next_property : (last : Option Property) (p : Property) (ps : List Property) →
 next_property None p ps behind = refl
 next_property (Some last) p ps behind = (both (name_before last p) (list_all (name_before last) ps) behind).0
 
-properties_follow : (last : Option Property) (ps : List Property) → IsBehind name_before last ps → AreRising name_before ps → sum_by property_size ps ≤ 65536
+properties_follow : (last : Option Property) (ps : List Property) → IsBehind name_before last ps → AreRising name_before ps → sum_by property_size ps ≤ 262144
     → Follow (λ last p. property.Asks p × (is_next_property last p ≡ true)) last ps
 unfolding property
 properties_follow last [] behind rising le = tt
 properties_follow last (p ∷ ps) behind rising le =
     let sum = sum_by-cons property_size p ps in
-    let name : length p.name ≤ 65536 = omega (arith, sum, le) in
-    let size : value_size p.value ≤ 65536 = omega (arith, sum, le) in
-    let others : sum_by property_size ps ≤ 65536 = omega (arith, sum, le) in
+    let name : length p.name ≤ 262144 = omega (arith, sum, le) in
+    let size : value_size p.value ≤ 262144 = omega (arith, sum, le) in
+    let others : sum_by property_size ps ≤ 262144 = omega (arith, sum, le) in
     (((short_text p.name name, value_asked p.value size), next_property last p ps behind), properties_follow (Some p) ps rising.0 rising.1 others)
 
 next_system : (last : Option SystemText) (s : SystemText) (ss : List SystemText) → IsBehind code_before last (s ∷ ss) → is_set s ≡ true → is_next_system last s ≡ true
 next_system None s ss behind filled = filled
 next_system (Some last) s ss behind filled = both_true _ _ (both (code_before last s) (list_all (code_before last) ss) behind).0 filled
 
-systems_follow : (last : Option SystemText) (ss : List SystemText) → IsBehind code_before last ss → AreRising code_before ss → list_all is_set ss ≡ true → sum_by text_size ss ≤ 65536
+systems_follow : (last : Option SystemText) (ss : List SystemText) → IsBehind code_before last ss → AreRising code_before ss → list_all is_set ss ≡ true → sum_by text_size ss ≤ 262144
     → Follow (λ last s. system.Asks s × (is_next_system last s ≡ true)) last ss
 unfolding system
 systems_follow last [] behind rising filled le = tt
 systems_follow last (s ∷ ss) behind rising filled le =
     let sum = sum_by-cons text_size s ss in
-    let one : length s.text ≤ 65536 = omega (arith, sum, le) in
-    let others : sum_by text_size ss ≤ 65536 = omega (arith, sum, le) in
+    let one : length s.text ≤ 262144 = omega (arith, sum, le) in
+    let others : sum_by text_size ss ≤ 262144 = omega (arith, sum, le) in
     let sets = both (is_set s) (list_all is_set ss) filled in
     (((tt, short_text s.text one), next_system last s ss behind sets.0), systems_follow (Some s) ss rising.0 rising.1 sets.1 others)
 
@@ -210,12 +206,12 @@ few_properties sys ps good =
     let fine : are_properties ps ≡ true = unless_none _ _ (first_none _ _ good).1 in
     leb-true (length ps) 256 (both (list_all _ ps) (nat_le (length ps) 256) fine).1
 
-pub conditions_asked : (m : Message) → IsInOrder m → bad_in_conditions m.sys m.props ≡ None → property_bytes m ≤ 65536 → systems.Asks m.sys × properties.Asks m.props
+pub conditions_asked : (m : Message) → IsInOrder m → bad_in_conditions m.sys m.props ≡ None → property_bytes m ≤ 262144 → systems.Asks m.sys × properties.Asks m.props
 conditions_asked m order good le =
     let few = few_systems m.sys order.sys in
     let less = few_properties m.sys m.props good in
-    let sys_size : sum_by text_size m.sys ≤ 65536 = omega (arith, le) in
-    let props_size : sum_by property_size m.props ≤ 65536 = omega (arith, le) in
+    let sys_size : sum_by text_size m.sys ≤ 262144 = omega (arith, le) in
+    let props_size : sum_by property_size m.props ≤ 262144 = omega (arith, le) in
     ((omega (arith, few), systems_follow None m.sys tt order.sys order.set sys_size), (omega (arith, less), properties_follow None m.props tt order.props props_size))
 
 -- ---- messages
@@ -223,18 +219,37 @@ conditions_asked m order good le =
 pub sizes_of : (m : Message) → large_in m ≡ None → (length m.body ≤ 262144) × (property_bytes m ≤ 65536)
 sizes_of m fits = let sizes = first_size_none _ _ fits in (above_none 262144 (length m.body) sizes.0, above_none 65536 (property_bytes m) sizes.1)
 
-pub message_asked : (is_via : Bool) (m : Message) → IsInOrder m → bad_in_message is_via m ≡ None → large_in m ≡ None → message.Asks m
+-- the body, and the properties
+abbrev pub IsSmall : Message → Type 0
+IsSmall m = (length m.body ≤ 262144) × (property_bytes m ≤ 262144)
+
+-- each by its own sizes
+pub small_each : (ms : List Message) → large_one ms ≡ None → Each IsSmall ms
+small_each [] fits = tt
+small_each (m ∷ ms) fits =
+    let parts = first_size_none _ _ fits in
+    let sizes = sizes_of m parts.0 in
+    let body = sizes.0 in
+    let properties = sizes.1 in
+    ((body, omega (arith, properties)), small_each ms parts.1)
+
+-- each by the size of all together
+pub small_together : (ms : List Message) → all_bytes ms ≤ 262144 → Each IsSmall ms
+small_together [] le = tt
+small_together (m ∷ ms) le =
+    let sum = sum_by-cons (λ (x : Message). length x.body + property_bytes x) m ms in
+    ((omega (arith, sum, le), omega (arith, sum, le)), small_together ms (omega (arith, sum, le)))
+
+pub message_asked : (is_via : Bool) (m : Message) → IsInOrder m → bad_in_message is_via m ≡ None → IsSmall m → message.Asks m
 unfolding message
-message_asked is_via m order good fits =
-    let sizes = sizes_of m fits in
+message_asked is_via m order good sizes =
     let asked = conditions_asked m order (first_none _ _ good).0 sizes.1 in
     let body = sizes.0 in
     (omega (arith, body), (asked.0, (asked.1, (any_number m.ttl, any_number m.schedule))))
 
-pub messages_asked : (is_via : Bool) (last : Option Message) (ms : List Message) → Each IsInOrder ms → bad_in_messages is_via ms ≡ None → large_one ms ≡ None
+pub messages_asked : (is_via : Bool) (last : Option Message) (ms : List Message) → Each IsInOrder ms → bad_in_messages is_via ms ≡ None → Each IsSmall ms
     → Follow (λ last m. message.Asks m × (any_next last m ≡ true)) last ms
 messages_asked is_via last [] order good fits = tt
 messages_asked is_via last (m ∷ ms) order good fits =
     let goods = first_none _ _ good in
-    let sizes = first_size_none _ _ fits in
-    ((message_asked is_via m order.0 goods.0 sizes.0, refl), messages_asked is_via (Some m) ms order.1 goods.1 sizes.1)
+    ((message_asked is_via m order.0 goods.0 fits.0, refl), messages_asked is_via (Some m) ms order.1 goods.1 fits.1)

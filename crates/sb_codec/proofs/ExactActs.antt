@@ -2,13 +2,14 @@
 use Rattle.std.proofs.Common.{refl}
 use Rattle.sb_machine.specs.declared.call.Act.{Act}
 use Rattle.sb_machine.specs.declared.call.Act.TheVariants as act
-use Rattle.sb_codec.specs.Acts.{any_act, any_act_case, any_act_choice, create_queue, create_topic, create_subscription, create_rule, delete, delete_rule, send, cancel, receive, receive_deferred, settle, renew, accept, session_renew, session_close, session_set, begin, commit, rollback, no_act}
+use Rattle.sb_codec.specs.Acts.{any_act, any_act_case, any_act_choice, create_queue, create_topic, create_subscription, create_rule, delete, delete_rule, send, cancel, receive, receive_deferred, settle, renew, accept, session_renew, session_close, session_set, begin, commit, rollback, together, forget_client, no_act}
 use Rattle.sb_codec.specs.Forms.{of}
 use Rattle.sb_codec.specs.Messages.{any_next}
 use Rattle.sb_codec.proofs.Forms.{IsForm, number64_is, blob_is, text_is, nothing_is, ◌then_is◌, optional_is, listed_is, Chooses, no_row_chooses, row_chooses, IsCase, is_case, variants_is}
 use Rattle.sb_codec.proofs.ExactPieces.{path_is, token_is, description_is, mode_is}
 use Rattle.sb_codec.proofs.ExactMessages.{message_is}
 use Rattle.sb_codec.proofs.ExactChoices.{which_is, how_is, filter_text_is}
+use Rattle.sb_codec.proofs.ExactSteps.{step_is}
 
 any_act_chooses : Chooses any_act_case any_act_choice
 any_act_chooses =
@@ -31,7 +32,9 @@ any_act_chooses =
     (row_chooses any_act_case begin _ path_is (λ _. refl) (λ _ f. f)
     (row_chooses any_act_case commit _ number64_is (λ _. refl) (λ _ f. f)
     (row_chooses any_act_case rollback _ number64_is (λ _. refl) (λ _ f. f)
-    (no_row_chooses any_act_case)))))))))))))))))))
+    (row_chooses any_act_case together _ (path_is then_is listed_is any_next step_is) (λ _. refl) (λ _ f. f)
+    (row_chooses any_act_case forget_client _ text_is (λ _. refl) (λ _ f. f)
+    (no_row_chooses any_act_case)))))))))))))))))))))
 
 not_spelled : (a : Act) → IsCase any_act_choice (of no_act a) a
 not_spelled a = record { again = λ rest f. absurd f; asked = λ f. absurd f; small = nothing_is.small a }
@@ -56,6 +59,8 @@ any_act_each (act.SessionSet from session state) = is_case any_act_choice sessio
 any_act_each (act.Begin p) = is_case any_act_choice begin path_is (λ _. refl) p
 any_act_each (act.Commit txn) = is_case any_act_choice commit number64_is (λ _. refl) txn
 any_act_each (act.Rollback txn) = is_case any_act_choice rollback number64_is (λ _. refl) txn
+any_act_each (act.Together entity steps) = is_case any_act_choice together (path_is then_is listed_is any_next step_is) (λ _. refl) (entity, steps)
+any_act_each (act.ForgetClient name) = is_case any_act_choice forget_client text_is (λ _. refl) name
 any_act_each (act.SessionState from session) = not_spelled (act.SessionState from session)
 any_act_each (act.Peek from start count) = not_spelled (act.Peek from start count)
 any_act_each (act.Counts entity) = not_spelled (act.Counts entity)

@@ -1,5 +1,5 @@
 -- What a loop over a list needs.
-use Rattle.std.proofs.Common.{◌≡◌, ℕ, zero, suc, Bool, true, false, refl, subst, List, [], ◌∷◌, Option, Some, None, All, Result, Ok, Err, ◌<◌, ◌≤◌, ◌+◌, length, get_or, take, Vec, vec_len, arith}
+use Rattle.std.proofs.Common.{◌≡◌, ℕ, zero, suc, Bool, true, false, refl, List, [], ◌∷◌, Option, Some, None, All, Result, Ok, Err, ◌<◌, ◌≤◌, ◌+◌, length, take, Vec, vec_len, arith}
 use Rattle.std.specs.Prelude.{vec_capacity, OnOk}
 use Rattle.std.specs.Global.{Global}
 use Rattle.std.specs.Result.{IsErr}

@@ -1,5 +1,5 @@
 -- Forms are exact, and their spellings as long as they say; so is what is put together of such forms.
-use Rattle.std.proofs.Common.{◌≡◌, ℕ, zero, suc, ◌+◌, ◌≤◌, ◌<◌, Bool, true, false, eqb, List, [], ◌∷◌, ◌++◌, length, length-append, Option, Some, None, find, refl, sym, ap, subst, ◌∙◌, arith, inl, inr}
+use Rattle.std.proofs.Common.{◌≡◌, ℕ, ◌+◌, ◌≤◌, Bool, true, eqb, List, [], ◌∷◌, ◌++◌, length, length-append, Option, Some, None, find, refl, sym, ap, subst, ◌∙◌, arith, inl, inr}
 use Rattle.std.specs.Int.{w32, w64, to_be_bytes}
 use Rattle.std.specs.List.{flat_map, sum_by}
 use Rattle.std.proofs.lemmas.List.Sums.{sum_by-cons}
@@ -10,7 +10,7 @@ use Rattle.sb_codec.specs.Bytes as bytes
 use Rattle.sb_codec.specs.Bytes.{sized}
 use Rattle.sb_codec.specs.Readers as readers
 use Rattle.sb_codec.specs.Readers.{◌>>=◌, mapped}
-use Rattle.sb_codec.specs.Forms.{Form, number32, number64, blob, tested, text, ◌then◌, shaped, optional, content_or_none, Follow, listed, coded_at, coded, Row, row, Case, of, Choice, no_row, ◌or◌, chosen_at, variants, nothing, empty}
+use Rattle.sb_codec.specs.Forms.{Form, number32, number64, blob, tested, text, ◌then◌, shaped, optional, content_or_none, Follow, listed, coded_at, coded, Row, Case, of, Choice, no_row, ◌or◌, chosen_at, variants, nothing, empty}
 use Rattle.sb_codec.proofs.Exact.{IsBytes, IsBytes-rest, bind_some, some_is, chosen, Taken, Exact, exact_both, exact_as, exact_tested, exact_number32, exact_number64, exact_sized, exact_optional, exact_listed}
 use Rattle.sb_codec.proofs.Room.{length-flat_map-cons}
 

@@ -7,6 +7,7 @@ pub mod Following
 pub mod ExactPieces
 pub mod ExactMessages
 pub mod ExactChoices
+pub mod ExactSteps
 pub mod ExactActs
 pub mod Spelling
 pub mod Characters

@@ -1,23 +1,25 @@
 -- A journal record holds the event of a call that passed the machine's tests.
-use Rattle.std.proofs.Common.{◌≡◌, ◌≤◌, ◌<◌, ◌+◌, ◌*◌, ℕ, List, [], ◌∷◌, length, Bool, true, false, ◌&&◌, nat_le, nat_lt, cond, Option, Some, None, refl, ap, arith, ◌⊎◌, inl, inr}
+use Rattle.std.proofs.Common.{◌≡◌, ◌≤◌, ◌+◌, ◌*◌, ℕ, List, [], ◌∷◌, length, Bool, true, false, ◌&&◌, nat_lt, cond, Option, Some, None, refl, arith, ◌⊎◌, inl, inr}
 use Rattle.std.specs.Prelude.{IfSome, is_none}
 use Rattle.std.specs.List.{sum_by}
 use Rattle.std.specs.Str.{chars, is_utf8}
 use Rattle.std.proofs.lemmas.Bool.{leb-true, ltb-false}
 use Rattle.std.proofs.lemmas.List.Sums.{sum_by-cons}
 use Rattle.std.proofs.lemmas.Str.{IsUtf8-from_is_utf8}
-use Rattle.sb_machine.specs.Administration.{filter_of, action_of, large_filter, conditions_size}
-use Rattle.sb_machine.specs.Descriptions.{bad_in_description, has_copies, is_name_or_none}
+use Rattle.sb_machine.specs.Administration.{filter_of, action_of, large_filter}
+use Rattle.sb_machine.specs.Descriptions.{bad_in_description, is_name_or_none}
 use Rattle.sb_machine.specs.Each.{Each, is_read}
 use Rattle.sb_model.specs.Effects.{property_size, value_size, text_size, property_bytes}
-use Rattle.sb_machine.specs.Fields.{bad_in_act, bad_in_by, bad_in_how, bad_in_filter, bad_in_message, bad_in_messages, bad_in_conditions, is_short, takes_number, is_between}
-use Rattle.sb_machine.specs.Messages.{large_in, large_one, large_size, large_together, all_bytes, above}
+use Rattle.sb_machine.specs.Fields.{bad_in_act, bad_in_by, bad_in_how, bad_in_filter, bad_in_step, bad_in_steps, bad_in_message, bad_in_messages, is_short, takes_number, is_between}
+use Rattle.sb_machine.specs.Messages.{large_one, large_size, large_together, all_bytes, above}
 use Rattle.sb_machine.specs.Names.{is_name, is_short_name, is_rule_name, is_address, is_subscription}
-use Rattle.sb_machine.specs.Ordered.{IsActInOrder, IsFilterInOrder, asked_of}
+use Rattle.sb_machine.specs.Ordered.{IsActInOrder, IsFilterInOrder, IsStepInOrder}
+use Rattle.sb_machine.specs.Sessions.{size_of}
+use Rattle.sb_machine.specs.Together.{are_addressed, how_bytes, state_bytes, step_bytes, step_path, step_weight}
 use Rattle.sb_model.specs.Orders.{IsInOrder}
 use Rattle.sb_model.specs.Texts.{filter_in, action_in}
 use Rattle.sb_machine.specs.declared.call.Act.{Act}
-use Rattle.sb_machine.specs.declared.call.Act.TheVariants.{CreateQueue, CreateTopic, CreateSubscription, CreateRule, Delete, DeleteRule, Send, Cancel, Receive, ReceiveDeferred, Settle, Renew, Accept, SessionRenew, SessionClose, SessionSet, SessionState, Begin, Commit, Rollback, Peek, Counts, Look}
+use Rattle.sb_machine.specs.declared.call.Act.TheVariants.{CreateQueue, CreateTopic, CreateSubscription, CreateRule, Delete, DeleteRule, Send, Cancel, Receive, ReceiveDeferred, Settle, Renew, Accept, SessionRenew, SessionClose, SessionSet, SessionState, Begin, Commit, Rollback, Together, ForgetClient, Peek, Counts, Look}
 use Rattle.sb_machine.specs.declared.call.By.{By}
 use Rattle.sb_machine.specs.declared.call.Call.{Call}
 use Rattle.sb_machine.specs.declared.call.Description.{Description}
@@ -27,6 +29,8 @@ use Rattle.sb_machine.specs.declared.call.FilterText.TheVariants.{Sql, Correlati
 use Rattle.sb_machine.specs.declared.call.How.{How}
 use Rattle.sb_machine.specs.declared.call.How.TheVariants.{Complete, Abandon, Defer, DeadLetter}
 use Rattle.sb_machine.specs.declared.call.Path.{Path}
+use Rattle.sb_machine.specs.declared.call.Step.{Step}
+use Rattle.sb_machine.specs.declared.call.Step.TheVariants.{Send as StepSend, Settle as StepSettle, SessionSet as StateSet}
 use Rattle.sb_machine.specs.declared.call.Token.{Token}
 use Rattle.sb_machine.specs.declared.call.Which.{Which}
 use Rattle.sb_machine.specs.declared.call.Which.TheVariants.{Number, Id}
@@ -41,15 +45,16 @@ use Rattle.sb_machine.specs.declared.state.EntityKind.TheVariants.{Queue, Topic,
 use Rattle.sb_codec.specs.Acts.{any_act}
 use Rattle.sb_codec.specs.Choices.{which, how, filter_text}
 use Rattle.sb_codec.specs.EventBytes.{a_call, event, event_bytes, max_payload, HasSpelling}
-use Rattle.sb_codec.specs.Forms.{Form, text, optional, number64, number32, content_or_none}
+use Rattle.sb_codec.specs.Forms.{Follow, text, content_or_none}
 use Rattle.sb_machine.specs.Judged.{has_names, bad_described, is_short_id, has_short_id, has_sizes, IsJudged}
-use Rattle.sb_codec.specs.Messages.{value, signed64, system, property, conditions, message}
+use Rattle.sb_codec.specs.Messages.{value, signed64, system, property, conditions, message, any_next}
 use Rattle.sb_codec.specs.Pieces.{path, token, by, description}
-use Rattle.sb_codec.proofs.ActsAsked.{is_read-as, conditions_within}
+use Rattle.sb_codec.specs.Steps.{step}
+use Rattle.sb_codec.proofs.ActsAsked.{is_read-as, conditions_within, few_steps, short_id}
 use Rattle.sb_codec.proofs.Asked.{described, name_length, rule_name_length, few_systems, few_properties, sizes_of}
 use Rattle.sb_codec.proofs.Characters.{length_by_chars, length_of_text, filter_limit, action_limit}
 use Rattle.sb_codec.proofs.Spelling.{event_is}
-use Rattle.sb_machine.proofs.Passed.{both, first_none, unless_none, first_size_none, above_none, none_is, between_most, fit}
+use Rattle.sb_machine.proofs.Passed.{both, first_none, unless_none, first_size_none, above_none, none_is, between_most}
 
 -- ---- what a piece takes beside its content
 
@@ -251,11 +256,63 @@ all_small (m ∷ n ∷ ms) fits = let all = above_none 262144 (all_bytes (m ∷ 
       by_test true is e = e
       by_test false is e = let le = ltb-false 1 (length (m ∷ n ∷ ms)) is in absurd (omega (arith, le))
 
--- ---- acts
+-- ---- operations that act together
 
-state_content : (o : Option (List ℕ)) → nat_le (Rattle.sb_machine.specs.Sessions.size_of o) 262144 ≡ true → content_or_none (λ (t : List ℕ). length t) o ≤ 262144
-state_content None small = omega arith
-state_content (Some bytes) small = leb-true (length bytes) 262144 small
+size_content : (o : Option (List ℕ)) → content_or_none (λ (t : List ℕ). length t) o ≡ size_of o
+size_content None = refl
+size_content (Some bytes) = refl
+
+how_size : (h : How) → how.content h ≤ 10 + how_bytes h
+unfolding how
+how_size Complete = omega arith
+how_size Abandon = omega arith
+how_size Defer = omega arith
+how_size (DeadLetter reason description) = let one = size_content reason in let other = size_content description in omega (arith, one, other)
+
+-- 882 bytes in any case, 2,374 for a message, and the bytes that are counted
+step_content : (x : Step) → is_address (step_path x) ≡ true → bad_in_step x ≡ None → IsStepInOrder x → step.Fits x → step.fixed + step.content x ≤ 882 + 2374 * step_weight x + step_bytes x + state_bytes x
+unfolding step
+step_content (StepSend to messages) named good order fits =
+    let count = first_none _ _ good in
+    let one = path_content to named in
+    let all = messages_content false messages order (first_none _ _ count.1).0 in
+    let f = path_fixed in
+    omega (arith, one, all, f)
+step_content (StepSettle from w t session h) named good order fits =
+    let rest = first_none _ _ (first_none _ _ good).1 in
+    let one = path_content from named in
+    let copy = which_content w (short_id w rest.0) fits.1.0 in
+    let lock = token_content t in
+    let held = session_content session in
+    let outcome = how_size h in
+    let f = path_fixed in
+    let g = which_fixed in
+    let i = token_fixed in
+    let j = how_fixed in
+    omega (arith, one, copy, lock, held, outcome, f, g, i, j)
+step_content (StateSet from session state) named good order fits =
+    let one = path_content from named in
+    let lock = token_content session in
+    let last = size_content state in
+    let f = path_fixed in
+    let g = token_fixed in
+    omega (arith, one, lock, last, f, g)
+
+steps_content : (last : Option Step) (xs : List Step) → are_addressed xs ≡ true → bad_in_steps xs ≡ None → Each IsStepInOrder xs → Follow (λ last x. step.Fits x × (any_next last x ≡ true)) last xs
+    → sum_by (λ x. step.fixed + step.content x) xs ≤ 882 * length xs + 2374 * sum_by step_weight xs + sum_by step_bytes xs + sum_by state_bytes xs
+steps_content last [] named good order fits = omega arith
+steps_content last (x ∷ xs) named good order fits =
+    let names = both (is_address (step_path x)) (are_addressed xs) named in
+    let goods = first_none _ _ good in
+    let one = step_content x names.0 goods.0 order.0 fits.0.0 in
+    let others = steps_content (Some x) xs names.1 goods.1 order.1 fits.1 in
+    let sizes = sum_by-cons (λ (y : Step). step.fixed + step.content y) x xs in
+    let weights = sum_by-cons step_weight x xs in
+    let bytes = sum_by-cons step_bytes x xs in
+    let states = sum_by-cons state_bytes x xs in
+    omega (arith, one, others, sizes, weights, bytes, states)
+
+-- ---- acts
 
 act_content : (is_via : Bool) (a : Act) → takes_number a ≡ true → bad_in_act is_via a ≡ None → has_names a ≡ true → bad_described a ≡ None → has_sizes a ≡ true → has_short_id a ≡ true → IsActInOrder a → any_act.Fits a → any_act.content a ≤ 1000000
 unfolding any_act
@@ -334,14 +391,28 @@ act_content is_via (SessionClose from session) coded good named described sizes 
 act_content is_via (SessionSet from session state) coded good named described sizes id_short order fits =
     let one = path_content from named in
     let lock = token_content session in
-    let last = state_content state sizes in
+    let last = size_content state in
+    let small = leb-true (size_of state) 262144 sizes in
     let f = path_fixed in
     let g = token_fixed in
-    omega (arith, one, lock, last, f, g)
+    omega (arith, one, lock, last, small, f, g)
 act_content is_via (SessionState from session) coded good named described sizes id_short order fits = absurd cc
 act_content is_via (Begin entity) coded good named described sizes id_short order fits = let one = path_content entity named in let f = path_fixed in omega (arith, one, f)
 act_content is_via (Commit txn) coded good named described sizes id_short order fits = omega arith
 act_content is_via (Rollback txn) coded good named described sizes id_short order fits = omega arith
+act_content is_via (Together entity steps) coded good named described sizes id_short order fits =
+    let names = both (is_address entity) (are_addressed steps) named in
+    let few = few_steps is_via entity steps good sizes in
+    let count = few.count in
+    let weight = few.weight in
+    let bytes = few.bytes in
+    let states = few.states in
+    let one = path_content entity names.0 in
+    let all = steps_content None steps names.1 few.good order fits.1.1 in
+    let f = path_fixed in
+    omega (arith, count, weight, bytes, states, one, all, f)
+act_content is_via (ForgetClient name) coded good named described sizes id_short order fits =
+    let few = between_most 1 50 (length name) (unless_none _ _ good) in omega (arith, few)
 act_content is_via (Peek from start count) coded good named described sizes id_short order fits = absurd cc
 act_content is_via (Counts entity) coded good named described sizes id_short order fits = absurd cc
 act_content is_via (Look what) coded good named described sizes id_short order fits = absurd cc
@@ -352,7 +423,7 @@ by_content : (a : Act) (o : Option By) → bad_in_by a o ≡ None → content_or
 unfolding by
 by_content a None good = omega arith
 by_content a (Some b) good =
-    let client = both (takes_number a) (is_between 1 50 (length b.client)) (unless_none _ _ (first_none _ _ good).0) in
+    let client = both (takes_number a) (is_between 1 50 (length b.client)) (unless_none _ _ (first_none _ _ (first_none _ _ good).1).0) in
     let few = between_most 1 50 (length b.client) client.1 in
     omega (arith, few)
 

@@ -1,11 +1,11 @@
 -- The operations (acts), each by its code and the form of its fields. What only looks has no code.
-use Rattle.std.specs.Prelude.{ℕ}
 use Rattle.sb_machine.specs.declared.call.Act.{Act}
 use Rattle.sb_machine.specs.declared.call.Act.TheVariants as act
 use Rattle.sb_codec.specs.Choices.{which, how, filter_text}
 use Rattle.sb_codec.specs.Forms.{Form, number64, blob, text, ◌then◌, optional, listed, nothing, Row, row, Case, of, Choice, no_row, ◌or◌, variants}
 use Rattle.sb_codec.specs.Messages.{message, any_next}
 use Rattle.sb_codec.specs.Pieces.{path, token, description, mode}
+use Rattle.sb_codec.specs.Steps.{step}
 
 -- a queue is made; here as below: the code, the form of the fields, and what these make
 abbrev pub create_queue : Row Act
@@ -83,6 +83,14 @@ commit = row 18 number64 (λ x. act.Commit x)
 abbrev pub rollback : Row Act
 rollback = row 19 number64 (λ x. act.Rollback x)
 
+-- operations act together
+abbrev pub together : Row Act
+together = row 32 (path then listed any_next step) (λ x. act.Together x.0 x.1)
+
+-- what is remembered of a client is forgotten
+abbrev pub forget_client : Row Act
+forget_client = row 33 text (λ x. act.ForgetClient x)
+
 -- what is never journaled
 abbrev pub no_act : Row Act
 no_act = row 0 nothing (λ a. a)
@@ -108,6 +116,8 @@ any_act_case (act.SessionSet from session state) = of session_set (from, (sessio
 any_act_case (act.Begin p) = of begin p
 any_act_case (act.Commit txn) = of commit txn
 any_act_case (act.Rollback txn) = of rollback txn
+any_act_case (act.Together entity steps) = of together (entity, steps)
+any_act_case (act.ForgetClient name) = of forget_client name
 any_act_case (act.SessionState from session) = of no_act (act.SessionState from session)
 any_act_case (act.Peek from start count) = of no_act (act.Peek from start count)
 any_act_case (act.Counts entity) = of no_act (act.Counts entity)
@@ -117,7 +127,7 @@ any_act_case (act.Look what) = of no_act (act.Look what)
 abbrev pub any_act_choice : Choice Act
 any_act_choice =
     create_queue or create_topic or create_subscription or create_rule or delete or delete_rule or send or cancel or receive or receive_deferred
-    or settle or renew or accept or session_renew or session_close or session_set or begin or commit or rollback or no_row
+    or settle or renew or accept or session_renew or session_close or session_set or begin or commit or rollback or together or forget_client or no_row
 
 -- the form of operations
 unfoldable pub any_act : Form Act

@@ -1,5 +1,5 @@
 -- Messages and their properties, each as its form.
-use Rattle.std.specs.Prelude.{ℕ, ℤ, List, length, Bool, true, Option, Some, None, nat_lt, ◌&&◌, FitsSigned}
+use Rattle.std.specs.Prelude.{ℤ, List, length, Bool, true, Option, Some, None, nat_lt, ◌&&◌, FitsSigned}
 use Rattle.std.specs.Cmp.Lexicographic.{slice_cmp}
 use Rattle.std.specs.Int.{w64, to_be_bytes, cast_signed, cast_unsigned}
 use Rattle.std.specs.Ordering.{nat_cmp, is_lt}

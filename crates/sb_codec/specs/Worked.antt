@@ -1,14 +1,15 @@
 -- Events whose bytes were worked out by hand: a tick, and one of each act.
-use Rattle.std.specs.Prelude.{ℕ, pos, negsuc, List, [], ◌∷◌, ◌++◌, codes, Option, Some, None, false, true}
+use Rattle.std.specs.Prelude.{ℕ, pos, negsuc, List, [], ◌∷◌, ◌++◌, codes, Some, None, false, true}
 use Rattle.sb_machine.specs.Namespace.{default_description, entity_path, subscription_path, part_path}
 use Rattle.sb_machine.specs.declared.call.Act.{Act}
-use Rattle.sb_machine.specs.declared.call.Act.TheVariants.{CreateQueue, CreateTopic, CreateSubscription, CreateRule, Delete, DeleteRule, Send, Cancel, Receive, ReceiveDeferred, Settle, Renew, Accept, SessionRenew, SessionClose, SessionSet, Begin, Commit, Rollback}
+use Rattle.sb_machine.specs.declared.call.Act.TheVariants.{CreateQueue, CreateTopic, CreateSubscription, CreateRule, Delete, DeleteRule, Send, Cancel, Receive, ReceiveDeferred, Settle, Renew, Accept, SessionRenew, SessionClose, SessionSet, Begin, Commit, Rollback, Together, ForgetClient}
 use Rattle.sb_machine.specs.declared.call.Event.{Event}
 use Rattle.sb_machine.specs.declared.call.Event.TheVariants.{Tick, Called}
 use Rattle.sb_machine.specs.declared.call.FilterText.TheVariants.{Sql, Correlation}
 use Rattle.sb_machine.specs.declared.call.How.TheVariants.{Complete, DeadLetter}
 use Rattle.sb_machine.specs.declared.call.Mode.TheVariants.{Lock, Delete as AndDelete}
 use Rattle.sb_machine.specs.declared.call.Part.TheVariants.{Dead}
+use Rattle.sb_machine.specs.declared.call.Step.TheVariants as step
 use Rattle.sb_machine.specs.declared.call.Token.{Token}
 use Rattle.sb_machine.specs.declared.call.Which.TheVariants.{Number, Id}
 use Rattle.sb_model.specs.declared.message.Message.{Message}
@@ -130,6 +131,33 @@ sessions =
     ∷ (acted 5 (SessionSet (entity_path (codes "q")) first_token (Some (255 ∷ []))), at_5 16 (letter 113 ++ 0 ∷ 0 ∷ token_bytes ++ 1 ∷ letter 255))
     ∷ (acted 5 (Begin (entity_path (codes "q"))), at_5 17 (letter 113 ++ 0 ∷ 0 ∷ []))
     ∷ (acted 5 (Commit 1), at_5 18 (eight 1))
+    ∷ (acted 5 (ForgetClient (codes "old")), at_5 33 (0 ∷ 0 ∷ 0 ∷ 3 ∷ 111 ∷ 108 ∷ 100 ∷ []))
     -- for client c, its number 7
     ∷ (Called 5 (record { by = Some (record { client = codes "c"; number = 7 }); act = Rollback 1 }), 1 ∷ eight 5 ++ 1 ∷ letter 99 ++ eight 7 ++ 19 ∷ eight 1)
+    ∷ []
+
+-- a message is settled, one is sent by way of the queue, and a session's state is cleared
+abbrev pub together : List (Event × List ℕ)
+together = (
+  acted 5 (
+      Together (entity_path (codes "q")) (
+      step.Settle (entity_path (codes "q")) (Number 1) first_token (Some first_token) Complete
+      ∷ step.Send (entity_path (codes "r")) (body_only (codes "a") ∷ [])
+      ∷ step.SessionSet (entity_path (codes "q")) first_token None
+      ∷ []
+      )
+      ),
+  at_5 32 (
+      letter 113
+      ++ 0 ∷ 0 ∷ 0 ∷ 0 ∷ 0 ∷ 3 ∷ 11 ∷ letter 113
+      ++ 0 ∷ 0 ∷ 0 ∷ eight 1
+      ++ token_bytes
+      ++ 1 ∷ token_bytes
+      ++ 0 ∷ 7 ∷ letter 114
+      ++ 0 ∷ 0 ∷ 0 ∷ 0 ∷ 0 ∷ 1 ∷ letter 97
+      ++ 0 ∷ 0 ∷ 0 ∷ 0 ∷ 0 ∷ 0 ∷ 0 ∷ 0 ∷ 0 ∷ 0 ∷ 16 ∷ letter 113
+      ++ 0 ∷ 0 ∷ token_bytes
+      ++ 0 ∷ []
+      ),
+)
     ∷ []

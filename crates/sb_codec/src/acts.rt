@@ -14,6 +14,7 @@ use crate::lists::Listed;
 use crate::messages::MessagePiece;
 use crate::piece::Piece;
 use crate::pieces::{DescriptionPiece, ModePiece, PathPiece, TokenPiece};
+use crate::steps::StepPiece;
 use crate::unread::Unread;
 use sb_machine::Act;
 use std::alloc::{AllocError, Global};
@@ -40,7 +41,9 @@ macro_rules! acts {
             16 SessionSet { from: PathPiece, session: TokenPiece, state: Opt<Blob> },
             17 Begin { entity: PathPiece },
             18 Commit { txn: Number64 },
-            19 Rollback { txn: Number64 })
+            19 Rollback { txn: Number64 },
+            32 Together { entity: PathPiece, steps: Listed<StepPiece> },
+            33 ForgetClient { client: Words })
     };
 }
 

@@ -27,6 +27,7 @@ mod lists;
 mod messages;
 mod piece;
 mod pieces;
+mod steps;
 mod unread;
 mod worked;
 

@@ -1,7 +1,7 @@
 // Events whose bytes were worked out by hand.
 ghost use Rattle.std.specs.Prelude.{◌≡◌, ◌∷◌, ◌++◌, [], length, take, map, Some, None};
 ghost use Rattle.sb_codec.specs.EventBytes.{event_bytes, read_event};
-ghost use Rattle.sb_codec.specs.Worked.{ticked, ticked_bytes, made, made_bytes, entities, copies, sessions};
+ghost use Rattle.sb_codec.specs.Worked.{ticked, ticked_bytes, made, made_bytes, entities, copies, sessions, together};
 
 /// The definitions give the bytes that were worked out by hand, for a tick and for each act.
 pub fn worked_bytes()
@@ -10,6 +10,7 @@ pub fn worked_bytes()
     ensures entities { map (λ row. event_bytes row.0) entities ≡ map (λ row. row.1) entities }
     ensures copies { map (λ row. event_bytes row.0) copies ≡ map (λ row. row.1) copies }
     ensures sessions { map (λ row. event_bytes row.0) sessions ≡ map (λ row. row.1) sessions }
+    ensures together { map (λ row. event_bytes row.0) together ≡ map (λ row. row.1) together }
     // Bytes that stop early, that go on, or that begin with no event's byte are not read.
     ensures read { read_event ticked_bytes ≡ Some ticked }
     ensures short { read_event (take 8 ticked_bytes) ≡ None }

@@ -5,6 +5,7 @@ mod Finds
 mod GroupChanges
 mod GroupMoves
 mod Grouped
+mod HeadFinds
 mod InOrder
 mod Leading
 mod Listing

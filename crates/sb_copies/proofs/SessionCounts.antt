@@ -1,5 +1,5 @@
 -- The copies of a session that may be received, counted among those whose rows stand under its hash.
-use Rattle.std.proofs.Common.{◌≡◌, ℕ, List, [], ◌∷◌, length, map, ◌&&◌, Bool, true, false, cond, refl, sym, ap, ◌∙◌}
+use Rattle.std.proofs.Common.{◌≡◌, ℕ, List, [], ◌∷◌, length, map, Bool, true, false, cond, refl, sym, ap, ◌∙◌}
 use Rattle.std.specs.List.{filter}
 use Rattle.sb_index.specs.declared.row.Row.{Row}
 use Rattle.sb_machine.specs.Leases.{is_ready}
@@ -11,7 +11,7 @@ use Rattle.sb_copies.specs.BySession.{HoldsSessions, session_hash, session_hash_
 use Rattle.sb_copies.specs.Grouped.{is_in_group, is_under, numbers_under, own_row}
 use Rattle.sb_copies.specs.Heads.{undue, undue_rows}
 use Rattle.sb_copies.specs.Shelf.{AreInOrder, numbered_in}
-use Rattle.sb_copies.proofs.Listing.{listed, numbers_of}
+use Rattle.sb_copies.proofs.Listing.{listed}
 use Rattle.sb_copies.proofs.Order.{both}
 use Rattle.sb_copies.proofs.SessionFinds.{hashed}
 

@@ -29,6 +29,10 @@ is_usual n = nat_lt n never
 abbrev pub is_of_session : ℕ → List StoredCopy → Bool
 is_of_session n copies = option_map_or (λ c. is_some (text_of SessionId c.message)) (find (has_number n) copies) false
 
+-- whether a message's number is one of these
+abbrev pub is_head : List ℕ → StoredCopy → Bool
+is_head ns c = is_among c.number ns
+
 -- one that is the least of these, or there is none of them
 abbrev pub IsLeast : Option ℕ → List ℕ → Type 0
 IsLeast least ns = IfSome least (λ n. (is_among n ns ≡ true) × ((m : ℕ) → m < n → is_among m ns ≡ false)) × IfNone least ((m : ℕ) → is_among m ns ≡ false)

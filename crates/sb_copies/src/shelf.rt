@@ -12,7 +12,7 @@ ghost use Rattle.sb_model.specs.declared.message.SystemName.TheVariants.{Session
 ghost use Rattle.sb_machine.specs.declared.state.Standing.TheVariants.{Held};
 ghost use Rattle.sb_copies.specs.ByLock.{held_lock, locks_taken};
 ghost use Rattle.sb_copies.specs.Dues.{due_by, least_of};
-ghost use Rattle.sb_copies.specs.Heads.{except, is_among, is_of_session, is_usual, IsLeast};
+ghost use Rattle.sb_copies.specs.Heads.{except, is_among, is_head, is_of_session, is_usual, IsLeast};
 ghost use Rattle.sb_copies.specs.Shelf.{row_in, AreBelow, AreInOrder};
 ghost use Rattle.sb_copies.specs.Tally.{standing_at};
 ghost use Rattle.sb_copies.specs.UnderSession.{under_lock};
@@ -270,6 +270,15 @@ impl Shelf {
         ensures { IsLeast result self.now.heads }
     {
         heads::least(&self.by_session)
+    }
+
+    /// The copies that are heads of sessions, of those that were told, in order. No other is looked at.
+    #[tactic(auto, using(crate::proofs::Finding::leads))]
+    pub fn heads(&self) -> Result<Vec<&StoredCopy>, AllocError>
+        ensures { IfOk result (λ found. map (λ c. c.now) found.items ≡ filter (is_head self.now.heads) self.now.copies) }
+    {
+        self.rises();
+        heads::all(self.alloc, &self.slots, &self.order, &self.by_session)
     }
 
     /// The deferred one of this number.

@@ -1,15 +1,15 @@
 -- The copies of an entity stand as they were read while a commit acts, but for those that it settled.
 use Rattle.std.proofs.Common.{Bool, List, None, Option, Some, [], ap, cond, false, find, map, refl, subst, sym, true, ℕ, ◌&&◌, ◌+◌, ◌++◌, ◌∙◌, ◌∷◌, ◌≡◌}
-use Rattle.std.specs.Prelude.{◌==◌, nat_lt, if◌then◌else◌}
-use Rattle.std.specs.List.{list_all}
+use Rattle.std.specs.Prelude.{◌==◌, ◌||◌, nat_lt, if◌then◌else◌}
+use Rattle.std.specs.List.{list_all, list_any}
 use Rattle.std.specs.Option.{option_map}
 use Rattle.sb_fanout.proofs.Places.{about_kept, find_apart, find_here, leaf_apart, leaf_here, same_number, same_parts}
 use Rattle.sb_fanout.proofs.There.{both}
 use Rattle.sb_machine.specs.Changes.{after, after_all, in_turn, noted}
 use Rattle.sb_machine.specs.Delivery.{delivered, landing, visit_change, visit_key}
 use Rattle.sb_machine.specs.Keyed.{changed}
-use Rattle.sb_machine.specs.Leases.{is_living}
-use Rattle.sb_machine.specs.Leaves.{has_number, leaf_after, seq_or}
+use Rattle.sb_machine.specs.Leases.{is_living, is_living_holder}
+use Rattle.sb_machine.specs.Leaves.{has_number, is_held_under, leaf_after, remembered, seq_or}
 use Rattle.sb_machine.specs.Messages.{text_of}
 use Rattle.sb_machine.specs.Names.{is_same_part}
 use Rattle.sb_machine.specs.Namespace.{is_entity, last_at, leaf_of, listed, with_leaf}
@@ -23,6 +23,8 @@ use Rattle.sb_machine.specs.declared.change.Change.TheVariants.{AddsRule, Begins
 use Rattle.sb_machine.specs.declared.change.LeafChange.{LeafChange}
 use Rattle.sb_machine.specs.declared.change.LeafChange.TheVariants.{Closes, Ends, Enters, Holds, Opens, Passes, Prolongs, Renews, Stands, Writes}
 use Rattle.sb_machine.specs.declared.state.Entity.{Entity}
+use Rattle.sb_machine.specs.declared.state.Hold.TheVariants.{Session as UnderSession, Until}
+use Rattle.sb_machine.specs.declared.state.Holder.{Holder}
 use Rattle.sb_machine.specs.declared.state.Leaf.{Leaf}
 use Rattle.sb_machine.specs.declared.state.Session.{Session}
 use Rattle.sb_machine.specs.declared.state.Space.{Space}
@@ -47,11 +49,14 @@ is_calm_in settled part (Enters fresh) = is_loose fresh.standing
 is_calm_in settled part (Passes cause) = true
 is_calm_in settled part (Ends n by cause) = is_settled settled part n
 is_calm_in settled part (Stands n by count standing) = is_settled settled part n
+is_calm_in settled part (Writes lock state) = true
 is_calm_in settled part _ = false
 
 abbrev pub is_calm : List SettledCopy → Change → Bool
 is_calm settled (InLeaf key c) = is_calm_in settled key.part c
 is_calm settled (Notes n id) = true
+is_calm settled (Begins n deadline) = true
+is_calm settled (Drops n) = true
 is_calm settled _ = false
 
 -- ---- one part
@@ -88,6 +93,32 @@ module _ {X : Type 0} where
     go true is ih = ap (λ (b : Bool). cond b (Some (g y)) (find p ys)) ((apart y is).1) ∙ sym (ap (λ (b : Bool). cond b (Some y) (find p ys)) ((apart y is).0))
     go false is ih = ap (λ (o : Option X). cond (p y) (Some y) o) ih
 
+  found_same : (p q : X → Bool) → ((x : X) → p x ≡ q x) → (xs : List X) → find p xs ≡ find q xs
+  found_same p q same [] = refl
+  found_same p q same (x ∷ xs) = ap (λ (b : Bool). cond b (Some x) (find p xs)) (same x) ∙ ap (λ (o : Option X). cond (q x) (Some x) o) (found_same p q same xs)
+
+-- what a session remembers says nothing of its lock
+holds_written : (t k l : ℕ) (state : Option (List ℕ)) (xs : List Session) → list_any (is_living_holder t k) (changed (is_held_under l) (λ x. remembered (record x { state = state })) xs) ≡ list_any (is_living_holder t k) xs
+holds_written t k l state [] = refl
+holds_written t k l state (x ∷ xs) = by x.holder refl (holds_written t k l state xs) where
+  rest : List Session
+  rest = changed (is_held_under l) (λ (y : Session). remembered (record y { state = state })) xs
+
+  at : (h : Holder) (b : Bool) → x.holder ≡ Some h → (h.lock == l) ≡ b → list_any (is_living_holder t k) rest ≡ list_any (is_living_holder t k) xs → list_any (is_living_holder t k) (changed (is_held_under l) (λ (y : Session). remembered (record y { state = state })) (x ∷ xs)) ≡ list_any (is_living_holder t k) (x ∷ xs)
+  at h true is held ih = rw (is, held) refl
+  at h false is held ih = rw (is, held) (ap (λ (b : Bool). ((h.lock == k) && nat_lt t h.until) || b) ih)
+
+  by : (o : Option Holder) → x.holder ≡ o → list_any (is_living_holder t k) rest ≡ list_any (is_living_holder t k) xs → list_any (is_living_holder t k) (changed (is_held_under l) (λ (y : Session). remembered (record y { state = state })) (x ∷ xs)) ≡ list_any (is_living_holder t k) (x ∷ xs)
+  by None is ih = rw is ih
+  by (Some h) is ih = at h (h.lock == l) is refl ih
+
+living_written : (t lock l : ℕ) (state : Option (List ℕ)) (sessions : List Session) (st : Standing) → is_living t (changed (is_held_under l) (λ x. remembered (record x { state = state })) sessions) lock st ≡ is_living t sessions lock st
+living_written t lock l state sessions Ready = refl
+living_written t lock l state sessions Deferred = refl
+living_written t lock l state sessions (Scheduled at) = refl
+living_written t lock l state sessions (Held own (Until u) deferred) = refl
+living_written t lock l state sessions (Held own (UnderSession k) deferred) = ap (λ (b : Bool). (own == lock) && b) (holds_written t k l state sessions)
+
 numbers_apart : (settled : List SettledCopy) (part : Part) (m n : ℕ) → is_settled settled part m ≡ true → is_settled settled part n ≡ false → (m == n) ≡ false
 numbers_apart settled part m n one other = go (m == n) refl where
   go : (b : Bool) → (m == n) ≡ b → (m == n) ≡ false
@@ -112,7 +143,9 @@ leaf_kept t lock n next settled part (Renews m until) leaf calm free = absurd cc
 leaf_kept t lock n next settled part (Opens id until) leaf calm free = absurd cc
 leaf_kept t lock n next settled part (Closes l) leaf calm free = absurd cc
 leaf_kept t lock n next settled part (Prolongs l until) leaf calm free = absurd cc
-leaf_kept t lock n next settled part (Writes l state) leaf calm free = absurd cc
+leaf_kept t lock n next settled part (Writes l state) leaf calm free =
+    found_same (λ (x : StoredCopy). is_living t (leaf_after next t (Writes l state) leaf).sessions lock x.standing && (x.number == n)) (λ (x : StoredCopy). is_living t leaf.sessions lock x.standing && (x.number == n))
+    (λ x. ap (λ (b : Bool). b && (x.number == n)) (living_written t lock l state leaf.sessions x.standing)) leaf.copies
 
 -- ---- one change
 
@@ -159,9 +192,9 @@ found_after t read e settled (Makes kind path description rules) s calm found = 
 found_after t read e settled (Removes n) s calm found = absurd cc
 found_after t read e settled (AddsRule n rule) s calm found = absurd cc
 found_after t read e settled (DropsRule n name) s calm found = absurd cc
-found_after t read e settled (Begins n deadline) s calm found = absurd cc
+found_after t read e settled (Begins n deadline) s calm found = record { salt = found.salt; now = found.now; is = found.is; about = found.about; found = found.found }
 found_after t read e settled (Queues n deadline operation) s calm found = absurd cc
-found_after t read e settled (Drops n) s calm found = absurd cc
+found_after t read e settled (Drops n) s calm found = record { salt = found.salt; now = found.now; is = found.is; about = found.about; found = found.found }
 
 pub found_later : (t : ℕ) (read : Space) (e : Entity) (settled : List SettledCopy) (cs : List Change) (s : Space) → list_all (is_calm settled) cs ≡ true → AsFound t read e settled s → AsFound t read e settled (after_all t cs s)
 found_later t read e settled [] s calm found = found

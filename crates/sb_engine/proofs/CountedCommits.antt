@@ -17,7 +17,7 @@ use Rattle.sb_machine.specs.Namespace.{entity_of, is_entity, key_of, leaf_of, li
 use Rattle.sb_machine.specs.Reasons.{for_reason, with_reason}
 use Rattle.sb_machine.specs.Settlement.{goes_with, settled}
 use Rattle.sb_machine.specs.Sending.{send_changes, unscheduled}
-use Rattle.sb_machine.specs.Transactions.{commit_changes, handed_on, operation_changes, queued_copy, settled_found}
+use Rattle.sb_machine.specs.Transactions.{handed_on, operation_changes, queued_copy, settled_found}
 use Rattle.sb_machine.specs.Visits.{burial, passage}
 use Rattle.sb_machine.specs.declared.call.How.{How}
 use Rattle.sb_machine.specs.declared.call.How.TheVariants.{Complete, Abandon, Defer, DeadLetter}
@@ -157,7 +157,7 @@ mild_operation t e (Send to messages) s goes there = at (is_same_entity to e.abo
   at false = mild_handed_on t e to.name messages s there
 mild_operation t e (Settle from number token session how) s goes there = mild_settlement t s e.about.number from number token how goes
 
-mild_operations : (t : ℕ) (e : Entity) (os : List Operation) (s : Space) → list_all goes_well os ≡ true → IsThere e.about.number s → Mild t (in_turn (operation_changes t e) t os s) s
+pub mild_operations : (t : ℕ) (e : Entity) (os : List Operation) (s : Space) → list_all goes_well os ≡ true → IsThere e.about.number s → Mild t (in_turn (operation_changes t e) t os s) s
 mild_operations t e [] s goes there = tt
 mild_operations t e (o ∷ os) s goes there =
     let go = both (goes_well o) (list_all goes_well os) goes in
@@ -165,7 +165,3 @@ mild_operations t e (o ∷ os) s goes there =
     let now = after_all t (operation_changes t e o s) s in
     mild_append t (operation_changes t e o s) (in_turn (operation_changes t e) t os now) s one
     (mild_operations t e os now go.1 (ap (λ (es : List Listed). is_listed e.about.number es) (mild_listed t (operation_changes t e o s) s one) ∙ there))
-
-pub commits_are_counted : (t : ℕ) (e : Entity) (x : Transaction) (s : Space) → list_all goes_well x.operations ≡ true → IsThere e.about.number s → AreCounted t (commit_changes t e x s) s
-commits_are_counted t e x s goes there =
-    mild_counted t (commit_changes t e x s) s (tt, refl, mild_operations t e x.operations (after t (Drops x.number) s) goes there)

@@ -24,3 +24,9 @@ pub mod Items
 pub mod Told
 pub mod Onward
 pub mod Crossing
+pub mod Fronts
+pub mod Receipts
+pub mod Fulfilments
+pub mod Gatherings
+pub mod Togethers
+mod Fields

@@ -1,5 +1,5 @@
 -- Calls that are planned without memory are refused by nothing but the machine, and their plans add to no list.
-use Rattle.std.proofs.Common.{◌≡◌, ℕ, Bool, true, false, List, Option, Some, None, is_none, is_some, Result, Ok, Err, refl, ap, subst, ◌∙◌}
+use Rattle.std.proofs.Common.{◌≡◌, ℕ, Bool, true, false, List, Option, Some, None, is_none, is_some, Result, Ok, Err, refl, sym, ap, subst, ◌∙◌}
 use Rattle.std.specs.Prelude.{◌&&◌, if◌then◌else◌}
 use Rattle.std.specs.Result.{IfOk, IfErr}
 use Rattle.sb_fanout.proofs.There.{both}
@@ -12,12 +12,12 @@ use Rattle.sb_machine.specs.Leases.{held_session, leased}
 use Rattle.sb_machine.specs.Namespace.{leaf_of}
 use Rattle.sb_machine.specs.Queueing.{transaction_of}
 use Rattle.sb_machine.specs.Receiving.{cancelled, scheduled_copy}
-use Rattle.sb_machine.specs.Repeats.{client_of, for_client, of_row, outcome_of}
+use Rattle.sb_machine.specs.Repeats.{client_of, for_client, of_answer, of_row, acted, outcome_of}
 use Rattle.sb_machine.specs.Rows.{Row, answers, refuses}
 use Rattle.sb_machine.specs.SettleRow.{pending, pending_in, settle_found, settled_or_queued}
 use Rattle.sb_machine.specs.Settlement.{goes_with}
 use Rattle.sb_machine.specs.declared.call.Act.{Act}
-use Rattle.sb_machine.specs.declared.call.Act.TheVariants.{CreateQueue, CreateTopic, CreateSubscription, CreateRule, Delete, DeleteRule, Send, Cancel, Receive, ReceiveDeferred, Settle, Renew, Accept, SessionRenew, SessionClose, SessionSet, SessionState, Begin, Commit, Rollback, Peek, Counts, Look}
+use Rattle.sb_machine.specs.declared.call.Act.TheVariants.{CreateQueue, CreateTopic, CreateSubscription, CreateRule, Delete, DeleteRule, Send, Cancel, Receive, ReceiveDeferred, Settle, Renew, Accept, SessionRenew, SessionClose, SessionSet, SessionState, Begin, Commit, Rollback, Together, ForgetClient, Peek, Counts, Look}
 use Rattle.sb_machine.specs.declared.call.By.{By}
 use Rattle.sb_machine.specs.declared.call.Call.{Call}
 use Rattle.sb_machine.specs.declared.call.How.{How}
@@ -31,6 +31,7 @@ use Rattle.sb_machine.specs.declared.reply.Refusal.{Refusal}
 use Rattle.sb_machine.specs.declared.reply.Refusal.TheVariants.{SessionNotAllowed, SessionRequired, TxnNotFound, WrongKind}
 use Rattle.sb_machine.specs.declared.reply.Reply.{Reply}
 use Rattle.sb_machine.specs.declared.state.Entity.{Entity}
+use Rattle.sb_machine.specs.declared.state.Kept.{Kept}
 use Rattle.sb_machine.specs.declared.state.Session.{Session}
 use Rattle.sb_machine.specs.declared.state.Space.{Space}
 use Rattle.sb_machine.specs.declared.state.State.{State}
@@ -147,6 +148,8 @@ module _ (s : Space) (t : ℕ) where
   row_small (Peek from start count) small = absurd cc
   row_small (Counts path) small = absurd cc
   row_small (Look what) small = absurd cc
+  row_small (Together path steps) small = absurd cc
+  row_small (ForgetClient name) small = absurd cc
 
   small_row : (by : Option By) (act : Act) → is_small act ≡ true → AddsNothing (row_of s t by act)
   small_row by act small =
@@ -160,13 +163,43 @@ IsBare p = (is_some p.kept ≡ false) × (adds_nothing p.changes ≡ true)
 inside : (x y : Planned) → ◌≡◌ {A = Result Planned Refusal} (Ok x) (Ok y) → x ≡ y
 inside x y e = cc
 
-small_plan : (act : Act) (row : Row) (p : Planned) → AddsNothing row → planned_of None act (of_row row) ≡ Ok p → IsBare p
-small_plan act (refuses r) p none e = absurd cc
-small_plan act (answers reply cs) p (answered_so none) e = subst IsBare (inside _ p e) (refl, none)
+-- such an act asks of no client
+acts_alone : (clients : List Kept) (act : Act) (reply : Reply) (cs : List Change) → is_small act ≡ true → of_answer clients act reply cs ≡ acted reply cs
+acts_alone clients (Cancel from n) reply cs small = refl
+acts_alone clients (Rollback n) reply cs small = refl
+acts_alone clients (Settle from which token session how txn) reply cs small = refl
+acts_alone clients (CreateQueue name d) reply cs small = refl
+acts_alone clients (CreateTopic name d) reply cs small = refl
+acts_alone clients (CreateSubscription topic name d) reply cs small = refl
+acts_alone clients (CreateRule topic subscription name asked_for action) reply cs small = refl
+acts_alone clients (Delete path) reply cs small = refl
+acts_alone clients (DeleteRule topic subscription name) reply cs small = refl
+acts_alone clients (Send to messages txn) reply cs small = refl
+acts_alone clients (Receive from mode session) reply cs small = refl
+acts_alone clients (ReceiveDeferred from n mode session) reply cs small = refl
+acts_alone clients (Renew from which token) reply cs small = refl
+acts_alone clients (Accept from id) reply cs small = refl
+acts_alone clients (SessionRenew from token) reply cs small = refl
+acts_alone clients (SessionClose from token) reply cs small = refl
+acts_alone clients (SessionSet from token bytes) reply cs small = refl
+acts_alone clients (SessionState from token) reply cs small = refl
+acts_alone clients (Begin path) reply cs small = refl
+acts_alone clients (Commit n) reply cs small = refl
+acts_alone clients (Peek from start count) reply cs small = refl
+acts_alone clients (Counts path) reply cs small = refl
+acts_alone clients (Look what) reply cs small = absurd cc
+acts_alone clients (Together path steps) reply cs small = refl
+acts_alone clients (ForgetClient name) reply cs small = absurd cc
+
+small_plan : (clients : List Kept) (act : Act) (row : Row) (p : Planned) → is_small act ≡ true → AddsNothing row → planned_of None act (of_row clients act row) ≡ Ok p → IsBare p
+small_plan clients act (refuses r) p small none e = absurd cc
+small_plan clients act (answers reply cs) p small (answered_so none) e =
+    let alone : planned_of None act (acted reply cs) ≡ Ok p = ap (planned_of None act) (sym (acts_alone clients act reply cs small)) ∙ e in
+    subst IsBare (inside _ p alone) (refl, none)
 
 pub small_bare : (s : State) (t : ℕ) (call : Call) (r : Result Planned Refusal) → takes_no_memory s.space call ≡ true → PlansAs r (planned_of (client_of call) call.act (outcome_of s t call)) → IfOk r IsBare
 small_bare s t call (Err x) is planned = tt
 small_bare s t call (Ok p) is planned =
     let its = small s.space call is in
-    small_plan call.act (row_of s.space t call.by call.act) p (small_row s.space t call.by call.act its.act)
-    (subst (λ (by : Option By). planned_of by call.act (for_client by call.act s.clients (of_row (row_of s.space t call.by call.act))) ≡ Ok p) its.client planned)
+    small_plan s.clients call.act (row_of s.space t call.by call.act) p its.act (small_row s.space t call.by call.act its.act)
+    (subst (λ (by : Option By). planned_of by call.act (for_client by call.act s.clients (of_row s.clients call.act (row_of s.space t call.by call.act))) ≡ Ok p) its.client planned)

@@ -1,5 +1,5 @@
 -- The machine over lists in memory, in the order to read them: Engines, Planned (what an engine is, and what planning comes to); Heads,
--- Readings, Sendings, Commits, Removals, Rules, Quotas (parts of a plan); Deadlines, Sweeps (time); the others as they are used.
+-- Readings, Sendings, Commits, Fulfilments, Gatherings, Removals, Rules, Quotas (parts of a plan); Deadlines, Sweeps (time); the others as they are used.
 pub mod Plans
 pub mod Deadlines
 pub mod Drafts
@@ -7,6 +7,8 @@ pub mod Heads
 pub mod Growing
 pub mod Sendings
 pub mod Commits
+pub mod Fulfilments
+pub mod Gatherings
 pub mod Readings
 pub mod Removals
 pub mod Rules

@@ -4,6 +4,7 @@ ghost use Rattle.sb_entities.specs.Stores.{space_in};
 ghost use Rattle.sb_machine.specs.Acts.{act_row};
 ghost use Rattle.sb_machine.specs.Answers.{max_moment};
 ghost use Rattle.sb_machine.specs.Rows.{refuses};
+ghost use Rattle.sb_engine.specs.Gatherings.{sets_once};
 ghost use Rattle.sb_engine.specs.Plans.{PlansRow};
 ghost use Rattle.sb_engine.specs.Small.{is_small};
 
@@ -12,6 +13,8 @@ mod cancel;
 mod commit;
 mod create;
 mod delete;
+mod fitting;
+mod gathering;
 pub mod kinds;
 mod looks;
 mod receive;
@@ -24,6 +27,7 @@ mod session_renew;
 mod session_set;
 mod session_state;
 mod settle;
+mod together;
 mod transactions;
 mod views;
 
@@ -44,15 +48,17 @@ use crate::acts::session_renew::plan_session_renew;
 use crate::acts::session_set::plan_session_set;
 use crate::acts::session_state::plan_session_state;
 use crate::acts::settle::plan_settle;
+use crate::acts::together::plan_together;
 use crate::acts::transactions::{plan_begin, plan_rollback};
 use crate::acts::views::plan_look;
 use sb_entities::SpaceStore;
-use sb_machine::{Act, EntityKind, Refusal};
+use sb_machine::{Act, EntityKind, Refusal, Reply};
 use std::alloc::Global;
 
 /// What an act would do at a moment at which nothing is due.
 pub fn plan_act(alloc: Global, space: &SpaceStore, moment: u64, act: &Act) -> Result<Draft, Refusal>
-    requires { moment ≤ max_moment }
+    requires moment { moment ≤ max_moment }
+    requires once { sets_once act.now ≡ true }
     ensures row { PlansRow result (act_row (space_in space.now) moment act.now) }
     ensures free { is_small act.now ≡ true → IfErr result (λ r. act_row (space_in space.now) moment act.now ≡ refuses r) }
 {
@@ -83,6 +89,8 @@ pub fn plan_act(alloc: Global, space: &SpaceStore, moment: u64, act: &Act) -> Re
         } => plan_delete_rule(alloc, space, topic, subscription, name),
         Act::Begin { entity } => plan_begin(alloc, space, moment, entity),
         Act::Rollback { txn } => plan_rollback(alloc, space, *txn),
+        Act::Together { entity, steps } => plan_together(alloc, space, moment, entity, steps),
+        Act::ForgetClient { .. } => Ok(Draft::unchanging(alloc, Reply::Done)),
         Act::Peek { from, start, count } => plan_peek(alloc, space, from, *start, *count),
         Act::Counts { entity } => plan_counts(alloc, space, entity),
         Act::Look { what } => plan_look(alloc, space, what),

@@ -2,6 +2,7 @@
 
 pub mod arrivals;
 pub mod committing;
+pub mod fulfilling;
 pub mod handing;
 pub mod queueing;
 pub mod release;

@@ -4,7 +4,7 @@ ghost use Rattle.std.specs.Option.{option_map};
 ghost use Rattle.std.specs.Result.{IsOk};
 ghost use Rattle.sb_entities.specs.Stores.{space_in, IsRoomFor};
 ghost use Rattle.sb_machine.specs.Acts.{is_via_in, row_of};
-ghost use Rattle.sb_machine.specs.Answers.{answer_of, kept_as, with_kept, max_moment};
+ghost use Rattle.sb_machine.specs.Answers.{answer_of, max_moment};
 ghost use Rattle.sb_machine.specs.Changes.{after_all, is_numbered};
 ghost use Rattle.sb_machine.specs.Consistent.{IsConsistent};
 ghost use Rattle.sb_machine.specs.Due as due;
@@ -14,22 +14,22 @@ ghost use Rattle.sb_machine.specs.History.{advanced, is_spent};
 ghost use Rattle.sb_machine.specs.Namespace.{empty_state, live as live_of, made as made_of};
 ghost use Rattle.sb_machine.specs.Repeats as repeats;
 ghost use Rattle.sb_machine.specs.Rows.{refuses};
-ghost use Rattle.sb_machine.specs.Repeats.{acted};
-ghost use Rattle.sb_machine.specs.declared.reply.Answered.TheVariants.{Kept as Repeated};
 ghost use Rattle.sb_machine.specs.declared.reply.Refusal.TheVariants.{Exhausted, OutOfMemory};
 ghost use Rattle.sb_laws.specs.Sweepable.{IsSweepable};
 ghost use Rattle.sb_engine.specs.Deadlines.{never};
-ghost use Rattle.sb_engine.specs.Engines.{engine_state, engine_stock, adds_nothing, carried_out, planned_of, summary_of, HasRoom, IsPlanOf, IsSound, PlansAs};
+ghost use Rattle.sb_engine.specs.Engines.{engine_state, engine_stock, adds_nothing, carried_out, planned_of, summary_of, with_call, without, HasRoom, IsPlanOf, IsSound, PlansAs};
 ghost use Rattle.sb_engine.specs.Small.{is_small, takes_no_memory};
 
 use crate::deliver::arrivals::Marks;
 use crate::plan::calls::{Verdict, client_of, judge_number};
+use crate::plan::clients::{plan_answer, plan_repeated};
 use crate::plan::planning::plan_row;
 use crate::time::due::{is_due, soonest};
 use crate::time::ticks::plan_tick;
-use crate::{Draft, Plan, Summary};
+use crate::{Plan, Summary};
 use sb_entities::SpaceStore;
-use sb_machine::{Act, Answered, By, Call, Changes, Kept, Refusal, Reply, State};
+use sb_machine::{Answered, By, Call, Changes, Kept, Refusal, Reply, State};
+use sb_model::Text;
 use sb_repeats::Clients;
 use std::alloc::{AllocError, Global};
 
@@ -42,56 +42,6 @@ pub struct Engine {
     space: SpaceStore,
     // Of the parts for which something came.
     entered: Marks,
-}
-
-// What is kept of an accepted call.
-fn kept_of(by: &By, act: &Act, reply: &Reply) -> Result<Kept, AllocError>
-    ensures { IfOk result (λ k. k ≡ kept_as by.now act.now reply.now) }
-{
-    let client = by.client.clone()?;
-    let act = act.clone()?;
-    let Ok(reply) = reply.clone() else {
-        drop(act);
-        return Err(AllocError);
-    };
-    Ok(Kept {
-        client,
-        number: by.number,
-        act,
-        reply,
-    })
-}
-
-fn kept_where(by: Option<&By>, act: &Act, reply: &Reply) -> Result<Option<Kept>, AllocError>
-    ensures kept { IfOk result (λ k. k ≡ option_map (λ b. kept_as b act.now reply.now) (option_map (λ b. b.now) by.entry)) }
-    ensures free { option_map (λ b. b.now) by.entry ≡ None → IsOk result }
-{
-    match by {
-        Some(by) => Ok(Some(kept_of(by, act, reply)?)),
-        None => Ok(None),
-    }
-}
-
-// The plan of a draft, kept where a client with a number asks.
-fn plan_draft(by: Option<&By>, act: &Act, draft: Draft) -> Result<Plan, AllocError>
-    ensures plan { IfOk result (λ p. planned_of (option_map (λ b. b.now) by.entry) act.now (acted draft.reply draft.changes) ≡ Ok p) }
-    ensures free { option_map (λ b. b.now) by.entry ≡ None → IsOk result }
-{
-    let Draft { reply, changes } = draft;
-    let Ok(kept) = kept_where(by, act, &reply) else {
-        drop(reply);
-        drop(changes);
-        return Err(AllocError);
-    };
-    Ok(Plan::new(changes, Answered::New(reply), kept))
-}
-
-// The plan of a call that acted before.
-fn plan_repeated(alloc: Global, reply: &Reply) -> Result<Plan, AllocError>
-    ensures { IfOk result (λ p. p ≡ record { changes = []; answered = Repeated reply.now; kept = None }) }
-{
-    let reply = reply.clone()?;
-    Ok(Plan::new(Changes::new(alloc), Answered::Kept(reply), None))
 }
 
 impl Engine {
@@ -154,21 +104,18 @@ impl Engine {
     // What a call that acts would do.
     fn plan_acting(&self, moment: u64, by: Option<&By>, call: &Call) -> Result<Plan, Refusal>
         requires { moment ≤ max_moment }
-        ensures plan { PlansAs result (planned_of (option_map (λ b. b.now) by.entry) call.now.act (repeats.of_row (row_of (engine_state self.now).space moment call.now.by call.now.act))) }
+        ensures plan { PlansAs result (planned_of (option_map (λ b. b.now) by.entry) call.now.act (repeats.of_row (engine_state self.now).clients call.now.act (row_of (engine_state self.now).space moment call.now.by call.now.act))) }
         ensures free { option_map (λ b. b.now) by.entry ≡ None → bad_field (is_via_in (engine_state self.now).space call.now.act) call.now.act call.now.by ≡ None → is_small call.now.act ≡ true → IfErr result (λ r. row_of (engine_state self.now).space moment call.now.by call.now.act ≡ refuses r) }
         ensures sound { IfOk result (λ p. IsSound (engine_state self.now) moment p) }
     {
         let draft = plan_row(self.alloc, &self.space, moment, &call.by, &call.act)?;
-        match plan_draft(by, &call.act, draft) {
-            Ok(plan) => Ok(plan),
-            Err(_) => Err(Refusal::OutOfMemory),
-        }
+        plan_answer(self.alloc, &self.clients, by, &call.act, draft)
     }
 
     // What a call with a client's number would do.
     fn plan_numbered(&self, moment: u64, by: &By, call: &Call) -> Result<Plan, Refusal>
         requires { moment ≤ max_moment }
-        ensures plan { PlansAs result (planned_of (Some by.now) call.now.act (repeats.for_client (Some by.now) call.now.act (engine_state self.now).clients (repeats.of_row (row_of (engine_state self.now).space moment call.now.by call.now.act)))) }
+        ensures plan { PlansAs result (planned_of (Some by.now) call.now.act (repeats.for_client (Some by.now) call.now.act (engine_state self.now).clients (repeats.of_row (engine_state self.now).clients call.now.act (row_of (engine_state self.now).space moment call.now.by call.now.act)))) }
         ensures sound { IfOk result (λ p. IsSound (engine_state self.now) moment p) }
     {
         match judge_number(&self.clients, by, &call.act) {
@@ -259,9 +206,10 @@ impl Engine {
         ensures state { engine_state self.new ≡ carried_out moment plan (engine_state self.old) }
         ensures answered { result ≡ plan.answered }
     {
-        let (changes, answered, kept) = plan.into_parts();
+        let (changes, answered, forgets, kept) = plan.into_parts();
         self.entered.note(&self.space, &changes);
         carry_changes(&mut self.space, moment, changes);
+        forget(&mut self.clients, forgets);
         keep(&mut self.clients, kept);
         self.moment = moment;
         answered
@@ -306,9 +254,18 @@ fn carry_changes(space: &mut SpaceStore, moment: u64, changes: Changes)
     }
 }
 
+fn forget(clients: &mut Clients, forgets: Option<Text>)
+    ensures clients { clients.new.clients ≡ without forgets clients.old.clients }
+    ensures spare { clients.new.spare ≡ clients.old.spare }
+{
+    if let Some(client) = forgets {
+        clients.forget(client.as_str());
+    }
+}
+
 fn keep(clients: &mut Clients, kept: Option<Kept>)
     requires { is_some kept ≡ true → 1 ≤ clients.old.spare }
-    ensures { clients.new.clients ≡ elim kept [ Some k ↦ with_kept k clients.old.clients | None ↦ clients.old.clients ] }
+    ensures { clients.new.clients ≡ with_call kept clients.old.clients }
 {
     if let Some(kept) = kept {
         clients.keep(kept);

@@ -14,6 +14,7 @@ pub mod Ordered
 pub mod ByPath
 pub mod ById
 pub mod SessionList
+pub mod Signs
 pub mod Numbering
 pub mod Stocking
 pub mod Carried

@@ -4,7 +4,7 @@ use Rattle.std.proofs.lemmas.Bool.Decides.{nat_tests}
 use Rattle.sb_machine.specs.Each.{Each}
 use Rattle.sb_machine.specs.Keyed.{AreRising, changed}
 use Rattle.sb_machine.specs.declared.state.Operation.{Operation}
-use Rattle.sb_txn.specs.Txns.{Opened, has_txn, begun, with_queued, is_elsewhere}
+use Rattle.sb_txn.specs.Txns.{Opened, has_txn, begun, with_queued, is_elsewhere, transactions_of}
 use Rattle.sb_entities.specs.Stocks.{on_txn}
 use Rattle.sb_entities.specs.Transactions.{txn_number, are_rising, AreOpened}
 use Rattle.sb_entities.proofs.Rising.{rising_dropped, rising_changed, rising_append, rising_filter}
@@ -64,3 +64,9 @@ opened_below last rows h = below 0 rows (rising_is 0 last rows h) where
   below : (above : ℕ) (rows : List Opened) → AreRising txn_number above last rows → Each (λ r. r.transaction.number < last + 1) rows
   below above [] h = tt
   below above (r ∷ rs) h = let up = top (txn_number r) rs h.1 in (omega (arith, up), below (txn_number r) rs h.1)
+
+pub opened_in_order : (last : ℕ) (rows : List Opened) → AreOpened last rows → AreRising (λ x. x.number) 0 last (transactions_of rows)
+opened_in_order last rows h = in_order 0 rows (opened_rises last rows h) where
+  in_order : (above : ℕ) (rows : List Opened) → AreRising txn_number above last rows → AreRising (λ x. x.number) above last (transactions_of rows)
+  in_order above [] h = h
+  in_order above (r ∷ rs) h = (h.0, in_order (txn_number r) rs h.1)

@@ -5,7 +5,7 @@ use Rattle.std.specs.Option.{option_map}
 use Rattle.sb_machine.specs.Each.{Pairs}
 use Rattle.sb_machine.specs.Keyed.{with_sorted}
 use Rattle.sb_machine.specs.Leaves.{session_in}
-use Rattle.sb_machine.specs.Looks.{is_behind, is_ready_of, only_signs}
+use Rattle.sb_machine.specs.Looks.{is_behind, is_only_sign, is_ready_of, only_signs}
 use Rattle.sb_machine.specs.Messages.{text_of}
 use Rattle.sb_machine.specs.Names.{is_before}
 use Rattle.sb_machine.specs.Sessions.{size_of}
@@ -18,6 +18,10 @@ use Rattle.sb_model.specs.declared.message.SystemName.TheVariants.{SessionId}
 -- whether a part remembers the session of this id: it has a holder or a state
 abbrev pub is_remembered : List ℕ → Leaf → Bool
 is_remembered id leaf = is_some (session_in id leaf)
+
+-- all messages that are each the only sign of a session are among these, in their order
+abbrev pub HasSigns : Leaf → List StoredCopy → Type 0
+HasSigns leaf copies = filter (is_only_sign leaf) copies ≡ only_signs leaf
 
 -- ---- what is shown
 

@@ -52,6 +52,8 @@ impl Model for Entities {
 }
 
 impl Entities {
+    ghost use Rattle.sb_machine.specs.Keyed.{AreRising};
+
     /// None yet; takes no memory.
     pub fn new(alloc: Global) -> Entities
         ensures rows { result.rows ≡ [] }
@@ -86,6 +88,13 @@ impl Entities {
         ensures { option_map (λ e. entity_in e.now) result ≡ find (is_entity number) (entities_in self.now.rows) }
     {
         rows::numbered(&self.rows, number)
+    }
+
+    /// They stand in rising number.
+    pub fn are_in_order(&self)
+        ensures { AreRising number_of 0 self.now.last (entities_in self.now.rows) }
+    {
+        self.rows.len();
     }
 
     // ---- when they come due

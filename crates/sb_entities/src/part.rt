@@ -29,7 +29,7 @@ pub struct PartStore {
 }
 
 impl PartStore {
-    ghost use Rattle.std.specs.Prelude.{◌≡◌, ◌+◌, ◌-◌, ◌≤◌, ◌++◌, ◌∷◌, [], IfOk, OnOk, OnErr};
+    ghost use Rattle.std.specs.Prelude.{◌≡◌, ◌+◌, ◌-◌, ◌≤◌, ◌++◌, ◌∷◌, [], map, IfOk, OnOk, OnErr};
     ghost use Rattle.std.specs.Option.{option_map};
     ghost use Rattle.sb_machine.specs.Changes.{max_number};
     ghost use Rattle.sb_machine.specs.Leaves as leaves;
@@ -39,6 +39,7 @@ impl PartStore {
     ghost use Rattle.sb_entities.specs.Expiring.{expires_in};
     ghost use Rattle.sb_entities.specs.Released.{part_shrunk};
     ghost use Rattle.sb_entities.specs.Rooms.{part_grown, part_used, HasPartRoom};
+    ghost use Rattle.sb_entities.specs.SessionList.{HasSigns};
     ghost use Rattle.sb_entities.specs.Stores.{leaf_in, part_room_in};
     ghost use Rattle.sb_entities.specs.Whole.{IsOrderedLeaf};
 
@@ -106,6 +107,14 @@ impl PartStore {
             copies,
             sessions,
         })
+    }
+
+    // The heads of its sessions, in order: each copy that is the only sign of one is among them. No
+    // other is looked at.
+    pub(crate) fn heads(&self) -> Result<Vec<&StoredCopy>, AllocError>
+        ensures { IfOk result (λ v. HasSigns (leaf_in self.now) (map (λ c. c.now) v.items)) }
+    {
+        self.copies.heads()
     }
 
     // When something of it comes due, in ms since 1970.

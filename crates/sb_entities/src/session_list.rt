@@ -34,12 +34,12 @@ impl PartStore {
 
 // ---- those known by a copy alone
 
-/// The copies that are each the only sign of a session.
+/// The copies that are each the only sign of a session. None is looked at but the heads of sessions.
 pub fn only_signs(alloc: Global, part: &PartStore) -> Result<Vec<&StoredCopy>, AllocError>
     ensures { IfOk result (λ v. map (λ c. c.now) v.items ≡ looks.only_signs (leaf_in part.now)) }
 {
-    let copies = part.copies().all()?;
-    signs_among(alloc, part, &copies)
+    let heads = part.heads()?;
+    signs_among(alloc, part, &heads)
 }
 
 fn signs_among<'a>(

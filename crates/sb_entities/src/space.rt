@@ -32,6 +32,7 @@ pub struct SpaceStore {
 impl SpaceStore {
     ghost use Rattle.std.specs.Prelude.{map};
     ghost use Rattle.std.specs.Option.{option_map};
+    ghost use Rattle.sb_machine.specs.Keyed.{AreRising};
     ghost use Rattle.sb_machine.specs.Namespace as spec;
     ghost use Rattle.sb_txn.specs.Txns.{transactions_of};
     ghost use Rattle.sb_entities.specs.Stores.{space_in, entity_in};
@@ -127,6 +128,14 @@ impl SpaceStore {
         ensures { option_map (λ e. entity_in e.now) result ≡ spec.entity_of number (space_in self.now) }
     {
         self.entities.numbered(number)
+    }
+
+    /// Entities and open transactions stand in rising number, up to the last that was given.
+    pub fn is_in_order(&self)
+        ensures entities { AreRising (λ e. e.about.number) 0 (space_in self.now).last_entity (space_in self.now).entities }
+        ensures transactions { AreRising (λ x. x.number) 0 (space_in self.now).last_txn (space_in self.now).transactions }
+    {
+        self.entities.are_in_order();
     }
 
     /// The open transactions.

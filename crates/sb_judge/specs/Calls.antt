@@ -6,12 +6,14 @@ use Rattle.std.proofs.lemmas.Bool.{true≢false}
 use Rattle.sb_machine.specs.Each.{Pairs}
 use Rattle.sb_machine.specs.Fields.{Key, bad_in_act, bad_in_by, first_some, takes_number}
 use Rattle.sb_machine.specs.Judged.{IsJudged, has_names, bad_described, has_sizes, has_short_id}
-use Rattle.sb_machine.specs.Ordered.{IsActInOrder, IsFilterInOrder, asked_of}
+use Rattle.sb_machine.specs.Ordered.{IsActInOrder, IsFilterInOrder, IsStepInOrder, asked_of}
 use Rattle.sb_machine.specs.declared.call.Act.{Act}
-use Rattle.sb_machine.specs.declared.call.Act.TheVariants.{Send, CreateRule}
+use Rattle.sb_machine.specs.declared.call.Act.TheVariants.{Send, CreateRule, Together}
 use Rattle.sb_machine.specs.declared.call.By.{By}
 use Rattle.sb_machine.specs.declared.call.FilterText.{FilterText}
 use Rattle.sb_machine.specs.declared.call.FilterText.TheVariants.{Sql, Correlation}
+use Rattle.sb_machine.specs.declared.call.Step.{Step}
+use Rattle.sb_machine.specs.declared.call.Step.TheVariants.{Send as StepSend}
 use Rattle.sb_model.specs.Orders.{AreRising, IsInOrder, name_before, code_before, is_set}
 use Rattle.sb_model.specs.declared.message.Message.{Message}
 use Rattle.sb_judge.specs.Messages.{properties_order, texts_order}
@@ -39,10 +41,16 @@ abbrev pub filter_order_verdict : (f : FilterText) → Verdict (IsFilterInOrder 
 filter_order_verdict (Sql text) = always
 filter_order_verdict (Correlation c) = in_order_verdict (asked_of c)
 
+-- the test of the messages that one of the operations brings which act together
+unfoldable pub step_order_verdict : (x : Step) → Verdict (IsStepInOrder x)
+step_order_verdict (StepSend to messages) = each messages in_order_verdict
+step_order_verdict _ = always
+
 -- the test of the lists that an act brings
 unfoldable pub act_order_verdict : (act : Act) → Verdict (IsActInOrder act)
 act_order_verdict (Send to messages txn) = each messages in_order_verdict
 act_order_verdict (CreateRule topic subscription name asked action) = filter_order_verdict asked
+act_order_verdict (Together entity steps) = each steps step_order_verdict
 act_order_verdict _ = always
 
 -- ---- tests of fields

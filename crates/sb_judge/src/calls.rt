@@ -1,25 +1,28 @@
 // Whether a call is such as the machine accepts.
-ghost use Rattle.std.specs.Prelude.{◌≡◌, ◌&&◌, IfOk, Some, false, is_none, length, nat_le};
+ghost use Rattle.std.specs.Prelude.{◌≡◌, ℕ, ◌&&◌, IfOk, Some, false, is_none, nat_le, sum_by, bytes_eq};
 ghost use Rattle.std.specs.List.{list_all};
 ghost use Rattle.sb_machine.specs.Administration as administration;
 ghost use Rattle.sb_machine.specs.Each.{is_read};
 ghost use Rattle.sb_machine.specs.Fields as fields;
 ghost use Rattle.sb_machine.specs.Judged as judged;
 ghost use Rattle.sb_machine.specs.Messages as messages;
+ghost use Rattle.sb_machine.specs.Names as names;
 ghost use Rattle.sb_machine.specs.Ordered.{asked_of};
+ghost use Rattle.sb_machine.specs.Queueing.{max_operations};
 ghost use Rattle.sb_machine.specs.Sessions as sessions;
+ghost use Rattle.sb_machine.specs.Together as together;
 ghost use Rattle.sb_machine.specs.declared.call.FilterText.TheVariants.{Correlation};
 ghost use Rattle.sb_model.specs.Texts.{filter_in, action_in};
 ghost use Rattle.sb_judge.specs.Calls as spec;
 
 use crate::entities::is_described;
 use crate::messages::are_in_order;
-use sb_machine::{Act, Conditions, EntityKind, FilterText, Which};
+use sb_machine::{Act, Conditions, EntityKind, FilterText, Path, Step, Which};
 use sb_model::{Message, Name, Rows, Text};
-use sb_names::limits::{MAX_CLIENT, MAX_PROPERTY_BYTES, MAX_STATE};
+use sb_names::limits::{MAX_PROPERTY_BYTES, MAX_STATE};
 use sb_names::{
-    bad_field, conditions_size, is_address, is_id, is_name, is_number, is_rule_name, is_short_name,
-    large_size, takes_number,
+    are_addressed, are_few, bad_field, conditions_size, is_address, is_client_name, is_id, is_name,
+    is_number, is_rule_name, is_short_name, large_size, large_steps, takes_number,
 };
 use sb_sqltext::{ParseFault, parse_action, parse_filter, texts_are_read_exactly};
 use std::alloc::{AllocError, Global};
@@ -61,22 +64,32 @@ fn is_plain(act: &Act) -> bool
         && is_act_in_order(act)
 }
 
-fn is_client_name(client: &Text) -> bool
-    ensures { result ≡ fields.is_between 1 50 (length client.now) }
+fn is_same_client(client: &Text, other: &Text) -> bool
+    ensures { result ≡ bytes_eq client.now other.now }
 {
-    1 <= client.as_bytes().len() && client.as_bytes().len() <= MAX_CLIENT
+    client.as_bytes() == other.as_bytes()
+}
+
+// Whether a call of this client, of any number, would forget the client itself.
+fn forgets_itself(act: &Act, client: &Text) -> bool
+    ensures { (number : ℕ) → result ≡ fields.forgets_itself act.now (record { client = client.now; number = number }) }
+{
+    match act {
+        Act::ForgetClient { client: name } => is_same_client(name, client),
+        _ => false,
+    }
 }
 
 fn is_client(act: &Act, client: &Text) -> bool
-    ensures { result ≡ (fields.takes_number act.now && fields.is_between 1 50 (length client.now)) }
+    ensures { result ≡ (fields.takes_number act.now && fields.is_client_name client.now) }
 {
-    takes_number(act) && is_client_name(client)
+    takes_number(act) && is_client_name(client.as_str())
 }
 
 fn is_by(act: &Act, client: &Text, number: u64) -> bool
     ensures { result ≡ is_none (fields.bad_in_by act.now (Some (record { client = client.now; number = number }))) }
 {
-    is_client(act, client) && is_number(number)
+    !forgets_itself(act, client) && is_client(act, client) && is_number(number)
 }
 
 // ---- order
@@ -110,6 +123,22 @@ fn is_filter_in_order(asked: &FilterText) -> bool
     }
 }
 
+#[tactic(auto, unfolding(crate::specs::Calls::step_order_verdict))]
+fn is_step_in_order(step: &Step) -> bool
+    ensures { result ≡ (spec.step_order_verdict step.now).0 }
+{
+    match step {
+        Step::Send { messages, .. } => are_messages_in_order(messages.as_slice()),
+        Step::Settle { .. } | Step::SessionSet { .. } => true,
+    }
+}
+
+fn are_steps_in_order(steps: &[Step]) -> bool
+    ensures { result ≡ list_all (λ x. (spec.step_order_verdict x).0) steps.now }
+{
+    steps.iter().all(|step| is_step_in_order(step))
+}
+
 #[tactic(auto, unfolding(crate::specs::Calls::act_order_verdict))]
 fn is_act_in_order(act: &Act) -> bool
     ensures { result ≡ (spec.act_order_verdict act.now).0 }
@@ -117,6 +146,7 @@ fn is_act_in_order(act: &Act) -> bool
     match act {
         Act::Send { messages, .. } => are_messages_in_order(messages.as_slice()),
         Act::CreateRule { filter, .. } => is_filter_in_order(filter),
+        Act::Together { steps, .. } => are_steps_in_order(steps.as_slice()),
         _ => true,
     }
 }
@@ -127,6 +157,12 @@ fn are_rule_names(topic: &Name, subscription: &Name, name: &Name) -> bool
     ensures { result ≡ administration.are_rule_names topic.now subscription.now name.now }
 {
     is_name(topic.as_str()) && is_short_name(subscription.as_str()) && is_rule_name(name.as_str())
+}
+
+fn are_in_addressed(entity: &Path, steps: &[Step]) -> bool
+    ensures { result ≡ (names.is_address entity.now && together.are_addressed steps.now) }
+{
+    is_address(entity) && are_addressed(steps)
 }
 
 fn has_names(act: &Act) -> bool
@@ -163,7 +199,9 @@ fn has_names(act: &Act) -> bool
         | Act::SessionSet { from, .. }
         | Act::SessionState { from, .. }
         | Act::Peek { from, .. } => is_address(from),
-        Act::Commit { .. } | Act::Rollback { .. } | Act::Look { .. } => true,
+        Act::Together { entity, steps } => are_in_addressed(entity, steps.as_slice()),
+        Act::Commit { .. } | Act::Rollback { .. } | Act::ForgetClient { .. } | Act::Look { .. } =>
+            true,
     }
 }
 
@@ -278,6 +316,13 @@ fn is_small_state(state: &Option<Rows<u8>>) -> bool
     }
 }
 
+fn are_fitting(steps: &[Step]) -> Result<bool, AllocError>
+    ensures { IfOk result (λ b. b ≡ (nat_le (sum_by together.step_weight steps.now) max_operations && is_none (together.large_steps steps.now))) }
+{
+    let size = large_steps(steps)?;
+    Ok(are_few(steps) && size.is_none())
+}
+
 fn has_sizes(alloc: Global, act: &Act) -> Result<bool, AllocError>
     ensures { IfOk result (λ b. b ≡ judged.has_sizes act.now) }
 {
@@ -285,6 +330,7 @@ fn has_sizes(alloc: Global, act: &Act) -> Result<bool, AllocError>
         Act::CreateRule { filter, action, .. } => is_rule(alloc, filter, action),
         Act::Send { messages, .. } => are_small(messages.as_slice()),
         Act::SessionSet { state, .. } => Ok(is_small_state(state)),
+        Act::Together { steps, .. } => are_fitting(steps.as_slice()),
         _ => Ok(true),
     }
 }

@@ -7,9 +7,9 @@ ghost use Rattle.sb_judge.specs.Clients as spec;
 use crate::calls::is_call;
 use crate::messages::is_message;
 use crate::sorted::{Ordered, is_on};
-use sb_machine::{CopyShown, Kept, Reply, Showing};
+use sb_machine::{CopyShown, Kept, Reply, Showing, StepReply};
 use sb_names::is_id;
-use sb_names::limits::{MAX_COUNT, MAX_MESSAGES};
+use sb_names::limits::{MAX_COUNT, MAX_MESSAGES, MAX_STEPS};
 use std::alloc::{AllocError, Global};
 
 impl Ordered for Kept {
@@ -71,12 +71,36 @@ fn is_given(shown: &CopyShown) -> bool
         && shown.delivery <= u64::from(MAX_COUNT) + 1
 }
 
+#[tactic(auto, unfolding(crate::specs::Clients::step_reply_verdict))]
+fn is_step_reply(reply: &StepReply) -> bool
+    ensures { result ≡ (spec.step_reply_verdict reply.now).0 }
+{
+    match reply {
+        StepReply::Sent(receipts) => receipts.len() <= MAX_MESSAGES,
+        StepReply::Done => true,
+    }
+}
+
+fn is_each_step_reply(replies: &[StepReply]) -> bool
+    ensures { result ≡ list_all (λ r. (spec.step_reply_verdict r).0) replies.now }
+{
+    replies.iter().all(|reply| is_step_reply(reply))
+}
+
+#[tactic(auto, unfolding(crate::specs::Clients::step_replies_verdict))]
+fn are_step_replies(replies: &[StepReply]) -> bool
+    ensures { result ≡ (spec.step_replies_verdict replies.now).0 }
+{
+    replies.len() <= MAX_STEPS && is_each_step_reply(replies)
+}
+
 #[tactic(auto, unfolding(crate::specs::Clients::reply_verdict))]
 fn is_reply(reply: &Reply) -> bool
     ensures { result ≡ (spec.reply_verdict reply.now).0 }
 {
     match reply {
         Reply::Sent(receipts) => receipts.len() <= MAX_MESSAGES,
+        Reply::Together(replies) => are_step_replies(replies.as_slice()),
         Reply::Message(shown) => is_given(shown),
         Reply::Session { id, .. } => is_id(id.as_str()),
         Reply::Copies(_) | Reply::State(_) | Reply::Counts { .. } | Reply::Seen(_) => false,

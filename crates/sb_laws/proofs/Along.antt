@@ -8,7 +8,7 @@ use Rattle.sb_machine.specs.Changes.{after, after_all, along}
 use Rattle.sb_machine.specs.Due.{is_due}
 use Rattle.sb_machine.specs.Each.{Each}
 use Rattle.sb_machine.specs.History.{IsAllowed, IsLegalFrom, Log, after_entries, after_entry, is_fault}
-use Rattle.sb_machine.specs.Repeats.{Outcome, acted, client_of, outcome_of, refused, repeated}
+use Rattle.sb_machine.specs.Repeats.{Outcome, acted, client_of, forgot, outcome_of, refused, repeated}
 use Rattle.sb_machine.specs.declared.call.By.{By}
 use Rattle.sb_machine.specs.declared.call.Call.{Call}
 use Rattle.sb_machine.specs.declared.change.Change.{Change}
@@ -22,6 +22,7 @@ use Rattle.sb_machine.specs.declared.state.State.{State}
 space_in : (s : State) (t : ℕ) (call : Call) (o : Outcome) → (state_in s t call o).space ≡ after_all t (changes_of o) s.space
 space_in s t call (refused r) = refl
 space_in s t call (repeated reply) = refl
+space_in s t call (forgot name) = refl
 space_in s t call (acted reply cs) = by (client_of call) cs where
   by : (o : Option By) (cs : List Change) → (if is_change o (acted reply cs) then record { now = t; clients = keeping o call.act reply s.clients; space = after_all t cs s.space } else s).space ≡ after_all t cs s.space
   by None [] = refl
@@ -45,6 +46,7 @@ IsTime l e = ((entry_changes l e ≡ []) × ((after_entry l e).state.now ≡ l.s
 time_in : (s : State) (t : ℕ) (call : Call) (o : Outcome) → ((changes_of o ≡ []) × ((state_in s t call o).now ≡ s.now)) ⊎ ((state_in s t call o).now ≡ t)
 time_in s t call (refused r) = inl (refl, refl)
 time_in s t call (repeated reply) = inl (refl, refl)
+time_in s t call (forgot name) = inr refl
 time_in s t call (acted reply cs) = by (client_of call) cs where
   by : (o : Option By) (cs : List Change) → ((cs ≡ []) × ((if is_change o (acted reply cs) then record { now = t; clients = keeping o call.act reply s.clients; space = after_all t cs s.space } else s).now ≡ s.now))
       ⊎ ((if is_change o (acted reply cs) then record { now = t; clients = keeping o call.act reply s.clients; space = after_all t cs s.space } else s).now ≡ t)

@@ -18,6 +18,14 @@ use Rattle.sb_machine.specs.declared.state.State.{State}
 
 -- ---- fields that passed
 
+pub first_none : (a b : Key) → first_some a b ≡ None → (a ≡ None) × (b ≡ None)
+first_none None b e = (refl, e)
+first_none (Some key) b e = absurd cc
+
+pub passed : (b : Bool) (key : List ℕ) → unless b key ≡ None → b ≡ true
+passed true key e = refl
+passed false key e = absurd cc
+
 pub then_none : (b : Bool) (key : List ℕ) (o : Key) → first_some (unless b key) o ≡ None → (b ≡ true) × (o ≡ None)
 then_none true key o e = (refl, e)
 then_none false key o e = absurd cc

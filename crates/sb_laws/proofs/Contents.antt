@@ -5,14 +5,15 @@ use Rattle.std.specs.Option.{option_map}
 use Rattle.std.specs.Str.{chars}
 use Rattle.std.proofs.lemmas.Bool.Decides.{nat_tests}
 use Rattle.sb_laws.proofs.Carried.{Sends}
-use Rattle.sb_laws.proofs.Consistency.{lasting, then_none}
+use Rattle.sb_laws.proofs.Consistency.{first_none, lasting, passed, then_none}
 use Rattle.sb_laws.proofs.Core.{Fields, IsCore, Lists, core_tick, core_way}
 use Rattle.sb_laws.proofs.Lists.{found_passes}
 use Rattle.sb_laws.proofs.DefaultRule.{default_fits}
 use Rattle.sb_laws.proofs.Eachs.{each_filter, each_implied, each_inserted}
-use Rattle.sb_laws.proofs.Keeping.{first_none, lasts_fields, passed}
+use Rattle.sb_laws.proofs.Keeping.{lasts_fields}
 use Rattle.sb_laws.proofs.Messages.{bytes_few, changed_fits, cut_fits, for_reason_fits, fits_in_order, reasons_fit}
 use Rattle.sb_laws.proofs.Outcomes.{Comes, comes, comes_acted}
+use Rattle.sb_laws.proofs.Running.{act_keeps_ordered}
 use Rattle.sb_laws.proofs.Ruling.{rule_added_fits, rule_dropped_fits}
 use Rattle.sb_laws.proofs.Shapes.{arrives_sending, plain_lists, plain_travels}
 use Rattle.sb_laws.proofs.Visiting.{Travels}
@@ -23,14 +24,14 @@ use Rattle.sb_machine.specs.Answers.{is_change, keeping, state_in, state_of}
 use Rattle.sb_machine.specs.Changes.{after_all, max_number, rule_added, rule_dropped}
 use Rattle.sb_machine.specs.Descriptions.{bad_in_description, has_rules}
 use Rattle.sb_machine.specs.Each.{Each, IfSome, is_read}
-use Rattle.sb_machine.specs.Fields.{are_properties, bad_in_act, bad_in_by, bad_in_conditions, bad_in_filter, bad_in_message, bad_in_messages, bad_in_texts, first_some, is_between_or_none, is_property_name, is_short, max_messages, max_ttl, unless}
+use Rattle.sb_machine.specs.Fields.{are_properties, bad_in_act, bad_in_conditions, bad_in_filter, bad_in_message, bad_in_messages, bad_in_texts, first_some, is_between_or_none, is_property_name, is_short, max_messages, max_ttl, unless}
 use Rattle.sb_machine.specs.Due.{tick_changes}
 use Rattle.sb_machine.specs.Fit.{IsFilter, IsListed, IsMessage, IsRule, is_kind}
 use Rattle.sb_machine.specs.Messages.{above, first_size, large_in, large_one, large_size, large_together, max_body}
 use Rattle.sb_machine.specs.Names.{is_before, is_name, is_rule_name, is_same_entity, is_same_option, is_short_name}
 use Rattle.sb_machine.specs.Namespace.{entity_at, subscription_path}
 use Rattle.sb_machine.specs.Ordered.{IsActInOrder, IsFilterInOrder, asked_of}
-use Rattle.sb_machine.specs.Repeats.{Outcome, acted, client_of, outcome_of, refused, repeated}
+use Rattle.sb_machine.specs.Repeats.{Outcome, acted, client_of, forgot, outcome_of, refused, repeated}
 use Rattle.sb_machine.specs.Sending.{too_large}
 use Rattle.sb_machine.specs.declared.call.Act.{Act}
 use Rattle.sb_machine.specs.declared.call.Act.TheVariants.{CreateRule, Send}
@@ -222,9 +223,10 @@ contents_call s t call order h = by (outcome_of s t call) (comes s t call) where
   by : (o : Outcome) → Comes s t call o → ContentsCore (state_in s t call o).space
   by (refused r) is = h
   by (repeated reply) is = h
+  by (forgot name) is = h
   by (acted reply cs) (comes_acted newer fits) = go (is_change (client_of call) (acted reply cs)) where
     changed_so : ContentsCore (after_all t cs s.space)
-    changed_so = core_way contents_travel contents_sending contents_lists t s.space h call.act reply cs (contents_fields s.space (is_via_in s.space call.act) call.act (first_none (bad_in_act (is_via_in s.space call.act) call.act) (bad_in_by call.act call.by) fits.fields).0 order) fits.way
+    changed_so = act_keeps_ordered s.space t call.by call.act reply cs fits ContentsCore order (λ now a r ds in_order good numbers way core. core_way contents_travel contents_sending contents_lists t now core a r ds (contents_fields now (is_via_in now a) a good in_order) way) h
 
     go : (b : Bool) → ContentsCore (if b then record { now = t; clients = keeping (client_of call) call.act reply s.clients; space = after_all t cs s.space } else s).space
     go true = changed_so

@@ -1,36 +1,42 @@
 -- What an accepted act does to locks, sessions and entities: it settles, closes a session, deletes, or does none of these.
-use Rattle.std.proofs.Common.{Bool, List, None, Option, Some, [], false, filter, map, nat_le, not, refl, subst, sym, true, ℕ, ◌&&◌, ◌++◌, ◌==◌, ◌∷◌, ◌≡◌}
+use Rattle.std.proofs.Common.{Bool, List, None, Option, Some, [], false, filter, map, nat_le, not, refl, subst, sym, true, ℕ, ◌&&◌, ◌++◌, ◌+◌, ◌==◌, ◌∷◌, ◌≡◌}
 use Rattle.std.specs.List.{flat_map}
 use Rattle.std.specs.Prelude.{if◌then◌else◌}
 use Rattle.sb_laws.proofs.Calm.{IsCalm, calm_drops, calm_ends, calm_enters, calm_frees, calm_notes, calm_passes, commit_calm, expired_calm, flat_all, is_unheld, released_calm, sends_calm, settled_calm, tick_each}
 use Rattle.sb_laws.proofs.Eachs.{each_append, each_implied}
 use Rattle.sb_laws.proofs.Locking.{FreesLocks}
 use Rattle.sb_laws.proofs.Outcomes.{Comes, comes, comes_acted}
+use Rattle.sb_laws.proofs.Running.{fills_fill}
 use Rattle.sb_laws.proofs.Tick.{is_free}
+use Rattle.sb_laws.proofs.Uniting.{Does, IsFilling, Unites, does_many, does_one, fills_queue, fills_write}
 use Rattle.sb_laws.proofs.Ways.{Way, aborts, adds_rule, begins, cancels, closes, commits, drops_rule, expires, hands_out, makes_queue, makes_subscription, makes_topic, opens, prolongs, queues_send, removes, renews, rolls_back, sends, settles_later, settles_now, takes_out, tells, writes}
 use Rattle.sb_machine.specs.Accounts.{entry_changes}
 use Rattle.sb_machine.specs.Administration.{going_with}
 use Rattle.sb_machine.specs.Answers.{changes_of, moment_of}
+use Rattle.sb_machine.specs.Changes.{after}
 use Rattle.sb_machine.specs.Delivery.{in_part, released}
 use Rattle.sb_machine.specs.Due.{closes_due, closes_in, due_sessions, is_due}
 use Rattle.sb_machine.specs.Each.{Each, has_lock}
 use Rattle.sb_machine.specs.History.{Log, is_fault}
 use Rattle.sb_machine.specs.Leases.{is_under_session}
 use Rattle.sb_machine.specs.Namespace.{entity_at, key_of, leaf_of, listed}
-use Rattle.sb_machine.specs.Repeats.{Outcome, acted, outcome_of, refused, repeated}
+use Rattle.sb_machine.specs.Queueing.{txn_life}
+use Rattle.sb_machine.specs.Repeats.{Outcome, acted, forgot, outcome_of, refused, repeated}
 use Rattle.sb_machine.specs.SendRow.{queued_send}
 use Rattle.sb_machine.specs.Sessions.{closed}
+use Rattle.sb_machine.specs.Together.{unqueued}
 use Rattle.sb_machine.specs.declared.call.Act.{Act}
 use Rattle.sb_machine.specs.declared.call.Act.TheVariants.{Delete, SessionClose}
 use Rattle.sb_machine.specs.declared.call.Call.{Call}
 use Rattle.sb_machine.specs.declared.call.Part.{Part}
 use Rattle.sb_machine.specs.declared.call.Part.TheVariants.{Dead, Main, Transfer}
 use Rattle.sb_machine.specs.declared.call.Path.{Path}
+use Rattle.sb_machine.specs.declared.call.Step.{Step}
 use Rattle.sb_machine.specs.declared.call.Token.{Token}
 use Rattle.sb_machine.specs.declared.change.Cause.TheVariants.{Cancelled, Received}
 use Rattle.sb_machine.specs.declared.change.Change.{Change}
-use Rattle.sb_machine.specs.declared.change.Change.TheVariants.{InLeaf, Removes}
-use Rattle.sb_machine.specs.declared.change.LeafChange.TheVariants.{Closes, Ends, Stands}
+use Rattle.sb_machine.specs.declared.change.Change.TheVariants.{Begins, Drops, InLeaf, Removes}
+use Rattle.sb_machine.specs.declared.change.LeafChange.TheVariants.{Closes, Ends, Stands, Writes}
 use Rattle.sb_machine.specs.declared.change.LeafKey.{LeafKey}
 use Rattle.sb_machine.specs.declared.history.Entry.{Entry}
 use Rattle.sb_machine.specs.declared.history.Entry.TheVariants.{Ticked, Answered as Replied}
@@ -64,9 +70,16 @@ pub record IsSteady (c : Change) : Type 0 where
   pub unspent : IsUnspent c
   pub quiet : (k n : ℕ) → IsQuiet k n c
 
+-- what operations that act together tell: their transaction begins, what sessions remember is written, and the rest is calm
+pub data IsJoint : Change → Type 0 where
+  joint_begins : (n deadline : ℕ) → IsJoint (Begins n deadline)
+  joint_writes : (key : LeafKey) (lock : ℕ) (bytes : Option (List ℕ)) → IsJoint (InLeaf key (Writes lock bytes))
+  joint_calm : (c : Change) → IsCalm true c → IsJoint c
+
 pub data Deed (s : Space) (t : ℕ) (act : Act) (reply : Reply) (cs : List Change) : Type 0 where
   steadies : Each IsSteady cs → Deed s t act reply cs
   settles : Each (IsCalm true) cs → Deed s t act reply cs
+  joins : Each IsJoint cs → Deed s t act reply cs
   shuts : (from : Path) (token : Token) (e : Entity) → act ≡ SessionClose from token → reply ≡ Done → entity_at from s ≡ Some e → cs ≡ closed s t e from.part token.lock → Deed s t act reply cs
   deletes : (path : Path) (e : Entity) → act ≡ Delete path → reply ≡ Done → entity_at path s ≡ Some e → cs ≡ map (λ x. Removes x.about.number) (e ∷ going_with s e) → Deed s t act reply cs
 
@@ -99,6 +112,16 @@ calm_quiet b _ k n (calm_ends key m cause) = tt
 calm_quiet b _ k n (calm_frees key m count standing free) = tt
 calm_quiet b _ k n (calm_notes m id) = tt
 calm_quiet b _ k n (calm_drops m) = tt
+
+pub joint_frees_locks : (c : Change) (k : ℕ) → IsJoint c → FreesLocks k c
+joint_frees_locks _ k (joint_begins n deadline) = tt
+joint_frees_locks _ k (joint_writes key lock bytes) = tt
+joint_frees_locks _ k (joint_calm c is) = calm_frees_locks true c k is
+
+pub joint_quiet : (c : Change) (k n : ℕ) → IsJoint c → IsQuiet k n c
+joint_quiet _ k n (joint_begins m deadline) = tt
+joint_quiet _ k n (joint_writes key lock bytes) = tt
+joint_quiet _ k n (joint_calm c is) = calm_quiet true c k n is
 
 pub calm_unspent : (c : Change) → IsCalm false c → IsUnspent c
 calm_unspent _ (calm_enters key fresh unheld) = tt
@@ -149,10 +172,28 @@ deed s t _ _ _ (commits {n = n} x e there on none) = settles (commit_calm t e x 
 deed s t _ _ _ (aborts x o there) = steadies (calm_steady _ (calm_drops x.number), tt)
 deed s t _ _ _ (rolls_back {n = n} x there) = steadies (calm_steady _ (calm_drops n), tt)
 
+unqueued_joint : (n : ℕ) (cs : List Change) → Each (IsFilling n) cs → Each IsJoint (unqueued cs)
+unqueued_joint n [] all = tt
+unqueued_joint n (_ ∷ cs) (fills_queue k deadline o own, all) = unqueued_joint n cs all
+unqueued_joint n (_ ∷ cs) (fills_write key lock bytes, all) = (joint_writes key lock bytes, unqueued_joint n cs all)
+
+pub united_joint : (s : Space) (t : ℕ) (path : Path) (steps : List Step) (reply : Reply) (cs : List Change) → Unites s t path steps reply cs → Each IsJoint cs
+united_joint s t path steps reply cs u =
+    let n = s.last_txn + 1 in
+    let f = u.filled in
+    let filling = fills_fill t n steps (after t (Begins u.entity.about.number (t + txn_life)) s) f.filled f.later f.fills in
+    let last_ones = f.commits.calmly in
+    let done : Each IsJoint f.done = subst (Each IsJoint) (sym last_ones.ends) (joint_calm (Drops n) (calm_drops n), each_implied (IsCalm true) IsJoint joint_calm last_ones.rest last_ones.calm) in
+    subst (Each IsJoint) (sym u.changes) (joint_begins u.entity.about.number (t + txn_life), subst (Each IsJoint) (sym f.changes) (each_append IsJoint (unqueued f.filled) f.done (unqueued_joint n f.filled filling) done))
+
+pub does_deed : (s : Space) (t : ℕ) (act : Act) (reply : Reply) (cs : List Change) → Does s t act reply cs → Deed s t act reply cs
+does_deed s t act reply cs (does_one way) = deed s t act reply cs way
+does_deed s t _ reply cs (does_many {path = path} {steps = steps} u) = joins (united_joint s t path steps reply cs u)
+
 pub deed_of : (s : State) (t : ℕ) (call : Call) (reply : Reply) (cs : List Change) → outcome_of s t call ≡ acted reply cs → Deed s.space t call.act reply cs
 deed_of s t call reply cs is = by (subst (Comes s t call) is (comes s t call)) where
   by : Comes s t call (acted reply cs) → Deed s.space t call.act reply cs
-  by (comes_acted newer fits) = deed s.space t call.act reply cs fits.way
+  by (comes_acted newer fits) = does_deed s.space t call.act reply cs fits.does
 
 -- ---- each entry
 
@@ -162,6 +203,7 @@ replied_each C l seat reading call answer acts = at (is_fault answer) (is_due (m
   on : (o : Outcome) → outcome_of l.state (moment_of l.state reading) call ≡ o → Each C (changes_of o)
   on (refused r) is = tt
   on (repeated reply) is = tt
+  on (forgot name) is = tt
   on (acted reply cs) is = acts reply cs is
 
   at : (f d : Bool) → Each C (if not f && not d then changes_of (outcome_of l.state (moment_of l.state reading) call) else [])
@@ -184,6 +226,7 @@ sessions_each C t s closes_so = flat_all C (λ e. closes_in t e Main ++ closes_i
 frees_of_deed : (s : Space) (t : ℕ) (act : Act) (reply : Reply) (cs : List Change) → Deed s t act reply cs → Each (λ c. (k : ℕ) → FreesLocks k c) cs
 frees_of_deed s t act reply cs (steadies h) = each_implied IsSteady (λ c. (k : ℕ) → FreesLocks k c) (λ c is. is.frees) cs h
 frees_of_deed s t act reply cs (settles h) = each_implied (IsCalm true) (λ c. (k : ℕ) → FreesLocks k c) (λ c is k. calm_frees_locks true c k is) cs h
+frees_of_deed s t act reply cs (joins h) = each_implied IsJoint (λ c. (k : ℕ) → FreesLocks k c) (λ c is k. joint_frees_locks c k is) cs h
 frees_of_deed s t act reply cs (shuts from token e same done there is) = subst (Each (λ c. (k : ℕ) → FreesLocks k c)) (sym is) ((λ k. tt), each_implied IsSteady (λ c. (k : ℕ) → FreesLocks k c) (λ c so. so.frees) (flat_map (λ c. released (listed s) t e from.part c false false) (filter (λ c. is_under_session token.lock c.standing) (leaf_of from.part e).copies)) (closed_steady s t e from.part token.lock))
 frees_of_deed s t act reply cs (deletes path e same done there is) = subst (Each (λ c. (k : ℕ) → FreesLocks k c)) (sym is) (all (e ∷ going_with s e)) where
   all : (es : List Entity) → Each (λ c. (k : ℕ) → FreesLocks k c) (map (λ x. Removes x.about.number) es)

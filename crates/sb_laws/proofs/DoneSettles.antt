@@ -1,7 +1,7 @@
 -- A settlement that is answered Done uses up just its own lock.
 use Rattle.std.proofs.Common.{Bool, List, None, Option, Some, [], ap, false, nat_le, not, refl, subst, true, ℕ, ◌&&◌, ◌==◌, ◌∙◌, ◌∷◌, ◌++◌, ◌≡◌}
 use Rattle.std.specs.Prelude.{if◌then◌else◌}
-use Rattle.sb_laws.proofs.Answered.{accepted_so, acted_row, answered_in, answered_new, entry_new}
+use Rattle.sb_laws.proofs.Answered.{accepted_so, acted_row, answered_in, answered_new, entry_new, goes_by_row}
 use Rattle.sb_laws.proofs.Calm.{IsCalm, visits_calm}
 use Rattle.sb_laws.proofs.Consistency.{consistent_is_sweepable}
 use Rattle.sb_laws.proofs.Deeds.{IsUnspent, calm_unspent}
@@ -152,8 +152,9 @@ entry_settles : (l : Log) (e : Entry) → IsAllowed l e → IsOrdered l.state.sp
 entry_settles l (Ticked seat t) allowed o = tt
 entry_settles l (Replied seat reading call answer) allowed o = λ from which token session how txn is said.
     let t = moment_of l.state reading in
-    let new = answered_new l seat reading call answer Done allowed said in
-    let row = (accepted_so l.state.space t call.by call.act Done new.changes (acted_row l.state t call Done new.changes new.acted_so)).row in
+    let plain : goes_by_row call.act ≡ true = ap goes_by_row is in
+    let new = answered_new l seat reading call answer Done plain allowed said in
+    let row = (accepted_so l.state.space t call.by call.act Done new.changes (acted_row l.state t call Done new.changes plain new.acted_so)).row in
     let spends : along spends_in t new.changes l.state.space ≡ token.lock ∷ [] = answered_in (λ r. Unit {0}) (Spends l.state.space t o from which token how txn) (settle_row l.state.space t from which token session how txn) Done new.changes (settle_spends l.state.space t o from which token how txn session) (subst (λ (act : Act). act_row l.state.space t act ≡ answers Done new.changes) is row) refl in
     ap (λ (cs : List Change). along spends_in t cs l.state.space) (entry_new l seat reading call answer Done new said) ∙ spends
 

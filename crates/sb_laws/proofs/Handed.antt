@@ -2,7 +2,7 @@
 use Rattle.std.proofs.Common.{Bool, List, None, Option, Some, [], ap, arith, false, refl, subst, sym, true, ℕ, ◌<◌, ◌∙◌, ◌∷◌, ◌≡◌, ◌≤◌}
 use Rattle.std.specs.Prelude.{find}
 use Rattle.sb_laws.proofs.Along.{space_after}
-use Rattle.sb_laws.proofs.Answered.{accepted_so, acted_row, answered_in, answered_new}
+use Rattle.sb_laws.proofs.Answered.{accepted_so, acted_row, answered_in, answered_new, goes_by_row}
 use Rattle.sb_laws.proofs.Consistency.{consistent_is_sweepable}
 use Rattle.sb_laws.proofs.Eachs.{each_found, each_implied, rising_above}
 use Rattle.sb_laws.proofs.Entities.{EachLeaf, IsOrdered, LeafRises, copy_number, leaf_each, stays_ordered_all}
@@ -84,8 +84,9 @@ entry_first : (l : Log) (e : Entry) → IsAllowed l e → IsOrdered l.state.spac
 entry_first l (Ticked seat t) allowed o = tt
 entry_first l (Replied seat reading call answer) allowed o = λ from mode token shown is said.
     let t = moment_of l.state reading in
-    let new = answered_new l seat reading call answer (Given shown) allowed said in
-    let row = (accepted_so l.state.space t call.by call.act (Given shown) new.changes (acted_row l.state t call (Given shown) new.changes new.acted_so)).row in
+    let plain : goes_by_row call.act ≡ true = ap goes_by_row is in
+    let new = answered_new l seat reading call answer (Given shown) plain allowed said in
+    let row = (accepted_so l.state.space t call.by call.act (Given shown) new.changes (acted_row l.state t call (Given shown) new.changes plain new.acted_so)).row in
     answered_in (λ r. Unit {0}) (FirstGiven l.state.space t from token o) (receive_row l.state.space t from mode (Some token)) (Given shown) new.changes (hands_first l.state.space t from token o mode) (subst (λ (act : Act). act_row l.state.space t act ≡ answers (Given shown) new.changes) is row) shown refl
 
 -- numbers rise behind each entry

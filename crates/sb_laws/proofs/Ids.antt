@@ -3,6 +3,7 @@ use Rattle.std.proofs.Common.{Bool, List, None, Option, Some, [], ap, false, fil
 use Rattle.std.specs.Option.{option_map}
 use Rattle.std.specs.Prelude.{codes, find, if◌then◌else◌, is_some}
 use Rattle.std.specs.Str.{chars}
+use Rattle.sb_laws.proofs.Consistency.{passed}
 use Rattle.sb_laws.proofs.ActionTexts.{IsText, texts_each}
 use Rattle.sb_laws.proofs.Calm.{flat_all, turns_each}
 use Rattle.sb_laws.proofs.Carried.{OperationSent}
@@ -11,7 +12,6 @@ use Rattle.sb_laws.proofs.Contents.{ContentsCore, IsStill}
 use Rattle.sb_laws.proofs.Core.{Fields}
 use Rattle.sb_laws.proofs.Eachs.{each_append, each_changed, each_filter, each_found, each_inserted}
 use Rattle.sb_laws.proofs.Entities.{EachLeaf, KeepsEntity, KeepsLeaf, entities_keep, ids_with_leaf, leaf_each, leaves_keep}
-use Rattle.sb_laws.proofs.Keeping.{passed}
 use Rattle.sb_laws.proofs.Lists.{found_passes}
 use Rattle.sb_laws.proofs.Mild.{IsCarried}
 use Rattle.sb_laws.proofs.Sameness.{name_sound}

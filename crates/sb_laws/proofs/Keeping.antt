@@ -5,7 +5,7 @@ use Rattle.std.proofs.lemmas.List.Sums.{sum_by-append, sum_by-cons}
 use Rattle.std.specs.List.{flat_map}
 use Rattle.std.specs.Prelude.{codes, if◌then◌else◌, sum_by}
 use Rattle.sb_laws.proofs.Carried.{OperationSent, Sends}
-use Rattle.sb_laws.proofs.Consistency.{described_ttl, lasting, then_none}
+use Rattle.sb_laws.proofs.Consistency.{described_ttl, first_none, lasting, then_none}
 use Rattle.sb_laws.proofs.Core.{Fields, IsCore, Lists, core_way}
 use Rattle.sb_laws.proofs.Eachs.{differs, each_implied, is_equal}
 use Rattle.sb_laws.proofs.Entities.{EachLeaf, LeafRises, copy_number, leaf_each}
@@ -14,6 +14,7 @@ use Rattle.sb_laws.proofs.Locking.{IsLocked, copy_once, held_in, held_in_leaf, o
 use Rattle.sb_laws.proofs.Mild.{IsCarried}
 use Rattle.sb_laws.proofs.NothingDue.{Lasts, LastsIn, lasts_travels}
 use Rattle.sb_laws.proofs.Outcomes.{Comes, comes, comes_acted}
+use Rattle.sb_laws.proofs.Running.{act_keeps}
 use Rattle.sb_laws.specs.Sweepable.{IsLasting, IsSweepable, IsSweepableCopy, IsSweepableEntity, IsSweepableLeaf}
 use Rattle.sb_machine.specs.Acts.{is_via_in}
 use Rattle.sb_machine.specs.Answers.{is_change, keeping, state_in, state_of}
@@ -22,12 +23,12 @@ use Rattle.sb_machine.specs.Consistent.{IsOperation, IsTransaction, holder_lock,
 use Rattle.sb_machine.specs.Delivery.{carried}
 use Rattle.sb_machine.specs.Each.{Each, Pairs, has_lock}
 use Rattle.sb_machine.specs.Ends.{lock_in}
-use Rattle.sb_machine.specs.Fields.{Key, bad_in_act, bad_in_by, bad_in_conditions, bad_in_how, bad_in_message, bad_in_messages, bad_in_which, first_some, is_between_or_none, max_messages, unless}
+use Rattle.sb_machine.specs.Fields.{bad_in_act, bad_in_conditions, bad_in_how, bad_in_message, bad_in_messages, bad_in_which, first_some, is_between_or_none, max_messages, unless}
 use Rattle.sb_machine.specs.Fit.{IsMessage}
 use Rattle.sb_machine.specs.Keyed.{AreRising}
 use Rattle.sb_machine.specs.Leases.{lasts}
 use Rattle.sb_machine.specs.Reasons.{with_reason}
-use Rattle.sb_machine.specs.Repeats.{Outcome, acted, client_of, outcome_of, refused, repeated}
+use Rattle.sb_machine.specs.Repeats.{Outcome, acted, client_of, forgot, outcome_of, refused, repeated}
 use Rattle.sb_machine.specs.SendRow.{is_via}
 use Rattle.sb_machine.specs.declared.call.Act.{Act}
 use Rattle.sb_machine.specs.declared.call.Act.TheVariants.{Send, Settle}
@@ -193,14 +194,6 @@ queued_of now s (x ∷ xs) h = (operations h.0.entity x.operations h.0.operation
 
 -- ---- what an act's fields say of times to live
 
-pub first_none : (a b : Key) → first_some a b ≡ None → (a ≡ None) × (b ≡ None)
-first_none None b e = (refl, e)
-first_none (Some key) b e = absurd cc
-
-pub passed : (b : Bool) (key : List ℕ) → unless b key ≡ None → b ≡ true
-passed true key e = refl
-passed false key e = absurd cc
-
 messages_last : (is_via : Bool) (ms : List Message) → bad_in_messages is_via ms ≡ None → Each Lasts ms
 messages_last is_via [] e = tt
 messages_last is_via (m ∷ ms) e =
@@ -230,9 +223,10 @@ core_call s t call h = by (outcome_of s t call) (comes s t call) where
   by : (o : Outcome) → Comes s t call o → LastsCore (state_in s t call o).space
   by (refused r) is = h
   by (repeated reply) is = h
+  by (forgot name) is = h
   by (acted reply cs) (comes_acted newer fits) = go (is_change (client_of call) (acted reply cs)) where
     changed_so : LastsCore (after_all t cs s.space)
-    changed_so = core_way lasts_travels lasts_sending lasts_lists t s.space h call.act reply cs (lasts_fields s.space (is_via_in s.space call.act) call.act (first_none (bad_in_act (is_via_in s.space call.act) call.act) (bad_in_by call.act call.by) fits.fields).0) fits.way
+    changed_so = act_keeps s.space t call.by call.act reply cs fits LastsCore (λ now a r ds good numbers way core. core_way lasts_travels lasts_sending lasts_lists t now core a r ds (lasts_fields now (is_via_in now a) a good) way) h
 
     go : (b : Bool) → LastsCore (if b then record { now = t; clients = keeping (client_of call) call.act reply s.clients; space = after_all t cs s.space } else s).space
     go true = changed_so

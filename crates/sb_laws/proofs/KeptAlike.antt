@@ -7,14 +7,14 @@ use Rattle.sb_laws.proofs.Outcomes.{IsNewer, first_of, later_of, unnumbered}
 use Rattle.sb_laws.proofs.Placed.{placed_behind, placed_here}
 use Rattle.sb_laws.specs.Thin.{number_kept, numbers_kept}
 use Rattle.sb_machine.specs.Accounts.{Numbered}
-use Rattle.sb_machine.specs.Answers.{keeping, kept_as, with_kept}
+use Rattle.sb_machine.specs.Answers.{keeping, kept_as, with_kept, without_client}
 use Rattle.sb_machine.specs.Keyed.{changed, with_sorted}
 use Rattle.sb_machine.specs.Names.{is_before}
-use Rattle.sb_machine.specs.Repeats.{Outcome, by_number, for_client, is_client, kept_for, max_clients, refused, repeated}
+use Rattle.sb_machine.specs.Repeats.{Outcome, by_number, for_client, forgetting, forgot, is_client, kept_for, max_clients, refused, repeated}
 use Rattle.sb_machine.specs.Same.{same_act}
 use Rattle.sb_machine.specs.declared.call.Act.{Act}
 use Rattle.sb_machine.specs.declared.call.By.{By}
-use Rattle.sb_machine.specs.declared.reply.Refusal.TheVariants.{ClientsFull, NumberReused, StaleNumber}
+use Rattle.sb_machine.specs.declared.reply.Refusal.TheVariants.{ClientNotFound, ClientsFull, NumberReused, StaleNumber}
 use Rattle.sb_machine.specs.declared.reply.Reply.{Reply}
 use Rattle.sb_machine.specs.declared.state.Kept.{Kept}
 
@@ -108,3 +108,19 @@ numbers_with k ks = at (is_some (kept_for k.client ks)) ∙ ap (λ (b : Bool). w
 pub keeping_alike : (by : Option By) (act other : Act) (reply given : Reply) (a b : List Kept) → numbers_kept a ≡ numbers_kept b → numbers_kept (keeping by act reply a) ≡ numbers_kept (keeping by other given b)
 keeping_alike None act other reply given a b same = same
 keeping_alike (Some by) act other reply given a b same = numbers_with (kept_as by act reply) a ∙ ap (with_number (record { client = by.client; number = by.number })) same ∙ sym (numbers_with (kept_as by other given) b)
+
+-- ---- one that is forgotten
+
+numbers_without : (name : List ℕ) (ks : List Kept) → numbers_kept (without_client name ks) ≡ changed (is_number_of name) (λ y. []) (numbers_kept ks)
+numbers_without name [] = refl
+numbers_without name (x ∷ ks) = at (bytes_eq x.client name) refl (numbers_without name ks) where
+  at : (b : Bool) → bytes_eq x.client name ≡ b → numbers_kept (without_client name ks) ≡ changed (is_number_of name) (λ y. []) (numbers_kept ks) → numbers_kept (without_client name (x ∷ ks)) ≡ changed (is_number_of name) (λ y. []) (numbers_kept (x ∷ ks))
+  at true is ih = rw is refl
+  at false is ih = rw is (ap (λ (l : List Numbered). number_kept x ∷ l) ih)
+
+pub without_alike : (name : List ℕ) (a b : List Kept) → numbers_kept a ≡ numbers_kept b → numbers_kept (without_client name a) ≡ numbers_kept (without_client name b)
+without_alike name a b same = numbers_without name a ∙ ap (changed (is_number_of name) (λ y. [])) same ∙ sym (numbers_without name b)
+
+-- it is forgotten in both, or in none
+pub forgetting_alike : (name : List ℕ) (a b : List Kept) → numbers_kept a ≡ numbers_kept b → forgetting name a ≡ forgetting name b
+forgetting_alike name a b same = ap (λ (there : Bool). if there then forgot name else refused ClientNotFound) (sym (there_alike (kept_for name a)) ∙ ap is_some (same_kept name a b same) ∙ there_alike (kept_for name b))

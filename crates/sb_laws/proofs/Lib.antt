@@ -30,7 +30,9 @@ pub mod Moving
 pub mod Histories
 pub mod Rows
 pub mod Ways
+pub mod Uniting
 pub mod Outcomes
+pub mod Running
 pub mod Locking
 pub mod Carried
 pub mod Core
@@ -44,6 +46,7 @@ pub mod Noting
 pub mod Listing
 pub mod Clients
 pub mod Ids
+pub mod Replies
 pub mod Remembering
 pub mod Topics
 pub mod Owning
@@ -64,6 +67,8 @@ pub mod FoundOn
 pub mod Anyone
 pub mod OnceIds
 pub mod Answered
+pub mod Turns
+pub mod Unlost
 pub mod Handed
 pub mod Holding
 pub mod Opening
@@ -84,3 +89,9 @@ pub mod Joining
 pub mod Sparing
 pub mod Alike
 pub mod AsFound
+pub mod GatheringLists
+pub mod GatheringParts
+pub mod GatheringSteps
+pub mod GatheringForms
+pub mod GatheringCommit
+pub mod Gathering

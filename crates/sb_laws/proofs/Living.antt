@@ -5,7 +5,7 @@ use Rattle.std.specs.List.{flat_map, list_any}
 use Rattle.std.specs.Prelude.{if◌then◌else◌}
 use Rattle.sb_laws.proofs.Anyone.{any_append, any_changed, any_found, any_gone, or_left, or_map}
 use Rattle.sb_laws.proofs.Calm.{IsCalm, calm_drops, calm_ends, calm_enters, calm_frees, calm_notes, calm_passes}
-use Rattle.sb_laws.proofs.Deeds.{IsUnspent, free_unheld, unheld_lock}
+use Rattle.sb_laws.proofs.Deeds.{IsJoint, IsUnspent, free_unheld, joint_begins, joint_calm, joint_writes, unheld_lock}
 use Rattle.sb_laws.proofs.Dueness.{found_none}
 use Rattle.sb_laws.proofs.Eachs.{each_append, each_both, each_implied}
 use Rattle.sb_laws.proofs.Freed.{AreNamed, none_exempt}
@@ -87,7 +87,7 @@ module _ (k t : ℕ) where
   part_under : (key : LeafKey) (c : LeafChange) (s : Space) → ((leaf : Leaf) → under_leaf k (leaf_after (s.last_lock + 1) t c leaf) ≡ true → under_leaf k leaf ≡ true) → under k (after t (InLeaf key c) s) ≡ true → under k s ≡ true
   part_under key c s back is = any_changed (under_in k) (is_entity key.entity) (λ e. with_leaf key.part (leaf_after (s.last_lock + 1) t c (leaf_of key.part e)) e) s.entities (λ e. entity_under key.part (leaf_after (s.last_lock + 1) t c (leaf_of key.part e)) e (back (leaf_of key.part e))) is
 
-  falls_under : (b : Bool) (c : Change) (s : Space) → IsCalm b c → under k (after t c s) ≡ true → under k s ≡ true
+  pub falls_under : (b : Bool) (c : Change) (s : Space) → IsCalm b c → under k (after t c s) ≡ true → under k s ≡ true
   falls_under b _ s (calm_enters key fresh unheld) is = part_under key (Enters fresh) s (λ leaf so. any_append (λ c. has_lock k c.standing) leaf.copies (stored (leaf.last + 1) t fresh ∷ []) so (none fresh.standing (unheld_lock k fresh.standing unheld))) is where
     none : (standing : Standing) → has_lock k standing ≡ false → (has_lock k standing || false) ≡ false
     none standing off = rw off refl
@@ -146,11 +146,18 @@ spends_under t (Begins n deadline) s = tt
 spends_under t (Queues n deadline operation) s = tt
 spends_under t (Drops n) s = tt
 
--- along calm changes only locks of copies that were held before them are settled
-pub along_under : (t : ℕ) (b : Bool) (start : Space) (cs : List Change) (s : Space) → ((k : ℕ) → under k s ≡ true → under k start ≡ true) → Each (IsCalm b) cs → Each (λ k. under k start ≡ true) (along spends_in t cs s)
-along_under t b start [] s back calm = tt
-along_under t b start (c ∷ cs) s back calm = each_append (λ k. under k start ≡ true) (spends_in t c s) (along spends_in t cs (after t c s)) (each_implied (λ k. under k s ≡ true) (λ k. under k start ≡ true) back (spends_in t c s) (spends_under t c s))
-    (along_under t b start cs (after t c s) (λ k held. back k (falls_under k t b c s calm.0 held)) calm.1)
+-- so do the changes of operations that act together
+pub joint_falls : (k t : ℕ) (c : Change) (s : Space) → IsJoint c → under k (after t c s) ≡ true → under k s ≡ true
+joint_falls k t _ s (joint_begins n deadline) is = is
+joint_falls k t _ s (joint_writes key lock bytes) is = part_under k t key (Writes lock bytes) s (λ leaf so. so) is
+joint_falls k t _ s (joint_calm c calm) is = falls_under k t true c s calm is
+
+-- along changes that put no copy under a lock, only locks of copies that were held before them are settled
+pub along_under : (C : Change → Type 0) (t : ℕ) → ((k : ℕ) (c : Change) (s : Space) → C c → under k (after t c s) ≡ true → under k s ≡ true)
+    → (start : Space) (cs : List Change) (s : Space) → ((k : ℕ) → under k s ≡ true → under k start ≡ true) → Each C cs → Each (λ k. under k start ≡ true) (along spends_in t cs s)
+along_under C t falls start [] s back all = tt
+along_under C t falls start (c ∷ cs) s back all = each_append (λ k. under k start ≡ true) (spends_in t c s) (along spends_in t cs (after t c s)) (each_implied (λ k. under k s ≡ true) (λ k. under k start ≡ true) back (spends_in t c s) (spends_under t c s))
+    (along_under C t falls start cs (after t c s) (λ k held. back k (falls k c s all.0 held)) all.1)
 
 nothing_spent : (t : ℕ) (c : Change) (s : Space) → IsUnspent c → spends_in t c s ≡ []
 nothing_spent t (InLeaf key c) s h = at (entity_of key.entity s) refl where

@@ -1,5 +1,5 @@
 -- Where an accepted act leaves the namespace, it has no changes.
-use Rattle.std.proofs.Common.{List, Some, [], ap, arith, false, length, map, not, refl, subst, true, ℕ, ◌&&◌, ◌++◌, ◌+◌, ◌==◌, ◌∙◌, ◌∷◌, ◌≡◌, ◌≤◌}
+use Rattle.std.proofs.Common.{List, Some, [], ap, arith, false, length, map, not, refl, subst, sym, true, ℕ, ◌&&◌, ◌++◌, ◌+◌, ◌==◌, ◌∙◌, ◌∷◌, ◌≡◌, ◌≤◌}
 use Rattle.std.proofs.lemmas.List.{length-append}
 use Rattle.std.specs.Prelude.{bytes_eq, find}
 use Rattle.sb_laws.proofs.AfterTick.{txn_number}
@@ -10,7 +10,9 @@ use Rattle.sb_laws.proofs.MovesAll.{OpensNone, closes_differ, fewer_open, holder
 use Rattle.sb_laws.proofs.NothingDue.{ordered}
 use Rattle.sb_laws.proofs.Outcomes.{Comes, comes, comes_acted}
 use Rattle.sb_laws.proofs.Rows.{found}
+use Rattle.sb_laws.proofs.Running.{all_later}
 use Rattle.sb_laws.proofs.Sameness.{numbers_equal}
+use Rattle.sb_laws.proofs.Uniting.{Does, Unites, does_many, does_one}
 use Rattle.sb_laws.proofs.Ways.{Way, aborts, adds_rule, begins, cancels, closes, commits, drops_rule, expires, hands_out, makes_queue, makes_subscription, makes_topic, opens, prolongs, queues_send, removes, renews, rolls_back, sends, settles_later, settles_now, takes_out, tells, writes}
 use Rattle.sb_laws.specs.Sweepable.{IsSweepable}
 use Rattle.sb_machine.specs.Administration.{going_with, rule_in}
@@ -21,7 +23,7 @@ use Rattle.sb_machine.specs.Leases.{is_living, is_named, is_scheduled, lives}
 use Rattle.sb_machine.specs.Leaves.{copy_in, prolonged_standing}
 use Rattle.sb_machine.specs.Names.{is_before, is_same_entity}
 use Rattle.sb_machine.specs.Namespace.{entity_of, is_entity, key_of, leaf_of, subscription_path}
-use Rattle.sb_machine.specs.Queueing.{deadline_with, transaction_of}
+use Rattle.sb_machine.specs.Queueing.{deadline_with, transaction_of, txn_life}
 use Rattle.sb_machine.specs.Receiving.{lock_end}
 use Rattle.sb_machine.specs.Repeats.{acted, outcome_of}
 use Rattle.sb_machine.specs.SendRow.{queued_send}
@@ -30,9 +32,11 @@ use Rattle.sb_machine.specs.Transactions.{operation_changes}
 use Rattle.sb_machine.specs.declared.call.Act.{Act}
 use Rattle.sb_machine.specs.declared.call.Call.{Call}
 use Rattle.sb_machine.specs.declared.call.Part.{Part}
+use Rattle.sb_machine.specs.declared.call.Path.{Path}
+use Rattle.sb_machine.specs.declared.call.Step.{Step}
 use Rattle.sb_machine.specs.declared.change.Cause.TheVariants.{Cancelled, Received}
 use Rattle.sb_machine.specs.declared.change.Change.{Change}
-use Rattle.sb_machine.specs.declared.change.Change.TheVariants.{AddsRule, Drops, DropsRule, Queues, Removes}
+use Rattle.sb_machine.specs.declared.change.Change.TheVariants.{AddsRule, Begins, Drops, DropsRule, Queues, Removes}
 use Rattle.sb_machine.specs.declared.change.LeafChange.TheVariants.{Renews}
 use Rattle.sb_model.specs.declared.message.Message.{Message}
 use Rattle.sb_machine.specs.declared.reply.Reply.{Reply}
@@ -142,7 +146,18 @@ module _ (s : Space) (t : ℕ) (may : IsSweepable s) where
   moves_way _ _ _ (aborts {n = n} x p there) same = absurd (drops_differ x.number [] x (txn_there n x there) tt same)
   moves_way _ _ _ (rolls_back {n = n} x there) same = absurd (drops_differ n [] x there tt same)
 
+-- operations that act together begin a transaction, and no number is given back
+united_moves : (s : Space) (t : ℕ) (path : Path) (steps : List Step) (reply : Reply) (cs : List Change) → Unites s t path steps reply cs → after_all t cs s ≡ s → ⊥
+united_moves s t path steps reply cs u same =
+    let first = Begins u.entity.about.number (t + txn_life) in
+    let rises = (all_later t u.behind_it (after t first s)).txn in
+    let last_is : (after_all t u.behind_it (after t first s)).last_txn ≡ s.last_txn = ap (λ (p : Space). p.last_txn) (sym (ap (λ (l : List Change). after_all t l s) u.changes) ∙ same) in
+    absurd (omega (arith, rises, last_is))
+
 pub moves_change : (s : State) (t : ℕ) (call : Call) (reply : Reply) (cs : List Change) → IsSweepable s.space → outcome_of s t call ≡ acted reply cs → after_all t cs s.space ≡ s.space → cs ≡ []
 moves_change s t call reply cs may is same = by (subst (Comes s t call) is (comes s t call)) where
   by : Comes s t call (acted reply cs) → cs ≡ []
-  by (comes_acted newer fits) = moves_way s.space t may call.act reply cs fits.way same
+  by (comes_acted newer fits) = on call.act fits.does where
+    on : (act : Act) → Does s.space t act reply cs → cs ≡ []
+    on act (does_one way) = moves_way s.space t may act reply cs way same
+    on _ (does_many {path = path} {steps = steps} u) = absurd (united_moves s.space t path steps reply cs u same)

@@ -7,7 +7,7 @@ use Rattle.sb_laws.proofs.Answered.{machine_answer}
 use Rattle.sb_laws.proofs.Calm.{IsCalm}
 use Rattle.sb_laws.proofs.Carrying.{kept_by_all}
 use Rattle.sb_laws.proofs.Consistency.{consistent_is_sweepable}
-use Rattle.sb_laws.proofs.Deeds.{Deed, IsQuiet, IsSteady, calm_quiet, closed_steady, deed_of, deletes, settles, shuts, steadies}
+use Rattle.sb_laws.proofs.Deeds.{Deed, IsJoint, IsQuiet, IsSteady, calm_quiet, closed_steady, deed_of, deletes, joins, joint_quiet, settles, shuts, steadies}
 use Rattle.sb_laws.proofs.Eachs.{each_implied, is_equal}
 use Rattle.sb_laws.proofs.Entities.{IsOrdered, about_with_leaf}
 use Rattle.sb_laws.proofs.FoundOn.{found_on, put_in}
@@ -35,7 +35,7 @@ use Rattle.sb_machine.specs.Keyed.{changed, with_sorted}
 use Rattle.sb_machine.specs.Leaves.{has_id, holder_new, leaf_after, session_in, taken}
 use Rattle.sb_machine.specs.Names.{is_before, is_same_entity}
 use Rattle.sb_machine.specs.Namespace.{entity_of, is_entity, key_of, leaf_of, listed, with_leaf}
-use Rattle.sb_machine.specs.Repeats.{Outcome, acted, outcome_of, refused, repeated}
+use Rattle.sb_machine.specs.Repeats.{Outcome, acted, forgot, outcome_of, refused, repeated}
 use Rattle.sb_machine.specs.Sessions.{held_until, holder_in}
 use Rattle.sb_machine.specs.declared.call.Act.{Act}
 use Rattle.sb_machine.specs.declared.call.Call.{Call}
@@ -166,6 +166,7 @@ module _ (key : SessionKey) where
       deed_ends : (reply : Reply) (cs : List Change) → answer ≡ Ok (New reply) → Deed l.state.space (moment_of l.state reading) call.act reply cs → EndsOrQuiet cs
       deed_ends reply cs said (steadies h) = inr (each_implied IsSteady (IsQuiet k key.leaf.entity) (λ c so. so.quiet k key.leaf.entity) cs h)
       deed_ends reply cs said (settles h) = inr (each_implied (IsCalm true) (IsQuiet k key.leaf.entity) (λ c so. calm_quiet true c k key.leaf.entity so) cs h)
+      deed_ends reply cs said (joins h) = inr (each_implied IsJoint (IsQuiet k key.leaf.entity) (λ c so. joint_quiet c k key.leaf.entity so) cs h)
       deed_ends reply cs said (shuts from token e same done there is) = at (token.lock == k) refl where
         at : (b : Bool) → (token.lock == k) ≡ b → EndsOrQuiet cs
         at true own = inl (subst (λ (a : Result Answered Refusal). Frees key k l.state.space (Replied seat reading call a)) (sym (said ∙ ap (λ (r : Reply). Ok (New r)) done))
@@ -186,6 +187,7 @@ module _ (key : SessionKey) where
         on : answer ≡ answer_in (outcome_of l.state (moment_of l.state reading) call) → (o : Outcome) → outcome_of l.state (moment_of l.state reading) call ≡ o → EndsOrQuiet (changes_of o)
         on said (refused r) is = inr tt
         on said (repeated reply) is = inr tt
+        on said (forgot name) is = inr tt
         on said (acted reply cs) is = deed_ends reply cs (said ∙ ap answer_in is) (deed_of l.state (moment_of l.state reading) call reply cs is)
 
         at : (f : Bool) → is_fault answer ≡ f → (d : Bool) → is_due (moment_of l.state reading) l.state.space ≡ d → EndsOrQuiet (if not f && not d then changes_of (outcome_of l.state (moment_of l.state reading) call) else [])

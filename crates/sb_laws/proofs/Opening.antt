@@ -3,7 +3,7 @@ use Rattle.std.proofs.Common.{Bool, List, None, Option, Result, Some, [], ap, ar
 use Rattle.std.proofs.lemmas.Bool.Decides.{nat_tests}
 use Rattle.std.specs.List.{flat_map, list_any}
 use Rattle.std.specs.Prelude.{find, if◌then◌else◌}
-use Rattle.sb_laws.proofs.Answered.{accepted_so, acted_row, answered_in, answered_new}
+use Rattle.sb_laws.proofs.Answered.{accepted_so, acted_row, answered_in, answered_new, goes_by_row}
 use Rattle.sb_laws.proofs.Anyone.{neither}
 use Rattle.sb_laws.proofs.Calm.{tick_each}
 use Rattle.sb_laws.proofs.Deeds.{IsQuiet, calm_quiet}
@@ -187,8 +187,9 @@ pub record IsOpened (key : SessionKey) (lock : ℕ) (l : Log) (reading : ℕ) (c
 pub opened_so : (key : SessionKey) (lock : ℕ) (l : Log) (seat reading : ℕ) (call : Call) (answer : Result Answered Refusal) → IsAllowed l (Replied seat reading call answer) → AcceptsBy key lock l.state.space call answer → IsOpened key lock l reading call
 opened_so key lock l seat reading call answer allowed a =
     let t = moment_of l.state reading in
-    let new = answered_new l seat reading call answer (Accepted key.id a.token a.until) allowed a.said in
-    let row = (accepted_so l.state.space t call.by call.act (Accepted key.id a.token a.until) new.changes (acted_row l.state t call (Accepted key.id a.token a.until) new.changes new.acted_so)).row in
+    let plain : goes_by_row call.act ≡ true = ap goes_by_row a.act in
+    let new = answered_new l seat reading call answer (Accepted key.id a.token a.until) plain allowed a.said in
+    let row = (accepted_so l.state.space t call.by call.act (Accepted key.id a.token a.until) new.changes (acted_row l.state t call (Accepted key.id a.token a.until) new.changes plain new.acted_so)).row in
     let opening = answered_in (λ r. Unit {0}) (Opening l.state.space t a.from) (accept_row l.state.space t a.from a.asked_for) (Accepted key.id a.token a.until) new.changes (opens_free l.state.space t a.from a.asked_for) (subst (λ (act : Act). act_row l.state.space t act ≡ answers (Accepted key.id a.token a.until) new.changes) a.act row) key.id a.token a.until refl in
     record {
       quiet = new.quiet;

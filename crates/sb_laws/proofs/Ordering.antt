@@ -1,40 +1,42 @@
 -- An orderly state stays so, through calls and ticks.
-use Rattle.std.proofs.Common.{Bool, List, Option, [], arith, false, nat_le, not, refl, subst, sym, true, ℕ, ◌&&◌, ◌+◌, ◌<◌, ◌∙◌, ◌∷◌, ◌≡◌, ◌≤◌}
+use Rattle.std.proofs.Common.{Bool, List, None, Option, [], arith, false, not, refl, subst, sym, true, ℕ, ◌<◌, ◌∙◌, ◌∷◌, ◌≡◌, ◌≤◌}
 use Rattle.std.proofs.lemmas.List.Sums.{sum_by-cons}
 use Rattle.std.specs.Prelude.{if◌then◌else◌, sum_by}
 use Rattle.sb_laws.proofs.Carried.{IsOfAct, OperationSent, tick_act}
 use Rattle.sb_laws.proofs.Claiming.{claimed_apart, claimed_few, claimed_of, claimed_steps}
-use Rattle.sb_laws.proofs.Clients.{AreClients, keeps_clients}
-use Rattle.sb_laws.proofs.Core.{Fields, core_acts, core_tick, core_way}
+use Rattle.sb_laws.proofs.Clients.{AreClients, clients_without, keeps_clients, newer_without}
+use Rattle.sb_laws.proofs.Core.{core_acts, core_tick, core_way}
 use Rattle.sb_laws.proofs.Eachs.{each_append, each_back, each_both, each_front, each_implied}
 use Rattle.sb_laws.proofs.Entities.{EachLeaf, LeafRises, each_leaf, leaf_each}
-use Rattle.sb_laws.proofs.Keeping.{all_times, each_counted, first_none, locked_of, pairs_of_counts, times_in}
+use Rattle.sb_laws.proofs.Keeping.{all_times, each_counted, locked_of, pairs_of_counts, times_in}
 use Rattle.sb_laws.proofs.Listing.{AreNoted, AreOpen, IsNoted, IsOpen, PathsDiffer, noted_later, noted_steps, open_later, open_steps, path_steps}
 use Rattle.sb_laws.proofs.Locking.{IsLocked}
 use Rattle.sb_laws.proofs.Measures.{all_grow}
 use Rattle.sb_laws.proofs.Mild.{IsCarried}
 use Rattle.sb_laws.proofs.NothingDue.{Lasts}
-use Rattle.sb_laws.proofs.Outcomes.{Comes, Fits, comes, comes_acted, comes_refused, comes_repeated}
+use Rattle.sb_laws.proofs.Outcomes.{Comes, Fits, comes, comes_acted, comes_forgot, comes_refused, comes_repeated, forgets_another}
+use Rattle.sb_laws.proofs.Running.{act_keeps, within}
+use Rattle.sb_laws.proofs.Ways.{Way}
 use Rattle.sb_laws.proofs.Owning.{AreOwned, owned_steps}
 use Rattle.sb_laws.proofs.Points.{AreTimed, IsTimed, TimedIn, shape_keeps, timed_later, timed_steps}
 use Rattle.sb_laws.proofs.Queuing.{IsClaimed, at_or_above}
 use Rattle.sb_laws.proofs.Ruling.{AreRuled, ruled_steps}
-use Rattle.sb_laws.proofs.Shapes.{Arrives, PlainCore, Shape, arrives_sending, at_most, of_acts, plain_fields, plain_lists, plain_travels, shape}
+use Rattle.sb_laws.proofs.Shapes.{Arrives, PlainCore, Shape, arrives_sending, of_acts, plain_fields, plain_lists, plain_travels, shape}
 use Rattle.sb_laws.proofs.Tick.{IsOfTick, expired_of_tick, first_of_any, locks_of_tick, scheduled_of_tick, transactions_of_tick}
 use Rattle.sb_laws.proofs.Topics.{AreTopiced, shape_topics}
 use Rattle.sb_laws.specs.Orderly.{IsOrderly, IsOrderlyCopy, IsOrderlyEntity, IsOrderlyLeaf, IsOrderlyOperation, IsOrderlyTransaction}
 use Rattle.sb_laws.specs.Plain.{IsPlain, IsRuled}
 use Rattle.sb_machine.specs.Acts.{is_via_in}
-use Rattle.sb_machine.specs.Answers.{is_change, keeping, max_moment, state_in, state_of}
-use Rattle.sb_machine.specs.Changes.{after_all, is_numbered, max_number, numbers_given}
+use Rattle.sb_machine.specs.Answers.{is_change, keeping, max_moment, state_in, state_of, without_client}
+use Rattle.sb_machine.specs.Changes.{after_all, is_numbered, max_number}
 use Rattle.sb_machine.specs.Consistent.{locks_of, queued_locks}
 use Rattle.sb_machine.specs.Delivery.{carried}
 use Rattle.sb_machine.specs.Due.{due_transactions, sweep_expired, sweep_locks, sweep_scheduled, then_also, tick_changes}
 use Rattle.sb_machine.specs.Each.{Each}
-use Rattle.sb_machine.specs.Fields.{bad_in_act, bad_in_by}
+use Rattle.sb_machine.specs.Fields.{bad_in_act}
 use Rattle.sb_machine.specs.History.{advanced, is_spent}
 use Rattle.sb_machine.specs.Namespace.{leaf_of, made_in}
-use Rattle.sb_machine.specs.Repeats.{Outcome, acted, client_of, outcome_of}
+use Rattle.sb_machine.specs.Repeats.{Outcome, acted, client_of, forgot, outcome_of}
 use Rattle.sb_machine.specs.declared.call.Act.{Act}
 use Rattle.sb_machine.specs.declared.call.By.{By}
 use Rattle.sb_machine.specs.declared.call.Call.{Call}
@@ -42,6 +44,7 @@ use Rattle.sb_machine.specs.declared.call.Part.{Part}
 use Rattle.sb_machine.specs.declared.call.Part.TheVariants.{Dead, Main, Transfer}
 use Rattle.sb_machine.specs.declared.change.Change.{Change}
 use Rattle.sb_machine.specs.declared.reply.Reply.{Reply}
+use Rattle.sb_machine.specs.declared.reply.Reply.TheVariants.{Done}
 use Rattle.sb_machine.specs.declared.state.Entity.{Entity}
 use Rattle.sb_machine.specs.declared.state.Leaf.{Leaf}
 use Rattle.sb_machine.specs.declared.state.Operation.{Operation}
@@ -174,7 +177,7 @@ points_orderly st early of_clients p = record {
   transactions [] a b = tt
   transactions (x ∷ xs) a b = (record { deadline = a.0.deadline; few = a.0.few; operations = each_implied (OperationSent Lasts) IsOrderlyOperation operation x.operations b.0 }, transactions xs a.1 b.1)
 
-orderly_points : (s : State) (t : ℕ) → s.now ≤ t → IsOrderly s → HasPoints t s.space
+pub orderly_points : (s : State) (t : ℕ) → s.now ≤ t → IsOrderly s → HasPoints t s.space
 orderly_points s t le h = record {
   made = h.made;
   last_entity = h.last_entity;
@@ -193,25 +196,14 @@ orderly_points s t le h = record {
 
 -- ---- numbers that are given stay within the greatest
 
-pub four : (a b c d : Bool) → (a && b && c && d) ≡ true → (a ≡ true) × (b ≡ true) × (c ≡ true) × (d ≡ true)
-four true true true d e = (refl, refl, refl, e)
-four true true false d e = absurd cc
-four true false c d e = absurd cc
-four false b c d e = absurd cc
-
-numbers_within : (t : ℕ) (cs : List Change) (s : Space) → is_numbered t cs s ≡ true → (made (after_all t cs s) ≤ max_number) × ((after_all t cs s).last_entity ≤ max_number) × ((after_all t cs s).last_lock ≤ max_number) × ((after_all t cs s).last_txn ≤ max_number)
-numbers_within t cs s is =
-    let so = four (nat_le (made s + numbers_given cs) max_number) (nat_le (after_all t cs s).last_entity max_number) (nat_le (after_all t cs s).last_lock max_number) (nat_le (after_all t cs s).last_txn max_number) is in
-    (omega (arith, at_most (made s + numbers_given cs) max_number so.0, (all_grow t cs s).made_most), at_most (after_all t cs s).last_entity max_number so.1, at_most (after_all t cs s).last_lock max_number so.2, at_most (after_all t cs s).last_txn max_number so.3)
-
 points_kept : (t : ℕ) (cs : List Change) (s : Space) → is_numbered t cs s ≡ true → PlainCore (after_all t cs s) → Shape s t cs → HasPoints t s → HasPoints t (after_all t cs s)
 points_kept t cs s numbered_so core_so is p =
-    let within = numbers_within t cs s numbered_so in
+    let w = within t cs s numbered_so in
     record {
-      made = within.0;
-      last_entity = within.1;
-      last_lock = within.2;
-      last_txn = within.3;
+      made = omega (arith, w.given, (all_grow t cs s).made_most);
+      last_entity = w.entity;
+      last_lock = w.lock;
+      last_txn = w.txn;
       core = core_so;
       timed = shape_keeps (AreTimed t) t s cs (timed_steps t s) is p.timed;
       noted = shape_keeps (AreNoted t) t s cs (noted_steps t s) is p.noted;
@@ -248,14 +240,14 @@ tick_acts t s core = ticks_act t true (tick_changes t s) (tick_changes_so t s co
 
 -- ---- calls and ticks
 
-pub fields_of : (s : Space) (t : ℕ) (by : Option By) (act : Act) (reply : Reply) (cs : List Change) → Fits s t by act reply cs → Fields Arrives IsPlain Lasts s act
-fields_of s t by act reply cs fits = plain_fields s (is_via_in s act) act (first_none (bad_in_act (is_via_in s act) act) (bad_in_by act by) fits.fields).0
+-- an accepted act by itself keeps them
+pub way_points : (t : ℕ) (s : Space) (act : Act) (reply : Reply) (cs : List Change) → bad_in_act (is_via_in s act) act ≡ None → is_numbered t cs s ≡ true → Way s t act reply cs → HasPoints t s → HasPoints t (after_all t cs s)
+way_points t s act reply cs good numbers way p =
+    let fields = plain_fields s (is_via_in s act) act good in
+    points_kept t cs s numbers (core_way plain_travels arrives_sending plain_lists t s p.core act reply cs fields way) (shape s t p.core act reply cs fields way) p
 
 acted_points : (s : State) (t : ℕ) (by : Option By) (act : Act) (reply : Reply) (cs : List Change) → IsOrderly s → s.now ≤ t → Fits s.space t by act reply cs → HasPoints t (after_all t cs s.space)
-acted_points s t by act reply cs h le fits =
-    let core = orderly_core s h in
-    let fields = fields_of s.space t by act reply cs fits in
-    points_kept t cs s.space fits.numbers (core_way plain_travels arrives_sending plain_lists t s.space core act reply cs fields fits.way) (shape s.space t core act reply cs fields fits.way) (orderly_points s t le h)
+acted_points s t by act reply cs h le fits = act_keeps s.space t by act reply cs fits (HasPoints t) (λ now a r ds good numbers way p. way_points t now a r ds good numbers way p) (orderly_points s t le h)
 
 -- the state that an accepted call leaves
 acted_orderly : (s : State) (t : ℕ) (call : Call) (reply : Reply) (cs : List Change) (changes : Bool) → t ≤ max_moment → IsOrderly s → AreClients (keeping (client_of call) call.act reply s.clients) → HasPoints t (after_all t cs s.space) → IsOrderly (if changes then record { now = t; clients = keeping (client_of call) call.act reply s.clients; space = after_all t cs s.space } else s)
@@ -267,6 +259,8 @@ called_orderly s t call _ h le most (comes_refused none) = h
 called_orderly s t call _ h le most comes_repeated = h
 called_orderly s t call (acted reply cs) h le most (comes_acted newer fits) = acted_orderly s t call reply cs (is_change (client_of call) (acted reply cs)) most h
     (keeps_clients (client_of call) call.act reply s.clients newer (record { order = h.clients; few = h.few_clients })) (acted_points s t call.by call.act reply cs h le fits)
+called_orderly s t call (forgot name) h le most (comes_forgot is newer fits) = points_orderly (record { now = t; clients = keeping (client_of call) call.act Done (without_client name s.clients); space = s.space }) most
+    (keeps_clients (client_of call) call.act Done (without_client name s.clients) (newer_without name s.clients (client_of call) (forgets_another s.space t call name Done [] is fits) newer) (clients_without name s.clients (record { order = h.clients; few = h.few_clients }))) (orderly_points s t le h)
 
 pub stays_orderly : (s : State) (t : ℕ) (call : Call) → IsOrderly s → s.now ≤ t → t ≤ max_moment → IsOrderly (state_of s t call)
 stays_orderly s t call h le most = called_orderly s t call (outcome_of s t call) h le most (comes s t call)

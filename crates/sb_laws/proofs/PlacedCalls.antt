@@ -3,10 +3,9 @@ use Rattle.std.proofs.Common.{Bool, List, None, Option, Some, [], ap, arith, fal
 use Rattle.std.specs.Prelude.{codes, find, is_none, nat_lt, not, ◌||◌}
 use Rattle.std.proofs.lemmas.Bool.Decides.{nat_tests}
 use Rattle.sb_laws.proofs.Carried.{IsOfAct, closed_acts, commit_acts, copy_at, expired_acts, sends_acts, settled_acts}
-use Rattle.sb_laws.proofs.Consistency.{then_none}
+use Rattle.sb_laws.proofs.Consistency.{first_none, passed, then_none}
 use Rattle.sb_laws.proofs.Eachs.{each_found, is_equal}
 use Rattle.sb_laws.proofs.Entities.{EachLeaf, LeafRises, copy_number, leaf_each}
-use Rattle.sb_laws.proofs.Keeping.{first_none, passed}
 use Rattle.sb_laws.proofs.Listing.{entity_turned}
 use Rattle.sb_laws.proofs.Lists.{found_passes}
 use Rattle.sb_laws.proofs.Locking.{FreesLocks, copy_once, held_in, held_in_leaf, one, times_held}

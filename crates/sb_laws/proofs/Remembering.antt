@@ -1,27 +1,29 @@
 -- What is remembered for a client: its call passed the tests, and its reply may be told again.
-use Rattle.std.proofs.Common.{Bool, List, None, Option, Some, [], arith, false, length, nat_le, not, refl, subst, sym, true, ℕ, ◌+◌, ◌||◌, ◌∷◌, ◌≡◌}
+use Rattle.std.proofs.Common.{Bool, List, None, Option, Some, [], arith, false, length, nat_le, not, refl, subst, sym, true, ℕ, ◌+◌, ◌||◌, ◌∷◌, ◌≡◌, ◌≤◌}
 use Rattle.std.specs.Prelude.{codes, if◌then◌else◌, is_none}
 use Rattle.sb_laws.proofs.Carried.{copy_at}
-use Rattle.sb_laws.proofs.Consistency.{then_none}
+use Rattle.sb_laws.proofs.Consistency.{first_none, passed, then_none}
 use Rattle.sb_laws.proofs.Contents.{ContentsCore, IsStill, contents_sending, contents_travel}
 use Rattle.sb_laws.proofs.Ids.{accepted_short}
-use Rattle.sb_laws.proofs.Keeping.{first_none, passed}
 use Rattle.sb_laws.proofs.Mild.{IsCarried}
+use Rattle.sb_laws.proofs.Ordering.{orderly_points}
 use Rattle.sb_laws.proofs.Outcomes.{Fits}
-use Rattle.sb_laws.proofs.Shapes.{at_most}
+use Rattle.sb_laws.proofs.Replies.{receipts_length, united_reply}
+use Rattle.sb_laws.proofs.Running.{at_most, good_act}
+use Rattle.sb_laws.proofs.Uniting.{Does, does_many, does_one}
 use Rattle.sb_laws.proofs.Ways.{Way, aborts, adds_rule, begins, cancels, closes, commits, drops_rule, expires, hands_out, makes_queue, makes_subscription, makes_topic, opens, prolongs, queues_send, removes, renews, rolls_back, sends, settles_later, settles_now, takes_out, tells, writes}
+use Rattle.sb_laws.proofs.Wholes.{whole_of}
 use Rattle.sb_machine.proofs.Accepted.{changing_judged}
 use Rattle.sb_machine.specs.Acts.{is_via_in}
 use Rattle.sb_machine.specs.Answers.{is_change, kept_as}
-use Rattle.sb_machine.specs.Changes.{after_all, max_number}
+use Rattle.sb_machine.specs.Changes.{max_number}
 use Rattle.sb_machine.specs.Consistent.{IsConsistent, IsGiven, IsHandedOut, IsKept, IsReply}
 use Rattle.sb_machine.specs.Fields.{bad_in_act, bad_in_by, bad_in_conditions, bad_in_message, bad_in_messages, bad_in_send, first_some, is_between_or_none, max_messages, max_ttl, takes_number, unless}
 use Rattle.sb_machine.specs.Judged.{IsJudged}
 use Rattle.sb_machine.specs.Names.{is_same_entity}
 use Rattle.sb_machine.specs.Ordered.{IsActInOrder}
 use Rattle.sb_machine.specs.Receiving.{shown}
-use Rattle.sb_machine.specs.Repeats.{Outcome, acted, client_of, outcome_of}
-use Rattle.sb_machine.specs.Sending.{message_changes, receipts}
+use Rattle.sb_machine.specs.Repeats.{Outcome, client_of, outcome_of}
 use Rattle.sb_machine.specs.Transactions.{aborted_by}
 use Rattle.sb_machine.specs.declared.call.Act.{Act}
 use Rattle.sb_machine.specs.declared.call.Act.TheVariants.{Send}
@@ -30,7 +32,6 @@ use Rattle.sb_machine.specs.declared.call.Call.{Call}
 use Rattle.sb_machine.specs.declared.change.Change.{Change}
 use Rattle.sb_machine.specs.declared.reply.Reply.{Reply}
 use Rattle.sb_machine.specs.declared.reply.Showing.{Showing}
-use Rattle.sb_machine.specs.declared.state.Entity.{Entity}
 use Rattle.sb_machine.specs.declared.state.Operation.{Operation}
 use Rattle.sb_machine.specs.declared.state.Operation.TheVariants.{Send as SendLater, Settle as SettleLater}
 use Rattle.sb_machine.specs.declared.state.Space.{Space}
@@ -61,10 +62,6 @@ act_plainly is_via (Send to ms txn) e = let parts = send_parts is_via ms txn e i
 act_plainly is_via _ e = e
 
 -- ---- replies
-
-receipts_length : (t : ℕ) (e : Entity) (ms : List Message) (s : Space) → length (receipts t e ms s) ≡ length ms
-receipts_length t e [] s = refl
-receipts_length t e (m ∷ ms) s = omega (arith, receipts_length t e ms (after_all t (message_changes t e m s) s))
 
 given_fits : (c : StoredCopy) (showing : Showing) → IsHandedOut showing → IsCarried IsStill c → IsGiven (shown (c.count + 1) showing c)
 given_fits c showing handed may = record { message = may.message.0; no_schedule = may.message.1; showing = handed; once = omega arith; count = omega (arith, may.count) }
@@ -98,6 +95,14 @@ reply_fits s t is_via _ _ _ core good takes (aborts x o there) = at o where
   at (SettleLater from number token session how) = tt
 reply_fits s t is_via _ _ _ core good takes (rolls_back x there) = tt
 
+does_reply : (s : State) (t : ℕ) (by : Option By) (act : Act) (reply : Reply) (cs : List Change) → s.now ≤ t → IsConsistent s → ContentsCore s.space → takes_number act ≡ true → Fits s.space t by act reply cs → IsReply reply
+does_reply s t by act reply cs le h core takes fits = on act (good_act s.space t by act reply cs fits) takes fits.does where
+  on : (act : Act) → bad_in_act (is_via_in s.space act) act ≡ None → takes_number act ≡ true → Does s.space t act reply cs → IsReply reply
+  on act good takes (does_one way) = reply_fits s.space t (is_via_in s.space act) act reply cs core good takes way
+  on _ good takes (does_many {path = path} {steps = steps} u) =
+      let w = whole_of s h in
+      united_reply t s.space path steps reply cs (orderly_points s t le w.orderly) w.placed good fits.numbers u
+
 -- ---- the call that is kept
 
 named_by : (act : Act) (by : Option By) (b : By) → (if takes_number act then by else None) ≡ Some b → (by ≡ Some b) × (takes_number act ≡ true)
@@ -120,13 +125,12 @@ judged_plainly is_via call b who judged =
       order = judged.order;
     }
 
-pub call_kept : (s : State) (t : ℕ) (call : Call) (reply : Reply) (cs : List Change) → IsConsistent s → ContentsCore s.space → IsActInOrder call.act → Fits s.space t call.by call.act reply cs → outcome_of s t call ≡ acted reply cs
-    → (b : By) → client_of call ≡ Some b → IsKept (kept_as b call.act reply)
-call_kept s t call reply cs h core order fits same b is =
+pub call_kept : (s : State) (t : ℕ) (call : Call) (reply : Reply) (cs : List Change) (o : Outcome) → s.now ≤ t → IsConsistent s → ContentsCore s.space → IsActInOrder call.act → Fits s.space t call.by call.act reply cs → outcome_of s t call ≡ o
+    → ((b : By) → is_change (Some b) o ≡ true) → (b : By) → client_of call ≡ Some b → IsKept (kept_as b call.act reply)
+call_kept s t call reply cs o le h core order fits same changes b is =
     let who = named_by call.act call.by b is in
-    let parts = first_none (bad_in_act (is_via_in s.space call.act) call.act) (bad_in_by call.act call.by) fits.fields in
-    let changing : is_change (client_of call) (outcome_of s t call) ≡ true = subst (λ (by : Option By). is_change by (outcome_of s t call) ≡ true) (sym is) (subst (λ (o : Outcome). is_change (Some b) o ≡ true) (sym same) refl) in
+    let changing : is_change (client_of call) (outcome_of s t call) ≡ true = subst (λ (by : Option By). is_change by (outcome_of s t call) ≡ true) (sym is) (subst (λ (o : Outcome). is_change (Some b) o ≡ true) (sym same) (changes b)) in
     record {
       judged = judged_plainly (is_via_in s.space call.act) call b who.0 (changing_judged s t call h order changing);
-      reply = reply_fits s.space t (is_via_in s.space call.act) call.act reply cs core parts.0 who.1 fits.way;
+      reply = does_reply s t call.by call.act reply cs le h core who.1 fits;
     }

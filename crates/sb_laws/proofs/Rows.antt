@@ -1,11 +1,12 @@
 -- What holds of a row: of its refusal, or of its reply and changes, through the tests that a row is made of.
-use Rattle.std.proofs.Common.{Bool, Err, List, None, Ok, Option, Result, Some, false, refl, true, ℕ, ◌-◌, ◌≡◌}
+use Rattle.std.proofs.Common.{Bool, Err, List, None, Ok, Option, Result, Some, false, refl, true, ℕ, ◌++◌, ◌-◌, ◌≡◌}
 use Rattle.std.specs.Prelude.{if◌then◌else◌}
 use Rattle.sb_machine.specs.Administration.{read_or}
 use Rattle.sb_machine.specs.Changes.{after_all, is_numbered}
 use Rattle.sb_machine.specs.Names.{is_address}
 use Rattle.sb_machine.specs.Namespace.{entity_at, live}
 use Rattle.sb_machine.specs.Rows.{Row, absent_or, answers, asks, at_entity, at_receivable, found_or, is_beyond, is_receivable, numbered, refused_by, refuses, within_quota}
+use Rattle.sb_machine.specs.Together.{behind, filling, then_row, unqueued}
 use Rattle.sb_machine.specs.declared.call.Path.{Path}
 use Rattle.sb_machine.specs.declared.change.Change.{Change}
 use Rattle.sb_machine.specs.declared.reply.Refusal.{Refusal}
@@ -61,3 +62,27 @@ of_numbered t s R P Q (answers reply cs) none more (answered_so h) = asked (is_n
 pub implied : {R : Refusal → Type 0} (P Q : Reply → List Change → Type 0) {row : Row} → ((reply : Reply) (cs : List Change) → P reply cs → Q reply cs) → Of R P row → Of R Q row
 implied P Q more (refused_so h) = refused_so h
 implied P Q more (answered_so h) = answered_so (more _ _ h)
+
+-- ---- rows of acts one behind another
+
+module _ {R : Refusal → Type 0} where
+  -- what is said of a row, with what it is
+  pub of_itself : {P : Reply → List Change → Type 0} (row : Row) → Of R P row → Of R (λ reply cs. P reply cs × (row ≡ answers reply cs)) row
+  of_itself (refuses r) (refused_so h) = refused_so h
+  of_itself (answers reply cs) (answered_so h) = answered_so (h, refl)
+
+  pub of_both : {P Q : Reply → List Change → Type 0} (row : Row) → Of R P row → Of (λ r. Unit {0}) Q row → Of R (λ reply cs. P reply cs × Q reply cs) row
+  of_both (refuses r) (refused_so h) k = refused_so h
+  of_both (answers reply cs) (answered_so h) (answered_so k) = answered_so (h, k)
+
+  of_behind : {P : Reply → List Change → Type 0} (cs : List Change) (row : Row) → Of R (λ reply ds. P reply (cs ++ ds)) row → Of R P (behind cs row)
+  of_behind cs (refuses r) (refused_so h) = refused_so h
+  of_behind cs (answers reply ds) (answered_so h) = answered_so h
+
+  pub of_then : {P Q : Reply → List Change → Type 0} (t : ℕ) (s : Space) (row : Row) (next : Space → Row) → Of R Q row → ((reply : Reply) (cs : List Change) → Q reply cs → Of R (λ told ds. P told (cs ++ ds)) (next (after_all t cs s))) → Of R P (then_row t s row next)
+  of_then t s (refuses r) next (refused_so h) later = refused_so h
+  of_then {P = P} t s (answers reply cs) next (answered_so h) later = of_behind {P = P} cs (next (after_all t cs s)) (later reply cs h)
+
+  pub of_filling : {P Q : Reply → List Change → Type 0} (t : ℕ) (s : Space) (row : Row) (next : Space → Row) → Of R Q row → ((reply : Reply) (cs : List Change) → Q reply cs → Of R (λ told ds. P told (unqueued cs ++ ds)) (next (after_all t cs s))) → Of R P (filling t s row next)
+  of_filling t s (refuses r) next (refused_so h) later = refused_so h
+  of_filling {P = P} t s (answers reply cs) next (answered_so h) later = of_behind {P = P} (unqueued cs) (next (after_all t cs s)) (later reply cs h)

@@ -18,7 +18,7 @@ use Rattle.sb_machine.specs.declared.call.Token.{Token}
 use Rattle.sb_machine.specs.declared.call.Which.{Which}
 use Rattle.sb_machine.specs.declared.call.Which.TheVariants.{Id, Number}
 use Rattle.sb_machine.specs.declared.look.Look.{Look}
-use Rattle.sb_machine.specs.declared.look.Look.TheVariants.{Entities, Entity, Sessions, Transactions}
+use Rattle.sb_machine.specs.declared.look.Look.TheVariants.{Clients, Entities, Entity, Sessions, Transactions}
 use Rattle.sb_model.specs.declared.message.Message.{Message}
 use Rattle.sb_model.specs.declared.message.Property.{Property}
 use Rattle.sb_model.specs.declared.message.PropertyValue.{PropertyValue}
@@ -276,6 +276,11 @@ look_sound (Sessions p a n) (Sessions q b m) e =
     let nm = equal_numbers n m p2.1 in
     cc
 look_sound Transactions Transactions e = refl
+look_sound (Clients a b) (Clients p q) e =
+    let p1 = two _ (b == q) e in
+    let ap = text_sound a p p1.0 in
+    let bq = equal_numbers b q p1.1 in
+    cc
 look_sound _ _ e = absurd cc
 
 pub look_same : (a : Look) → same_look a a ≡ true
@@ -283,3 +288,4 @@ look_same (Entities f a n) = rw (text_same f, option_same same_path path_same a,
 look_same (Entity p) = path_same p
 look_same (Sessions p a n) = rw (path_same p, text_same a, numbers_equal n) refl
 look_same Transactions = refl
+look_same (Clients a b) = rw (text_same a, numbers_equal b) refl

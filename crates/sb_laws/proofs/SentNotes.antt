@@ -3,7 +3,7 @@ use Rattle.std.proofs.Common.{Bool, List, None, Option, Some, [], ap, append_ass
 use Rattle.std.proofs.lemmas.List.{append-nil}
 use Rattle.std.specs.List.{flat_map}
 use Rattle.std.specs.Prelude.{if◌then◌else◌}
-use Rattle.sb_laws.proofs.Answered.{accepted_so, acted_row, answered_in, answered_new, entry_new}
+use Rattle.sb_laws.proofs.Answered.{accepted_so, acted_row, answered_in, answered_new, entry_new, goes_by_row}
 use Rattle.sb_laws.proofs.Consistency.{consistent_is_sweepable}
 use Rattle.sb_laws.proofs.Entities.{IsOrdered, about_with_leaf}
 use Rattle.sb_laws.proofs.FoundOn.{found_on, put_in}
@@ -242,8 +242,9 @@ entry_notes_own : (l : Log) (e : Entry) → IsAllowed l e → IsOrdered l.state.
 entry_notes_own l (Ticked seat t) allowed o = tt
 entry_notes_own l (Replied seat reading call answer) allowed o = λ to ms txn rs is said.
     let t = moment_of l.state reading in
-    let new = answered_new l seat reading call answer (Sent rs) allowed said in
-    let row = (accepted_so l.state.space t call.by call.act (Sent rs) new.changes (acted_row l.state t call (Sent rs) new.changes new.acted_so)).row in
+    let plain : goes_by_row call.act ≡ true = ap goes_by_row is in
+    let new = answered_new l seat reading call answer (Sent rs) plain allowed said in
+    let row = (accepted_so l.state.space t call.by call.act (Sent rs) new.changes (acted_row l.state t call (Sent rs) new.changes plain new.acted_so)).row in
     let notes : RowNotes l.state.space t o to ms rs new.changes = answered_in (λ r. Unit {0}) (SendNotes l.state.space t o to ms) (send_row l.state.space t to ms txn) (Sent rs) new.changes (send_notes l.state.space t o to ms txn) (subst (λ (act : Act). act_row l.state.space t act ≡ answers (Sent rs) new.changes) is row) rs refl in
     record { entity = notes.entity; there = notes.there; notes = ap (λ (cs : List Change). along notes_in t cs l.state.space) (entry_new l seat reading call answer (Sent rs) new said) ∙ notes.notes }
 

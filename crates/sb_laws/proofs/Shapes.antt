@@ -1,5 +1,5 @@
 -- The shapes that the changes of an accepted act have, with what each point of consistency asks of them.
-use Rattle.std.proofs.Common.{Bool, Err, List, None, Ok, Option, Result, Some, [], arith, false, length, map, nat_le, nat_lt, refl, subst, sym, true, ℕ, ◌&&◌, ◌+◌, ◌<◌, ◌==◌, ◌||◌, ◌∙◌, ◌∷◌, ◌≡◌, ◌≤◌}
+use Rattle.std.proofs.Common.{Bool, Err, List, None, Ok, Option, Result, Some, [], arith, false, length, map, nat_lt, refl, subst, sym, true, ℕ, ◌&&◌, ◌+◌, ◌<◌, ◌==◌, ◌||◌, ◌∙◌, ◌∷◌, ◌≡◌, ◌≤◌}
 use Rattle.std.proofs.lemmas.Bool.Decides.{nat_tests}
 use Rattle.std.specs.List.{list_any}
 use Rattle.std.specs.Prelude.{bytes_eq, codes, find, if◌then◌else◌, is_some, sum_by}
@@ -14,6 +14,7 @@ use Rattle.sb_laws.proofs.Moves.{by_number, copy_by_number, found_by_key, leased
 use Rattle.sb_laws.proofs.MovesAll.{living_holds}
 use Rattle.sb_laws.proofs.NothingDue.{Lasts, shorter_lasts}
 use Rattle.sb_laws.proofs.Queuing.{QueueFits, leased_alone, none_pending, times_holding}
+use Rattle.sb_laws.proofs.Running.{at_most}
 use Rattle.sb_laws.proofs.Sameness.{bytes_same, two}
 use Rattle.sb_laws.proofs.Tick.{is_free}
 use Rattle.sb_laws.proofs.Visiting.{Travels}
@@ -151,9 +152,6 @@ lock_most kind d e = at (has_copies kind) (then_none _ _ _ e).0 where
 
 lock_end_most : (e : Entity) (t : ℕ) → IsPlain e.about → lock_end e t ≤ t + 300000
 lock_end_most e t g = let most = lock_most e.about.kind e.about.description g.described in omega (arith, most)
-
-pub at_most : (m n : ℕ) → nat_le m n ≡ true → m ≤ n
-at_most m n e = grind (arith, nat_tests)
 
 below : (m n : ℕ) → nat_lt m n ≡ true → m < n
 below m n e = grind (arith, nat_tests)

@@ -1,5 +1,5 @@
 -- Lists in order, with one more.
-use Rattle.std.proofs.Common.{Bool, List, None, Some, [], ap, false, refl, true, ℕ, ◌∙◌, ◌∷◌, ◌≡◌}
+use Rattle.std.proofs.Common.{Bool, List, None, Some, [], ap, false, refl, sym, true, ℕ, ◌∙◌, ◌∷◌, ◌≡◌}
 use Rattle.std.specs.Prelude.{bytes_eq, find}
 use Rattle.sb_laws.proofs.Eachs.{each_implied, each_inserted}
 use Rattle.sb_laws.proofs.Lists.{found_behind}
@@ -30,6 +30,14 @@ before_other a b after_so differs_so = at (slice_cmp nat_cmp a b) after_so (is_e
   at Less p q e = absurd cc
   at Equal p q e = absurd cc
   at Greater p q e = ap is_lt e
+
+-- what stands behind is another
+pub later_differs : (a b : List ℕ) → is_before a b ≡ true → bytes_eq b a ≡ false
+later_differs a b before = at (slice_cmp nat_cmp b a) (is_eq-slice_cmp b a) (nat_list_cmp_total.antisymm a b) where
+  at : (o : Ordering) → is_eq o ≡ bytes_eq b a → slice_cmp nat_cmp a b ≡ ordering_reverse o → bytes_eq b a ≡ false
+  at Less e turned = sym e
+  at Greater e turned = sym e
+  at Equal e turned = let never : true ≡ false = sym before ∙ ap is_lt turned in absurd cc
 
 -- ---- one more
 

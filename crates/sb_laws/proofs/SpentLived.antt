@@ -2,11 +2,11 @@
 use Rattle.std.proofs.Common.{Bool, List, [], arith, false, map, not, refl, subst, sym, true, ℕ, ◌&&◌, ◌∷◌, ◌≡◌, ◌≤◌}
 use Rattle.std.specs.List.{flat_map}
 use Rattle.std.specs.Prelude.{filter, if◌then◌else◌}
-use Rattle.sb_laws.proofs.Calm.{tick_each}
-use Rattle.sb_laws.proofs.Deeds.{Deed, IsSteady, IsUnspent, calm_unspent, closed_steady, deed_of, deletes, sessions_each, settles, shuts, steadies}
+use Rattle.sb_laws.proofs.Calm.{IsCalm, tick_each}
+use Rattle.sb_laws.proofs.Deeds.{Deed, IsJoint, IsSteady, IsUnspent, calm_unspent, closed_steady, deed_of, deletes, joins, sessions_each, settles, shuts, steadies}
 use Rattle.sb_laws.proofs.Eachs.{each_implied}
 use Rattle.sb_laws.proofs.Freed.{none_exempt}
-use Rattle.sb_laws.proofs.Living.{along_under, living, none_spent, under}
+use Rattle.sb_laws.proofs.Living.{along_under, falls_under, joint_falls, living, none_spent, under}
 use Rattle.sb_laws.proofs.Loose.{loose_later}
 use Rattle.sb_laws.proofs.Named.{IsWell, starts_well, well_after}
 use Rattle.sb_laws.specs.Spent.{AllLived, entry_spends}
@@ -22,7 +22,7 @@ use Rattle.sb_machine.specs.Ends.{spends_in}
 use Rattle.sb_machine.specs.History.{IsLegal, IsLegalFrom, Log, after_entry, fresh_log, is_fault}
 use Rattle.sb_machine.specs.Leases.{is_under_session, lives}
 use Rattle.sb_machine.specs.Namespace.{leaf_of, listed}
-use Rattle.sb_machine.specs.Repeats.{Outcome, acted, outcome_of, refused, repeated}
+use Rattle.sb_machine.specs.Repeats.{Outcome, acted, forgot, outcome_of, refused, repeated}
 use Rattle.sb_machine.specs.declared.call.Act.{Act}
 use Rattle.sb_machine.specs.declared.change.Change.{Change}
 use Rattle.sb_machine.specs.declared.change.Change.TheVariants.{Removes}
@@ -43,10 +43,14 @@ removes_unspent : (es : List Entity) → Each IsUnspent (map (λ x. Removes x.ab
 removes_unspent [] = tt
 removes_unspent (e ∷ es) = (tt, removes_unspent es)
 
+-- what was held where nothing is due lives
+held_lives : (s : State) (t : ℕ) (cs : List Change) → s.now ≤ t → is_due t s.space ≡ false → IsWell s → Each (λ k. under k s.space ≡ true) (along spends_in t cs s.space) → AreLiving t s.space (along spends_in t cs s.space)
+held_lives s t cs le quiet well held = each_implied (λ k. under k s.space ≡ true) (λ lock. lives t lock s.space ≡ true) (living t s.space quiet (loose_later none_exempt t s.now s.space le well.named)) (along spends_in t cs s.space) held
+
 deed_lives : (s : State) (t : ℕ) (act : Act) (reply : Reply) (cs : List Change) → s.now ≤ t → is_due t s.space ≡ false → IsWell s → Deed s.space t act reply cs → AreLiving t s.space (along spends_in t cs s.space)
 deed_lives s t act reply cs le quiet well (steadies h) = unspent_lives t s.space cs (each_implied IsSteady IsUnspent (λ c so. so.unspent) cs h)
-deed_lives s t act reply cs le quiet well (settles calm) = each_implied (λ k. under k s.space ≡ true) (λ lock. lives t lock s.space ≡ true) (living t s.space quiet (loose_later none_exempt t s.now s.space le well.named)) (along spends_in t cs s.space)
-    (along_under t true s.space cs s.space (λ k held. held) calm)
+deed_lives s t act reply cs le quiet well (settles calm) = held_lives s t cs le quiet well (along_under (IsCalm true) t (λ k c now is held. falls_under k t true c now is held) s.space cs s.space (λ k held. held) calm)
+deed_lives s t act reply cs le quiet well (joins joint) = held_lives s t cs le quiet well (along_under IsJoint t (λ k c now is held. joint_falls k t c now is held) s.space cs s.space (λ k held. held) joint)
 deed_lives s t act reply cs le quiet well (shuts from token e same done there is) = unspent_lives t s.space cs (subst (Each IsUnspent) (sym is) (
   tt,
   each_implied IsSteady IsUnspent (λ c so. so.unspent)
@@ -63,6 +67,7 @@ entry_lives l (Replied seat reading call answer) well = at (is_fault answer) (is
   on : is_due (moment_of l.state reading) l.state.space ≡ false → (o : Outcome) → outcome_of l.state (moment_of l.state reading) call ≡ o → AreLiving (moment_of l.state reading) l.state.space (along spends_in (moment_of l.state reading) (changes_of o) l.state.space)
   on quiet (refused r) is = tt
   on quiet (repeated reply) is = tt
+  on quiet (forgot name) is = tt
   on quiet (acted reply cs) is = deed_lives l.state (moment_of l.state reading) call.act reply cs (omega arith) quiet well (deed_of l.state (moment_of l.state reading) call reply cs is)
 
   at : (f d : Bool) → is_due (moment_of l.state reading) l.state.space ≡ d → AreLiving (moment_of l.state reading) l.state.space (along spends_in (moment_of l.state reading) (if not f && not d then changes_of (outcome_of l.state (moment_of l.state reading) call) else []) l.state.space)

@@ -1,21 +1,23 @@
 -- A message that is a duplicate changes nothing.
 use Rattle.std.proofs.Common.{Bool, List, None, Option, Result, Some, [], ap, false, not, refl, subst, sym, true, ℕ, ◌&&◌, ◌++◌, ◌∙◌, ◌∷◌, ◌≡◌}
-use Rattle.std.specs.Prelude.{if◌then◌else◌}
-use Rattle.sb_laws.proofs.Answered.{accepted_so, acted_row, machine_answer}
-use Rattle.sb_laws.proofs.KeptAlike.{keeping_alike, newer_acts, newer_alike}
-use Rattle.sb_laws.proofs.Outcomes.{Comes, IsNewer, comes, comes_acted}
-use Rattle.sb_laws.proofs.Thinning.{fields_thin, row_thin, takes_thin}
-use Rattle.sb_laws.specs.Thin.{Alike}
+use Rattle.std.specs.Prelude.{if◌then◌else◌, is_some}
+use Rattle.sb_laws.proofs.Answered.{accepted_so, acts_so, machine_answer, never_acts, row_goes, told_row}
+use Rattle.sb_laws.proofs.KeptAlike.{forgetting_alike, keeping_alike, newer_acts, newer_alike, without_alike}
+use Rattle.sb_laws.proofs.Outcomes.{Comes, IsNewer, comes, comes_acted, comes_forgot, forgot_act}
+use Rattle.sb_laws.proofs.Thinning.{Moves, fields_thin, row_thin, takes_thin}
+use Rattle.sb_laws.specs.Thin.{Alike, numbers_kept}
 use Rattle.sb_machine.specs.Accounts.{event_of}
-use Rattle.sb_machine.specs.Acts.{act_row, bad_call, is_via_in, row_of}
-use Rattle.sb_machine.specs.Answers.{answer_in, is_change, keeping, moment_of, state_in, state_of}
-use Rattle.sb_machine.specs.Changes.{after_all, is_numbered}
+use Rattle.sb_machine.specs.Acts.{act_row, is_via_in, row_of}
+use Rattle.sb_machine.specs.Answers.{answer_in, is_change, keeping, moment_of, state_in, state_of, without_client}
+use Rattle.sb_machine.specs.Changes.{after_all}
 use Rattle.sb_machine.specs.Due.{is_due, tick_changes}
 use Rattle.sb_machine.specs.Events.{after_event, replayed, thin_act, thin_call, thinned}
-use Rattle.sb_machine.specs.Fields.{Key, bad_field}
+use Rattle.sb_machine.specs.Fields.{bad_field}
 use Rattle.sb_machine.specs.History.{IsAllowed, IsLegal, IsLegalFrom, Log, after_entries, after_entry, fresh_log, is_fault, state_after}
-use Rattle.sb_machine.specs.Repeats.{Outcome, acted, client_of, of_row, outcome_of, refused, repeated}
-use Rattle.sb_machine.specs.Rows.{Row, answers, numbered, refused_by, refuses}
+use Rattle.sb_machine.specs.Repeats.{Outcome, acted, client_of, forgot, kept_for, of_answer, of_row, outcome_of, refused, repeated, with_clients}
+use Rattle.sb_machine.specs.Rows.{Row, answers, refuses}
+use Rattle.sb_machine.specs.declared.call.Act.{Act}
+use Rattle.sb_machine.specs.declared.call.Act.TheVariants.{ForgetClient, Look, Send}
 use Rattle.sb_machine.specs.declared.call.By.{By}
 use Rattle.sb_machine.specs.declared.call.Call.{Call}
 use Rattle.sb_machine.specs.declared.call.Event.{Event}
@@ -25,8 +27,9 @@ use Rattle.sb_machine.specs.declared.history.Entry.{Entry}
 use Rattle.sb_machine.specs.declared.history.Entry.TheVariants.{Ticked, Answered as Replied}
 use Rattle.sb_machine.specs.declared.reply.Answered.{Answered}
 use Rattle.sb_machine.specs.declared.reply.Refusal.{Refusal}
-use Rattle.sb_machine.specs.declared.reply.Refusal.TheVariants.{Exhausted}
 use Rattle.sb_machine.specs.declared.reply.Reply.{Reply}
+use Rattle.sb_machine.specs.declared.reply.Reply.TheVariants.{Done}
+use Rattle.sb_machine.specs.declared.state.Kept.{Kept}
 use Rattle.sb_machine.specs.declared.state.Space.{Space}
 use Rattle.sb_machine.specs.declared.state.State.{State}
 
@@ -42,20 +45,62 @@ pub record Acts (o : Outcome) (cs : List Change) : Type 0 where
   pub reply : Reply
   pub is : o ≡ acted reply cs
 
-row_goes : (s : Space) (t : ℕ) (key : Key) (row : Row) (reply : Reply) (cs : List Change) → key ≡ None → row ≡ answers reply cs → is_numbered t cs s ≡ true → numbered t s (refused_by (bad_call key) row) ≡ answers reply cs
-row_goes s t key row reply cs good is fits = ap (λ (k : Key). numbered t s (refused_by (bad_call k) row)) good ∙ ap (numbered t s) is ∙ ap (λ (b : Bool). if b then answers reply cs else refuses Exhausted) fits
+-- what is told of clients makes no difference to which messages are sent
+same_thin : (clients : List Kept) (act : Act) (q reply : Reply) (cs : List Change) → of_answer clients act q cs ≡ acted reply cs → thin_act q act ≡ thin_act reply act
+same_thin clients (ForgetClient name) q reply cs e = refl
+same_thin clients (Look what) q reply cs e = refl
+same_thin clients act q reply cs e = ap (λ (r : Reply). thin_act r act) (acts_so q reply cs cs e).0
+
+-- what acted in one acts in the other, with the same changes
+acts_also : (others clients : List Kept) (act : Act) (q reply told : Reply) (cs : List Change) → of_answer clients act q cs ≡ acted told cs → Acts (of_answer others (thin_act told act) reply cs) cs
+acts_also others clients (ForgetClient name) q reply told cs e = absurd (never_acts (is_some (kept_for name clients)) name told cs e)
+acts_also others clients (Look what) q reply told cs e = record { reply = with_clients others what reply; is = refl }
+acts_also others clients (Send to ms None) q reply told cs e = record { reply = reply; is = refl }
+acts_also others clients (Send to ms (Some x)) q reply told cs e = record { reply = reply; is = refl }
+acts_also others clients act q reply told cs e = record { reply = reply; is = refl }
 
 outcome_thin : (a s : State) (t : ℕ) (call : Call) (reply : Reply) (cs : List Change) → Alike a s → outcome_of s t call ≡ acted reply cs → Acts (outcome_of a t (thin reply call)) cs
 outcome_thin a s t call reply cs like is =
-    let row = accepted_so s.space t call.by call.act reply cs (acted_row s t call reply cs is) in
-    let moves = row_thin s.space t call.act reply cs row.row in
+    let told = told_row s t call reply cs is in
+    let row = accepted_so s.space t call.by call.act told.answer cs told.row_is in
+    let moves : Moves (act_row s.space t (thin_act reply call.act)) cs = subst (λ (act : Act). Moves (act_row s.space t act) cs) (same_thin s.clients call.act told.answer reply cs told.told) (row_thin s.space t call.act told.answer cs row.row) in
     let goes : row_of s.space t call.by (thin_act reply call.act) ≡ answers moves.reply cs = row_goes s.space t (bad_field (is_via_in s.space (thin_act reply call.act)) (thin_act reply call.act) call.by) (act_row s.space t (thin_act reply call.act)) moves.reply cs (fields_thin s.space reply call.act call.by row.fields) moves.is row.numbers in
     let there : row_of a.space t call.by (thin_act reply call.act) ≡ answers moves.reply cs = subst (λ (p : Space). row_of p t call.by (thin_act reply call.act) ≡ answers moves.reply cs) (sym like.space) goes in
     let newer : IsNewer a.clients (client_of (thin reply call)) = subst (IsNewer a.clients) (sym (same_client reply call)) (newer_alike a.clients s.clients (client_of call) like.clients (by (subst (Comes s t call) is (comes s t call)))) in
-    record { reply = moves.reply; is = newer_acts a.clients (client_of (thin reply call)) (thin_act reply call.act) (of_row (row_of a.space t call.by (thin_act reply call.act))) newer ∙ ap of_row there }
+    let acts = acts_also a.clients s.clients call.act told.answer moves.reply reply cs told.told in
+    record { reply = acts.reply; is = newer_acts a.clients (client_of (thin reply call)) (thin_act reply call.act) (of_row a.clients (thin_act reply call.act) (row_of a.space t call.by (thin_act reply call.act))) newer ∙ ap (of_row a.clients (thin_act reply call.act)) there ∙ acts.is }
   where
     by : Comes s t call (acted reply cs) → IsNewer s.clients (client_of call)
     by (comes_acted newer fits) = newer
+
+-- ---- a client is forgotten in both
+
+same_forgotten : (others clients : List Kept) (act : Act) (row : Row) (name : List ℕ) → numbers_kept others ≡ numbers_kept clients → of_row clients act row ≡ forgot name → of_row others act row ≡ forgot name
+same_forgotten others clients act (refuses r) name like e = absurd cc
+same_forgotten others clients act (answers reply cs) name like e = at act e where
+  at : (act : Act) → of_answer clients act reply cs ≡ forgot name → of_answer others act reply cs ≡ forgot name
+  at (ForgetClient n) e = forgetting_alike n others clients like ∙ e
+  at (Look what) e = absurd cc
+  at act e = absurd cc
+
+outcome_forgot : (a s : State) (t : ℕ) (call : Call) (name : List ℕ) → Alike a s → outcome_of s t call ≡ forgot name → outcome_of a t call ≡ forgot name
+outcome_forgot a s t call name like is =
+    let newer : IsNewer s.clients (client_of call) = by (subst (Comes s t call) is (comes s t call)) in
+    let here : of_row s.clients call.act (row_of s.space t call.by call.act) ≡ forgot name = sym (newer_acts s.clients (client_of call) call.act (of_row s.clients call.act (row_of s.space t call.by call.act)) newer) ∙ is in
+    let there : of_row a.clients call.act (row_of s.space t call.by call.act) ≡ forgot name = same_forgotten a.clients s.clients call.act (row_of s.space t call.by call.act) name like.clients here in
+    newer_acts a.clients (client_of call) call.act (of_row a.clients call.act (row_of a.space t call.by call.act)) (newer_alike a.clients s.clients (client_of call) like.clients newer)
+    ∙ ap (λ (p : Space). of_row a.clients call.act (row_of p t call.by call.act)) like.space ∙ there
+  where
+    by : Comes s t call (forgot name) → IsNewer s.clients (client_of call)
+    by (comes_forgot asked newer fits) = newer
+
+-- such a call stays as it is
+forgot_thin : (act : Act) (name : List ℕ) → act ≡ ForgetClient name → thin_act Done act ≡ act
+forgot_thin (ForgetClient n) name is = refl
+forgot_thin act name is = absurd cc
+
+forgot_alike : (a s : State) (t : ℕ) (call : Call) (name : List ℕ) → Alike a s → Alike (state_in a t call (forgot name)) (state_in s t call (forgot name))
+forgot_alike a s t call name like = record { now = refl; space = like.space; clients = keeping_alike (client_of call) call.act call.act Done Done (without_client name a.clients) (without_client name s.clients) (without_alike name a.clients s.clients like.clients) }
 
 -- ---- what a call leaves
 
@@ -73,6 +118,10 @@ changed_alike a s t call other reply given cs like same moved = at (client_of ca
 rests_alike : (a s : State) (t : ℕ) (call : Call) (o : Outcome) → Alike a s → is_change (client_of call) o ≡ false → Alike a (state_in s t call o)
 rests_alike a s t call (refused r) like rests = like
 rests_alike a s t call (repeated reply) like rests = like
+rests_alike a s t call (forgot name) like rests = at (client_of call) rests where
+  at : (o : Option By) → is_change o (forgot name) ≡ false → Alike a (state_in s t call (forgot name))
+  at None rests = absurd cc
+  at (Some by) rests = absurd cc
 rests_alike a s t call (acted reply cs) like rests = at (client_of call) cs rests where
   at : (o : Option By) (cs : List Change) → is_change o (acted reply cs) ≡ false → Alike a (if is_change o (acted reply cs) then record { now = t; clients = keeping o call.act reply s.clients; space = after_all t cs s.space } else s)
   at None [] rests = like
@@ -94,6 +143,19 @@ acted_follows a s t call answer (repeated reply) said is like = rests (at (clien
   at : (o : Option By) → ◌≡◌ {A = List Event} (if is_change o (repeated reply) then Called t (thin_call answer call) ∷ [] else []) []
   at None = refl
   at (Some by) = refl
+acted_follows a s t call answer (forgot name) said is like = goes (Called t call) event (subst (λ (x : State). Alike x (state_in s t call (forgot name))) (sym leads) (forgot_alike a s t call name like)) where
+  thin_is : thin_call answer call ≡ call
+  thin_is = ap (λ (r : Result Answered Refusal). thin_call r call) said ∙ ap (λ (act : Act). record call { act = act }) (forgot_thin call.act name (forgot_act s t call name is))
+
+  at : (o : Option By) → ◌≡◌ {A = List Event} (if is_change o (forgot name) then Called t call ∷ [] else []) (Called t call ∷ [])
+  at None = refl
+  at (Some by) = refl
+
+  event : event_of t (thin_call answer call) (forgot name) ≡ Called t call ∷ []
+  event = ap (λ (c : Call). event_of t c (forgot name)) thin_is ∙ at (client_of call)
+
+  leads : state_of a t call ≡ state_in a t call (forgot name)
+  leads = ap (state_in a t call) (outcome_forgot a s t call name like is)
 acted_follows a s t call answer (acted reply cs) said is like = at (is_change (client_of call) (acted reply cs)) refl where
   thin_is : thin_call answer call ≡ thin reply call
   thin_is = ap (λ (r : Result Answered Refusal). thin_call r call) said

@@ -5,8 +5,8 @@ use Rattle.std.proofs.lemmas.List.Sums.{sum_by-cons}
 use Rattle.std.specs.List.{list_all}
 use Rattle.std.specs.Option.{option_map}
 use Rattle.std.specs.Prelude.{codes, if◌then◌else◌, is_some, sum_by}
+use Rattle.sb_laws.proofs.Consistency.{first_none, passed}
 use Rattle.sb_laws.proofs.Answered.{answers_so}
-use Rattle.sb_laws.proofs.Keeping.{first_none, passed}
 use Rattle.sb_laws.proofs.Sameness.{two}
 use Rattle.sb_machine.specs.Acts.{act_row, is_via_in}
 use Rattle.sb_machine.specs.Changes.{after_all, in_turn}

@@ -28,7 +28,7 @@ use Rattle.sb_machine.specs.SettleRow.{is_on, pending, pending_in, settle_found,
 use Rattle.sb_machine.specs.Settlement.{goes_with, is_until, renew_row, renewed, settled}
 use Rattle.sb_machine.specs.Transactions.{aborted_by, commit_changes, commit_row, committed, is_lost, max_transactions}
 use Rattle.sb_machine.specs.declared.call.Act.{Act}
-use Rattle.sb_machine.specs.declared.call.Act.TheVariants.{Accept, Begin, Cancel, Commit, Counts, CreateQueue, CreateRule, CreateSubscription, CreateTopic, Delete, DeleteRule, Look, Peek, Receive, ReceiveDeferred, Renew, Rollback, Send, SessionClose, SessionRenew, SessionSet, SessionState, Settle}
+use Rattle.sb_machine.specs.declared.call.Act.TheVariants.{Accept, Begin, Cancel, Commit, Counts, CreateQueue, CreateRule, CreateSubscription, CreateTopic, Delete, DeleteRule, ForgetClient, Look, Peek, Receive, ReceiveDeferred, Renew, Rollback, Send, SessionClose, SessionRenew, SessionSet, SessionState, Settle, Together}
 use Rattle.sb_machine.specs.declared.call.Description.{Description}
 use Rattle.sb_machine.specs.declared.call.FilterText.{FilterText}
 use Rattle.sb_machine.specs.declared.call.How.{How}
@@ -117,6 +117,11 @@ pub data Way (s : Space) (t : ℕ) : Act → Reply → List Change → Type 0 wh
   aborts : {n : ℕ} (x : Transaction) (o : Operation) → transaction_of n s ≡ Some x → Way s t (Commit n) (aborted_by o) (Drops x.number ∷ [])
   rolls_back : {n : ℕ} (x : Transaction) → transaction_of n s ≡ Some x → Way s t (Rollback n) Done (Drops n ∷ [])
 
+-- whether an act is one by itself, not operations that act together
+abbrev pub stands_alone : Act → Bool
+stands_alone (Together path steps) = false
+stands_alone _ = true
+
 -- ---- each act is refused, and by no fault, or accepted in one of these ways
 
 abbrev pub NoFault : Refusal → Type 0
@@ -177,7 +182,7 @@ module _ (s : Space) (t : ℕ) where
     at None e = refl
     at (Some field) e = absurd cc
 
-  large : (o : Option ℕ) (r : Refusal) → option_map (λ size. TooLarge size) o ≡ Some r → NoFault r
+  pub large : (o : Option ℕ) (r : Refusal) → option_map (λ size. TooLarge size) o ≡ Some r → NoFault r
   large None r e = absurd cc
   large (Some size) r e = let it : TooLarge size ≡ r = cc in subst NoFault it refl
 
@@ -342,33 +347,36 @@ module _ (s : Space) (t : ℕ) where
   row_looks (look.Entity path) = with_entity s path _ refl refl (λ e there. answered_so (tells (λ numbered. absurd cc)))
   row_looks (look.Sessions path after count) = with_entity s path _ refl refl (λ e there. asked (has_sessions e Main) SessionNotAllowed _ refl (λ has. answered_so (tells (λ numbered. absurd cc))))
   row_looks look.Transactions = answered_so (tells (λ numbered. absurd cc))
+  row_looks (look.Clients after count) = answered_so (tells (λ numbered. absurd cc))
 
-  -- an act is refused by no fault, or accepted in one of these ways
-  pub accepts : (act : Act) → Accepts act (act_row s t act)
-  accepts (CreateQueue name d) = row_creates (CreateQueue name d) Queue name d makes_queue
-  accepts (CreateTopic name d) = row_creates (CreateTopic name d) Topic name d makes_topic
-  accepts (CreateSubscription topic name d) = row_subscribes topic name d
-  accepts (CreateRule topic subscription name asked_for action) = row_rules topic subscription name asked_for action
-  accepts (Delete path) = with_entity s path _ refl refl (λ e there. answered_so (removes e there))
-  accepts (DeleteRule topic subscription name) = asked (are_rule_names topic subscription name) BadName _ refl (λ named. found (entity_at (subscription_path topic subscription) s) EntityNotFound _ refl (λ e there.
+  -- an act by itself is refused by no fault, or accepted in one of these ways
+  pub accepts : (act : Act) → stands_alone act ≡ true → Accepts act (act_row s t act)
+  accepts (CreateQueue name d) alone = row_creates (CreateQueue name d) Queue name d makes_queue
+  accepts (CreateTopic name d) alone = row_creates (CreateTopic name d) Topic name d makes_topic
+  accepts (CreateSubscription topic name d) alone = row_subscribes topic name d
+  accepts (CreateRule topic subscription name asked_for action) alone = row_rules topic subscription name asked_for action
+  accepts (Delete path) alone = with_entity s path _ refl refl (λ e there. answered_so (removes e there))
+  accepts (DeleteRule topic subscription name) alone = asked (are_rule_names topic subscription name) BadName _ refl (λ named. found (entity_at (subscription_path topic subscription) s) EntityNotFound _ refl (λ e there.
       found (rule_in name e) EntityNotFound _ refl (λ r is. answered_so (drops_rule e r there is))))
-  accepts (Send to messages txn) = row_sends to messages txn
-  accepts (Cancel from n) = with_entity s from _ refl refl (λ e there. at e there (scheduled_copy n (leaf_of from.part e)) refl) where
+  accepts (Send to messages txn) alone = row_sends to messages txn
+  accepts (Cancel from n) alone = with_entity s from _ refl refl (λ e there. at e there (scheduled_copy n (leaf_of from.part e)) refl) where
     at : (e : Entity) → entity_at from s ≡ Some e → (o : Option StoredCopy) → scheduled_copy n (leaf_of from.part e) ≡ o → Accepts (Cancel from n) (cancelled e from.part o)
     at e there None is = refused_so refl
     at e there (Some c) is = answered_so (cancels e c there is)
-  accepts (Receive from mode session) = with_receivable s from _ refl refl refl (λ e there. row_claim (Receive from mode session) e from.part session _ (λ claim own. row_received (Receive from mode session) from e mode claim there own))
-  accepts (ReceiveDeferred from n mode session) = with_receivable s from _ refl refl refl (λ e there. row_claim (ReceiveDeferred from n mode session) e from.part session _ (λ claim own. row_deferred (ReceiveDeferred from n mode session) from n e mode claim there own))
-  accepts (Settle from which token session how txn) = row_settles from which token session how txn
-  accepts (Renew from which token) = row_renews from which token
-  accepts (Accept from id) = with_receivable s from _ refl refl refl (λ e there. asked (has_sessions e from.part) SessionNotAllowed _ refl (λ has. row_accepting from id e there has))
-  accepts (SessionRenew from token) = row_prolongs from token
-  accepts (SessionClose from token) = row_holder (SessionClose from token) from token _ (λ e x there has held. answered_so (closes e x there has held))
-  accepts (SessionSet from token bytes) = row_writes from token bytes
-  accepts (SessionState from token) = row_holder (SessionState from token) from token _ (λ e x there has held. answered_so (tells (λ numbered. absurd cc)))
-  accepts (Begin path) = with_entity s path _ refl refl (λ e there. asked (nat_lt (length s.transactions) max_transactions) TxnsFull _ refl (λ few. answered_so (begins e there few)))
-  accepts (Commit n) = row_commits n
-  accepts (Rollback n) = found (transaction_of n s) TxnNotFound _ refl (λ x there. answered_so (rolls_back x there))
-  accepts (Peek from start count) = with_entity s from _ refl refl (λ e there. answered_so (tells (λ numbered. absurd cc)))
-  accepts (Counts path) = with_entity s path _ refl refl (λ e there. answered_so (tells (λ numbered. absurd cc)))
-  accepts (Look what) = row_looks what
+  accepts (Receive from mode session) alone = with_receivable s from _ refl refl refl (λ e there. row_claim (Receive from mode session) e from.part session _ (λ claim own. row_received (Receive from mode session) from e mode claim there own))
+  accepts (ReceiveDeferred from n mode session) alone = with_receivable s from _ refl refl refl (λ e there. row_claim (ReceiveDeferred from n mode session) e from.part session _ (λ claim own. row_deferred (ReceiveDeferred from n mode session) from n e mode claim there own))
+  accepts (Settle from which token session how txn) alone = row_settles from which token session how txn
+  accepts (Renew from which token) alone = row_renews from which token
+  accepts (Accept from id) alone = with_receivable s from _ refl refl refl (λ e there. asked (has_sessions e from.part) SessionNotAllowed _ refl (λ has. row_accepting from id e there has))
+  accepts (SessionRenew from token) alone = row_prolongs from token
+  accepts (SessionClose from token) alone = row_holder (SessionClose from token) from token _ (λ e x there has held. answered_so (closes e x there has held))
+  accepts (SessionSet from token bytes) alone = row_writes from token bytes
+  accepts (SessionState from token) alone = row_holder (SessionState from token) from token _ (λ e x there has held. answered_so (tells (λ numbered. absurd cc)))
+  accepts (Begin path) alone = with_entity s path _ refl refl (λ e there. asked (nat_lt (length s.transactions) max_transactions) TxnsFull _ refl (λ few. answered_so (begins e there few)))
+  accepts (Commit n) alone = row_commits n
+  accepts (Rollback n) alone = found (transaction_of n s) TxnNotFound _ refl (λ x there. answered_so (rolls_back x there))
+  accepts (ForgetClient name) alone = answered_so (tells (λ numbered. tt))
+  accepts (Peek from start count) alone = with_entity s from _ refl refl (λ e there. answered_so (tells (λ numbered. absurd cc)))
+  accepts (Counts path) alone = with_entity s path _ refl refl (λ e there. answered_so (tells (λ numbered. absurd cc)))
+  accepts (Look what) alone = row_looks what
+  accepts (Together path steps) alone = absurd cc

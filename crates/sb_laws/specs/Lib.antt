@@ -1,4 +1,4 @@
--- Laws of every legal history, in the order to read them: Laws (what was asked), Ended, Spent, Holders, Handed, Accepted, Acted, Thin, Joined;
+-- Laws of every legal history, in the order to read them: Laws (what was asked), Ended, Spent, Holders, Handed, Accepted, Acted, Thin, Joined, InTurn;
 -- Staying, Orderly, Plain, Sweepable, Counting, AsFound (what carries them); Worked.
 pub mod Laws
 pub mod Sweepable
@@ -6,6 +6,7 @@ pub mod Plain
 pub mod Orderly
 pub mod Counting
 pub mod Acted
+pub mod Gathered
 pub mod Ended
 pub mod Spent
 pub mod Holders
@@ -13,6 +14,8 @@ pub mod Handed
 pub mod Accepted
 pub mod Thin
 pub mod Joined
+pub mod InTurn
 pub mod Worked
+pub mod WorkedTogether
 pub mod Staying
 pub mod AsFound

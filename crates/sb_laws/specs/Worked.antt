@@ -9,7 +9,7 @@ use Rattle.sb_machine.specs.History.{Log, after_entry, entries_of, fresh_log}
 use Rattle.sb_machine.specs.Namespace.{default_description, entity_path}
 use Rattle.sb_machine.specs.Worked.{at, empty}
 use Rattle.sb_machine.specs.declared.call.Act.{Act}
-use Rattle.sb_machine.specs.declared.call.Act.TheVariants.{Accept, CreateQueue, Receive, Send, Settle}
+use Rattle.sb_machine.specs.declared.call.Act.TheVariants.{Accept, CreateQueue, ForgetClient, Look, Receive, Send, Settle}
 use Rattle.sb_machine.specs.declared.call.Event.{Event}
 use Rattle.sb_machine.specs.declared.call.Event.TheVariants.{Called, Tick}
 use Rattle.sb_machine.specs.declared.call.How.TheVariants.{Complete}
@@ -22,11 +22,14 @@ use Rattle.sb_machine.specs.declared.call.Which.TheVariants.{Number}
 use Rattle.sb_machine.specs.declared.change.Cause.TheVariants.{Completed}
 use Rattle.sb_machine.specs.declared.history.Entry.{Entry}
 use Rattle.sb_machine.specs.declared.history.Entry.TheVariants.{Answered as Replied}
+use Rattle.sb_machine.specs.declared.look.Look.TheVariants as look
+use Rattle.sb_machine.specs.declared.look.View.TheVariants as seen
 use Rattle.sb_machine.specs.declared.reply.Answered.{Answered}
 use Rattle.sb_machine.specs.declared.reply.Answered.TheVariants.{New}
+use Rattle.sb_machine.specs.declared.reply.Receipt.TheVariants as receipt
 use Rattle.sb_machine.specs.declared.reply.Refusal.{Refusal}
-use Rattle.sb_machine.specs.declared.reply.Refusal.TheVariants.{DiskFault, Stopped}
-use Rattle.sb_machine.specs.declared.reply.Reply.TheVariants.{Message as Given}
+use Rattle.sb_machine.specs.declared.reply.Refusal.TheVariants.{BadCall, ClientNotFound, DiskFault, Stopped}
+use Rattle.sb_machine.specs.declared.reply.Reply.TheVariants.{Message as Given, Done, Seen, Sent}
 use Rattle.sb_model.specs.declared.message.Message.{Message}
 use Rattle.sb_model.specs.declared.message.SystemName.TheVariants.{MessageId, SessionId}
 
@@ -101,6 +104,46 @@ noted_at t = record { entity = 1; id = codes "m"; moment = t; window = 20 }
 -- the client's call 7
 abbrev pub seven : Numbered
 seven = record { client = codes "c"; number = 7 }
+
+-- ---- a client is forgotten
+
+-- A client acts with 7 and is shown behind a name that is less, not behind its own; it may not forget itself by its own number, another isn't
+-- remembered; then it is forgotten.
+abbrev pub forgotten_script : List TimedCall
+forgotten_script =
+    at 0 (CreateQueue (codes "q") default_description)
+    ∷ numbered 0 7 (Send q (bare ∷ []) None)
+    ∷ at 0 (Look (look.Clients (Some (codes "b")) 10))
+    ∷ at 0 (Look (look.Clients (Some (codes "c")) 10))
+    ∷ numbered 0 8 (ForgetClient (codes "c"))
+    ∷ at 0 (ForgetClient (codes "d"))
+    ∷ at 0 (ForgetClient (codes "c"))
+    ∷ []
+
+-- behind it, it acts with 7 again
+abbrev pub again_script : List TimedCall
+again_script = forgotten_script ++ numbered 0 7 (Send q (bare ∷ []) None) ∷ []
+
+-- what these calls are answered
+abbrev pub again_answers : List (Result Answered Refusal)
+again_answers =
+    Ok (New Done)
+    ∷ Ok (New (Sent (receipt.Number 1 ∷ [])))
+    ∷ Ok (New (Seen (seen.Clients (record { client = codes "c"; number = 7 } ∷ []))))
+    ∷ Ok (New (Seen (seen.Clients [])))
+    ∷ Err (BadCall (codes "name"))
+    ∷ Err ClientNotFound
+    ∷ Ok (New Done)
+    ∷ Ok (New (Sent (receipt.Number 2 ∷ [])))
+    ∷ []
+
+-- another client's call 1
+abbrev pub of_other : Numbered
+of_other = record { client = codes "d"; number = 1 }
+
+-- behind that, by which it forgets the first
+abbrev pub other_script : List TimedCall
+other_script = again_script ++ record { reading = 0; call = record { by = Some (record { client = codes "d"; number = 1 }); act = ForgetClient (codes "c") } } ∷ []
 
 -- how many messages the sends among events have
 abbrev pub messages_in : List Event → ℕ

@@ -1,6 +1,8 @@
 // Laws of the machine: each a function without effect whose contract is a statement of specs/Laws.
 ghost use Rattle.sb_machine.specs.Laws.{GoesOn};
 ghost use Rattle.sb_laws.specs.AsFound.{TickAsFound};
+ghost use Rattle.sb_laws.specs.Gathered.{GathersAsRead};
+ghost use Rattle.sb_laws.specs.InTurn.{ActInTurn, EachAnswered};
 ghost use Rattle.sb_laws.specs.Laws.{
   AnswersLegally,
   AnswersNoFault,
@@ -76,6 +78,17 @@ pub fn moves_change()
     ensures { MovesChange }
 {}
 
+/// Operations that act together leave the namespace that is left by the acts for which they stand, one
+/// behind another: a transaction's begin, each operation in it, its commit.
+pub fn act_in_turn()
+    ensures { ActInTurn }
+{}
+
+/// Operations that act together are answered one by one: their transaction is never aborted.
+pub fn each_answered()
+    ensures { EachAnswered }
+{}
+
 /// Calls that the machine answers one after another are a legal history without faults.
 pub fn answers_legally()
     ensures { AnswersLegally }
@@ -85,4 +98,10 @@ pub fn answers_legally()
 /// namespace finds them.
 pub fn tick_as_found()
     ensures { TickAsFound }
+{}
+
+/// Operations that act together may be judged in the namespace as it is read, without opening the
+/// transaction that gathers them.
+pub fn gathers_as_read()
+    ensures { GathersAsRead }
 {}

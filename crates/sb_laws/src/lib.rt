@@ -12,12 +12,13 @@ mod worked;
 
 pub use consistent::{histories_consistent, stays_consistent, ticks_consistent};
 pub use laws::{
-    answers_legally, answers_no_fault, consistent_is_orderly, goes_on, is_due_exactly, keeps_time,
-    moves_change, nothing_due_after, orderly_is_sweepable, same_act_exactly, starts_consistent,
-    stays_orderly, tick_as_found, ticks_orderly,
+    act_in_turn, answers_legally, answers_no_fault, consistent_is_orderly, each_answered,
+    gathers_as_read, goes_on, is_due_exactly, keeps_time, moves_change, nothing_due_after,
+    orderly_is_sweepable, same_act_exactly, starts_consistent, stays_orderly, tick_as_found,
+    ticks_orderly,
 };
 pub use once::{
     done_settles, ends_once, fronts_join, in_order, once_ids, once_numbers, one_holder, sent_notes,
     spent_lived, spent_once, thin_same, undecided_joins,
 };
-pub use worked::{worked_failures, worked_histories};
+pub use worked::{worked_failures, worked_forgetting, worked_histories, worked_together};

@@ -8,7 +8,8 @@ ghost use Rattle.sb_laws.specs.Joined.{FrontsJoin, UndecidedJoins};
 ghost use Rattle.sb_laws.specs.Spent.{DoneSettles, SpentLived, SpentOnce};
 ghost use Rattle.sb_laws.specs.Thin.{ThinSame};
 
-/// No number of a client acts twice; a client's numbers rise from above the one that was kept.
+/// No number of a client acts twice before the client is forgotten; its numbers rise from above the one
+/// that was kept, and from any number again once it is forgotten.
 pub fn once_numbers()
     ensures { OnceNumbers }
 {}

@@ -1,11 +1,15 @@
 // Small histories whose lists compute to what was worked out by hand.
-ghost use Rattle.std.specs.Prelude.{◌≡◌, ◌∷◌, ◌++◌, [], length, Some};
+ghost use Rattle.std.specs.Prelude.{◌≡◌, ◌∷◌, ◌++◌, [], Err, Ok, Some, codes, drop, length};
 ghost use Rattle.sb_laws.specs.Joined.{with_undecided, without_effect, without_undecided};
+ghost use Rattle.sb_laws.specs.Thin.{numbers_kept};
 ghost use Rattle.sb_laws.specs.Worked.{
   accepted_in,
+  again_answers,
+  again_script,
   broken_off,
   end_one,
   first_script,
+  forgotten_script,
   handed_in,
   held_script,
   history,
@@ -13,6 +17,8 @@ ghost use Rattle.sb_laws.specs.Worked.{
   messages_in,
   noted_at,
   notes_by_entry,
+  of_other,
+  other_script,
   receiving,
   second_script,
   sending,
@@ -20,18 +26,24 @@ ghost use Rattle.sb_laws.specs.Worked.{
   spends_by_entry,
   start,
 };
-ghost use Rattle.sb_machine.specs.Accounts.{acted_numbers, changing, ends_of, noted_ids, spent_locks};
+ghost use Rattle.sb_laws.specs.WorkedTogether.{lost_script, scope_script, turns_script, united_script};
+ghost use Rattle.sb_machine.specs.Accounts.{acts, changing, ends_of, forgets, noted_ids, number_uses, spent_locks};
 ghost use Rattle.sb_machine.specs.Events.{thinned, undecided};
 ghost use Rattle.sb_machine.specs.History.{state_after};
 ghost use Rattle.sb_machine.specs.Namespace.{live, made};
-ghost use Rattle.sb_machine.specs.Worked.{answers_in, empty};
+ghost use Rattle.sb_machine.specs.Worked.{answers_in, empty, state_by};
 ghost use Rattle.sb_machine.specs.declared.call.Event.TheVariants.{Called, Tick};
 ghost use Rattle.sb_machine.specs.declared.history.Entry.TheVariants.{Ticked};
+ghost use Rattle.sb_machine.specs.declared.reply.Answered.TheVariants.{New};
+ghost use Rattle.sb_machine.specs.declared.reply.Receipt.TheVariants.{Number};
+ghost use Rattle.sb_machine.specs.declared.reply.Refusal.TheVariants.{LockLost, TxnScope};
+ghost use Rattle.sb_machine.specs.declared.reply.Reply.TheVariants.{Together};
+ghost use Rattle.sb_machine.specs.declared.reply.StepReply.TheVariants.{Done, Sent};
 
 /// The lists that the laws speak of, of two histories that were worked out by hand.
 pub fn worked_histories()
     ensures entries { length (history first_script) ≡ 11 }
-    ensures acted { acted_numbers start (history first_script) ≡ seven ∷ [] }
+    ensures uses { number_uses start (history first_script) ≡ acts seven ∷ [] }
     ensures ends { ends_of start (history first_script) ≡ end_one ∷ [] }
     ensures spent { spent_locks start (history first_script) ≡ 1 ∷ [] }
     ensures settled { spends_by_entry start (history first_script) ≡ [] ∷ [] ∷ [] ∷ [] ∷ [] ∷ [] ∷ (1 ∷ []) ∷ [] ∷ [] ∷ [] ∷ [] ∷ [] }
@@ -47,6 +59,15 @@ pub fn worked_histories()
     ensures locks { (state_after empty (history second_script)).space.last_lock ≡ 4 }
 {}
 
+/// A client is forgotten, and acts with the same number again; then another forgets it.
+pub fn worked_forgetting()
+    ensures told { answers_in (history again_script) ≡ again_answers }
+    ensures uses { number_uses start (history other_script) ≡ acts seven ∷ forgets (codes "c") ∷ acts seven ∷ forgets (codes "c") ∷ acts of_other ∷ [] }
+    ensures forgotten { (state_after empty (history forgotten_script)).clients ≡ [] }
+    ensures again { numbers_kept (state_after empty (history again_script)).clients ≡ seven ∷ [] }
+    ensures other { numbers_kept (state_after empty (history other_script)).clients ≡ of_other ∷ [] }
+{}
+
 /// What is found of two histories that a failed disk ended, the one as a tick was to be made, the other
 /// as a message was sent.
 pub fn worked_failures()
@@ -56,4 +77,16 @@ pub fn worked_failures()
     ensures no_call { without_undecided (broken_off made_script sending) ≡ history made_script ++ without_effect 0 5 sending.call ∷ [] }
     ensures with_tick { with_undecided start (broken_off held_script receiving) ≡ history held_script ++ Ticked 0 60005 ∷ without_effect 0 60005 receiving.call ∷ [] }
     ensures with_call { with_undecided start (broken_off made_script sending) ≡ history (made_script ++ sending ∷ []) }
+{}
+
+/// A message is completed, another sent on and a session set together: what each is answered, and the
+/// namespace that comes of them, as of a transaction. Then a lock is lost, and an operation is another
+/// entity's: both are refused, and leave all as it was.
+pub fn worked_together()
+    ensures replies { drop 5 (answers_in (history united_script)) ≡ Ok (New (Together (Done ∷ Sent (Number 1 ∷ []) ∷ Done ∷ []))) ∷ [] }
+    ensures in_turn { (state_by united_script).space ≡ (state_by turns_script).space }
+    ensures lost { drop 6 (answers_in (history lost_script)) ≡ Err LockLost ∷ [] }
+    ensures scope { drop 6 (answers_in (history scope_script)) ≡ Err TxnScope ∷ [] }
+    ensures left { state_by lost_script ≡ state_by united_script }
+    ensures kept { state_by scope_script ≡ state_by united_script }
 {}

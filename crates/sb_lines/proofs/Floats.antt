@@ -16,6 +16,7 @@ use Rattle.sb_machine.specs.declared.call.Description.{Description}
 use Rattle.sb_machine.specs.declared.call.FilterText.{FilterText}
 use Rattle.sb_machine.specs.declared.call.FilterText.TheVariants.{Sql, Correlation}
 use Rattle.sb_machine.specs.declared.call.Path.{Path}
+use Rattle.sb_machine.specs.declared.look.ClientShown.{ClientShown}
 use Rattle.sb_machine.specs.declared.look.Described.{Described}
 use Rattle.sb_machine.specs.declared.look.EntityShown.{EntityShown}
 use Rattle.sb_machine.specs.declared.look.PartShown.{PartShown}
@@ -23,7 +24,7 @@ use Rattle.sb_machine.specs.declared.look.RuleShown.{RuleShown}
 use Rattle.sb_machine.specs.declared.look.SessionShown.{SessionShown}
 use Rattle.sb_machine.specs.declared.look.TransactionShown.{TransactionShown}
 use Rattle.sb_machine.specs.declared.look.View.{View}
-use Rattle.sb_machine.specs.declared.look.View.TheVariants.{Entities, Entity, Sessions, Transactions}
+use Rattle.sb_machine.specs.declared.look.View.TheVariants.{Entities, Entity, Sessions, Transactions, Clients}
 use Rattle.sb_machine.specs.declared.rule.Conditions.{Conditions}
 use Rattle.sb_machine.specs.declared.state.EntityKind.{EntityKind}
 use Rattle.sb_machine.specs.declared.state.EntityKind.TheVariants.{Queue, Topic, Subscription}
@@ -37,16 +38,18 @@ use Rattle.sb_machine.specs.declared.reply.Showing.TheVariants.{Removed, Locked,
 use Rattle.sb_machine.specs.declared.reply.Receipt.{Receipt}
 use Rattle.sb_machine.specs.declared.reply.Receipt.TheVariants.{Number, Duplicate}
 use Rattle.sb_machine.specs.declared.reply.Reply.{Reply}
-use Rattle.sb_machine.specs.declared.reply.Reply.TheVariants.{Done, Sent, Message, Empty, Copies, Expired, Session, Renewed, State, Begun, Queued, Committed, Aborted, Counts, Seen}
+use Rattle.sb_machine.specs.declared.reply.Reply.TheVariants.{Done, Sent, Message, Empty, Copies, Expired, Session, Renewed, State, Begun, Queued, Committed, Aborted, Together, Counts, Seen}
+use Rattle.sb_machine.specs.declared.reply.StepReply.{StepReply}
+use Rattle.sb_machine.specs.declared.reply.StepReply.TheVariants.{Done as StepDone, Sent as StepSent}
 use Rattle.sb_machine.specs.declared.reply.Refusal.{Refusal}
-use Rattle.sb_machine.specs.declared.reply.Refusal.TheVariants.{BadCall, EntityNotFound, EntityExists, BadName, BadDescription, BadFilter, WrongKind, TooLarge, QuotaExceeded, SessionRequired, SessionNotAllowed, SessionHeld, SessionLost, LockLost, NotDeferred, NotScheduled, TxnNotFound, TxnPending, TxnScope, TxnFull, StaleNumber, NumberReused, ClientsFull, TxnsFull, Exhausted, DiskFault, Stopped, OutOfMemory}
+use Rattle.sb_machine.specs.declared.reply.Refusal.TheVariants.{BadCall, EntityNotFound, EntityExists, BadName, BadDescription, BadFilter, WrongKind, TooLarge, QuotaExceeded, SessionRequired, SessionNotAllowed, SessionHeld, SessionLost, LockLost, NotDeferred, NotScheduled, TxnNotFound, TxnPending, TxnScope, TxnFull, StaleNumber, NumberReused, ClientsFull, ClientNotFound, TxnsFull, Exhausted, DiskFault, Stopped, OutOfMemory}
 use Rattle.sb_lines.specs.declared.form.Form.{Form}
 use Rattle.sb_lines.specs.declared.form.Form.TheVariants.{Plain, Amqp}
 use Rattle.sb_lines.specs.Shown.{state_name, property_data, with_properties, with_texts, with_bytes, with_ttl, with_schedule, with_showing, common_members, copy_members, amqp_bytes, plain_data, amqp_data, shown_data}
 use Rattle.sb_lines.specs.Tokens.{token_text}
 use Rattle.sb_lines.specs.Refusals.{refusal_data, with_string}
-use Rattle.sb_lines.specs.Replies.{said, receipt_data, with_state, described_data, seen_data, reply_data, answer_data}
-use Rattle.sb_lines.specs.Views.{number_or_null, with_truth, number_if, string_if, entity_or_null, part_data, entity_data, entities_data, lease_members, with_forwards, queue_members, topic_members, subscription_members, description_data, forward_if, conditions_data, with_filter, rule_data, rules_data, session_data, sessions_data, transaction_data, transactions_data}
+use Rattle.sb_lines.specs.Replies.{said, receipt_data, step_data, with_state, described_data, seen_data, reply_data, answer_data}
+use Rattle.sb_lines.specs.Views.{number_or_null, with_truth, number_if, string_if, entity_or_null, part_data, entity_data, entities_data, lease_members, with_forwards, queue_members, topic_members, subscription_members, description_data, forward_if, conditions_data, with_filter, rule_data, rules_data, session_data, sessions_data, transaction_data, transactions_data, clients_data}
 
 either_way : (o : Ordering) (a b c : Members) → members_have_float a ≡ false → members_have_float b ≡ false → members_have_float c ≡ false
     → members_have_float (match_ordering o a b c) ≡ false
@@ -140,6 +143,11 @@ receipts_whole : (rs : List Receipt) → items_have_float (items_of (map receipt
 receipts_whole [] = refl
 receipts_whole (Number n ∷ rs) = receipts_whole rs
 receipts_whole (Duplicate ∷ rs) = receipts_whole rs
+
+steps_whole : (rs : List StepReply) → items_have_float (items_of (map step_data rs)) ≡ false
+steps_whole [] = refl
+steps_whole (StepDone ∷ rs) = steps_whole rs
+steps_whole (StepSent receipts ∷ rs) = neither _ _ (neither _ _ (receipts_whole receipts) refl) (steps_whole rs)
 
 state_whole : (state : Option (List ℕ)) (ms : Members) → members_have_float ms ≡ false → members_have_float (with_state state ms) ≡ false
 state_whole None ms whole = put_whole (codes "state") null ms refl whole
@@ -235,6 +243,10 @@ transactions_whole : (xs : List TransactionShown) → has_float (transactions_da
 transactions_whole [] = refl
 transactions_whole (x ∷ xs) = neither _ _ (transaction_whole x) (transactions_whole xs)
 
+clients_whole : (xs : List ClientShown) → has_float (clients_data xs) ≡ false
+clients_whole [] = refl
+clients_whole (x ∷ xs) = clients_whole xs
+
 described_whole : (d : Described) → has_float (described_data d) ≡ false
 described_whole d =
     neither _ _ (description_whole d.kind d.description)
@@ -245,10 +257,11 @@ seen_whole (Entities es) = neither _ _ (entities_whole es) refl
 seen_whole (Entity d) = described_whole d
 seen_whole (Sessions xs) = neither _ _ (sessions_whole xs) refl
 seen_whole (Transactions xs) = neither _ _ (transactions_whole xs) refl
+seen_whole (Clients xs) = neither _ _ (clients_whole xs) refl
 
 -- ---- answers
 
-reply_whole : (form : Form) (r : Reply) → has_float (reply_data form r) ≡ false
+pub reply_whole : (form : Form) (r : Reply) → has_float (reply_data form r) ≡ false
 reply_whole form Done = refl
 reply_whole form (Sent rs) = neither _ _ (receipts_whole rs) refl
 reply_whole form (Message c) = neither _ _ (shown_whole form c) refl
@@ -262,6 +275,7 @@ reply_whole form (Begun txn) = refl
 reply_whole form Queued = refl
 reply_whole form Committed = refl
 reply_whole form (Aborted part n) = refl
+reply_whole form (Together replies) = neither _ _ (steps_whole replies) refl
 reply_whole form (Counts main dead transfer) = refl
 reply_whole form (Seen view) = seen_whole view
 
@@ -289,6 +303,7 @@ refusal_whole TxnFull = refl
 refusal_whole (StaleNumber kept) = refl
 refusal_whole NumberReused = refl
 refusal_whole ClientsFull = refl
+refusal_whole ClientNotFound = refl
 refusal_whole TxnsFull = refl
 refusal_whole Exhausted = refl
 refusal_whole DiskFault = refl

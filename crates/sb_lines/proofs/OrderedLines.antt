@@ -14,7 +14,7 @@ use Rattle.sb_model.specs.declared.message.SystemName.{SystemName}
 use Rattle.sb_model.specs.declared.message.SystemName.TheVariants.{MessageId, Label, CorrelationId, SessionId, To, ReplyTo, ReplyToSessionId, ContentType}
 use Rattle.sb_model.specs.declared.message.SystemText.{SystemText}
 use Rattle.sb_machine.specs.Each.{Each}
-use Rattle.sb_machine.specs.Ordered.{IsActInOrder, IsFilterInOrder, asked_of}
+use Rattle.sb_machine.specs.Ordered.{IsActInOrder, IsFilterInOrder, IsStepInOrder, asked_of}
 use Rattle.sb_machine.specs.declared.call.Act.{Act}
 use Rattle.sb_machine.specs.declared.call.Act.TheVariants as act
 use Rattle.sb_machine.specs.declared.look.Look.TheVariants as look
@@ -22,6 +22,9 @@ use Rattle.sb_machine.specs.declared.call.By.{By}
 use Rattle.sb_machine.specs.declared.call.FilterText.{FilterText}
 use Rattle.sb_machine.specs.declared.call.How.{How}
 use Rattle.sb_machine.specs.declared.call.How.TheVariants.{Complete, Abandon, Defer, DeadLetter}
+use Rattle.sb_machine.specs.declared.call.Path.{Path}
+use Rattle.sb_machine.specs.declared.call.Step.{Step}
+use Rattle.sb_machine.specs.declared.call.Step.TheVariants as step
 use Rattle.sb_machine.specs.declared.rule.Conditions.{Conditions}
 use Rattle.sb_lines.specs.declared.table.Either.{Either}
 use Rattle.sb_lines.specs.declared.table.Either.TheVariants.{First, Second}
@@ -169,17 +172,74 @@ sent_holds d = by_key (get msg.amqp_key d) where
 message_holds : (d : Data) → Holds IsInOrder (msg.message_of d)
 message_holds d = known_holds IsInOrder (or_key (codes "messages") (as_object d)) (λ _. object_of msg.sent_fields d) (λ _. object_holds IsInOrder msg.sent_fields d (sent_holds d))
 
-pub before_holds : (m : Message) (r : Result (List Message) (List ℕ)) → IsInOrder m → Holds (Each IsInOrder) r → Holds (Each IsInOrder) (msg.before_those (m ∷ []) r)
-before_holds m (Ok ms) one all = (one, all)
-before_holds m (Err key) one all = tt
+pub before_holds : {T : Type 0} (P : T → Type 0) (x : T) (r : Result (List T) (List ℕ)) → P x → Holds (Each P) r → Holds (Each P) (msg.before_those (x ∷ []) r)
+before_holds P x (Ok xs) one all = (one, all)
+before_holds P x (Err key) one all = tt
 
 messages_hold : (ds : Items) → Holds (Each IsInOrder) (msg.messages_of ds)
 messages_hold no_items = tt
-messages_hold (item d ds) = then_holds IsInOrder (Each IsInOrder) (msg.message_of d) (λ m. msg.before_those (m ∷ []) (msg.messages_of ds)) (message_holds d) (λ m is. before_holds m (msg.messages_of ds) is (messages_hold ds))
+messages_hold (item d ds) = then_holds IsInOrder (Each IsInOrder) (msg.message_of d) (λ m. msg.before_those (m ∷ []) (msg.messages_of ds)) (message_holds d) (λ m is. before_holds IsInOrder m (msg.messages_of ds) is (messages_hold ds))
 
 messages_at_hold : (key : List ℕ) (d : Data) → Holds (Each IsInOrder) ((msg.messages key).reads d)
 unfolding msg.messages
 messages_at_hold key d = known_holds (Each IsInOrder) (or_key key (option_and_then as_array (get key d))) msg.messages_of messages_hold
+
+-- ---- one of several
+
+-- whichever a test takes
+one_holds : {T : Type 0} (P : T → Type 0) (b : Bool) (x y : Result T (List ℕ)) → Holds P x → Holds P y → Holds P (if b then x else y)
+one_holds P true x y one two = one
+one_holds P false x y one two = two
+
+-- ---- operations that act together
+
+step_row_holds : {X : Type 0} (P : X → Type 0) (f : Field X) (make : X → Step) (d : Data) → Holds P (f.reads d) → ((x : X) → P x → IsStepInOrder (make x)) → Holds IsStepInOrder (lines.step_row f make d)
+step_row_holds P f make d holds onwards = made_holds make P IsStepInOrder (object_of (lines.in_step f) d) (object_holds P (lines.in_step f) d holds) onwards
+
+-- an operation that has no lists
+bare_step : {X : Type 0} (f : Field X) (make : X → Step) (d : Data) → ((x : X) → IsStepInOrder (make x)) → Holds IsStepInOrder (lines.step_row f make d)
+bare_step f make d onwards = step_row_holds Any f make d (any_field f d) (λ x _. onwards x)
+
+send_step_holds : (d : Data) → Holds IsStepInOrder (lines.send_step d)
+unfolding lines.send_step
+send_step_holds d =
+    step_row_holds (Two Any (Each IsInOrder)) (address (codes "to") and msg.messages (codes "messages")) (λ x. step.Send x.0 x.1) d
+    (and_holds Any (Each IsInOrder) (address (codes "to")) (msg.messages (codes "messages")) d (any_field (address (codes "to")) d) (messages_at_hold (codes "messages") d))
+    (λ x is. is.1)
+
+settle_step_holds : (how : How) (d : Data) → Holds IsStepInOrder (lines.settle_step how d)
+unfolding lines.settle_step
+settle_step_holds how d = bare_step (lines.settled nothing) (λ x. step.Settle x.0 x.1.0 x.1.1.0 x.1.1.1.0 how) d (λ x. tt)
+
+dead_letter_step_holds : (d : Data) → Holds IsStepInOrder (lines.dead_letter_step d)
+unfolding lines.dead_letter_step
+dead_letter_step_holds d = bare_step (lines.settled lines.reasons) (λ x. step.Settle x.0 x.1.0 x.1.1.0 x.1.1.1.0 (DeadLetter x.1.1.1.1.0 x.1.1.1.1.1)) d (λ x. tt)
+
+session_set_step_holds : (d : Data) → Holds IsStepInOrder (lines.session_set_step d)
+unfolding lines.session_set_step
+session_set_step_holds d = bare_step lines.remembered (λ x. step.SessionSet x.0 x.1.0 x.1.1) d (λ x. tt)
+
+step_named_holds : (word : List ℕ) (d : Data) → Holds IsStepInOrder (lines.step_named word d)
+unfolding lines.step_named
+step_named_holds word d =
+    one_holds IsStepInOrder (bytes_eq word (codes "send")) (lines.send_step d) (if bytes_eq word (codes "complete") then lines.settle_step Complete d else (if bytes_eq word (codes "abandon") then lines.settle_step Abandon d else (if bytes_eq word (codes "defer") then lines.settle_step Defer d else (if bytes_eq word (codes "dead-letter") then lines.dead_letter_step d else (if bytes_eq word (codes "session-set") then lines.session_set_step d else (Err (codes "operations"))))))) (send_step_holds d) (
+    one_holds IsStepInOrder (bytes_eq word (codes "complete")) (lines.settle_step Complete d) (if bytes_eq word (codes "abandon") then lines.settle_step Abandon d else (if bytes_eq word (codes "defer") then lines.settle_step Defer d else (if bytes_eq word (codes "dead-letter") then lines.dead_letter_step d else (if bytes_eq word (codes "session-set") then lines.session_set_step d else (Err (codes "operations")))))) (settle_step_holds Complete d) (
+    one_holds IsStepInOrder (bytes_eq word (codes "abandon")) (lines.settle_step Abandon d) (if bytes_eq word (codes "defer") then lines.settle_step Defer d else (if bytes_eq word (codes "dead-letter") then lines.dead_letter_step d else (if bytes_eq word (codes "session-set") then lines.session_set_step d else (Err (codes "operations"))))) (settle_step_holds Abandon d) (
+    one_holds IsStepInOrder (bytes_eq word (codes "defer")) (lines.settle_step Defer d) (if bytes_eq word (codes "dead-letter") then lines.dead_letter_step d else (if bytes_eq word (codes "session-set") then lines.session_set_step d else (Err (codes "operations")))) (settle_step_holds Defer d) (
+    one_holds IsStepInOrder (bytes_eq word (codes "dead-letter")) (lines.dead_letter_step d) (if bytes_eq word (codes "session-set") then lines.session_set_step d else (Err (codes "operations"))) (dead_letter_step_holds d) (
+    one_holds IsStepInOrder (bytes_eq word (codes "session-set")) (lines.session_set_step d) (Err (codes "operations")) (session_set_step_holds d) (
+    tt))))))
+
+step_holds : (d : Data) → Holds IsStepInOrder (lines.step_of d)
+step_holds d = known_holds IsStepInOrder (or_key (codes "operations") (text_at (codes "do") d)) (λ word. lines.step_named word d) (λ word. step_named_holds word d)
+
+steps_hold : (ds : Items) → Holds (Each IsStepInOrder) (lines.steps_of ds)
+steps_hold no_items = tt
+steps_hold (item d ds) = then_holds IsStepInOrder (Each IsStepInOrder) (lines.step_of d) (λ x. msg.before_those (x ∷ []) (lines.steps_of ds)) (step_holds d) (λ x is. before_holds IsStepInOrder x (lines.steps_of ds) is (steps_hold ds))
+
+operations_hold : (d : Data) → Holds (Each IsStepInOrder) (lines.operations.reads d)
+unfolding lines.operations
+operations_hold d = known_holds (Each IsStepInOrder) (or_key (codes "operations") (option_and_then as_array (get (codes "operations") d))) lines.steps_of steps_hold
 
 -- ---- filters
 
@@ -263,11 +323,11 @@ receive_deferred_holds d = bare (lines.shown (address (codes "from") and number 
 
 settle_holds : (how : How) (d : Data) → Holds IsActInOrder (lines.settle how d)
 unfolding lines.settle
-settle_holds how d = bare (address (codes "from") and lines.which and token (codes "token") and lines.session_if and lines.txn_if) (λ x. act.Settle x.0 x.1.0 x.1.1.0 x.1.1.1.0 how x.1.1.1.1) d (λ x. tt)
+settle_holds how d = bare (lines.settled lines.txn_if) (λ x. act.Settle x.0 x.1.0 x.1.1.0 x.1.1.1.0 how x.1.1.1.1) d (λ x. tt)
 
 dead_letter_holds : (d : Data) → Holds IsActInOrder (lines.dead_letter d)
 unfolding lines.dead_letter
-dead_letter_holds d = bare (address (codes "from") and lines.which and token (codes "token") and lines.session_if and lines.txn_if and lines.text_if (codes "reason") and lines.text_if (codes "description")) (λ x. act.Settle x.0 x.1.0 x.1.1.0 x.1.1.1.0 (DeadLetter x.1.1.1.1.1.0 x.1.1.1.1.1.1) x.1.1.1.1.0) d (λ x. tt)
+dead_letter_holds d = bare (lines.settled (lines.txn_if and lines.reasons)) (λ x. act.Settle x.0 x.1.0 x.1.1.0 x.1.1.1.0 (DeadLetter x.1.1.1.1.1.0 x.1.1.1.1.1.1) x.1.1.1.1.0) d (λ x. tt)
 
 renew_holds : (d : Data) → Holds IsActInOrder (lines.renew d)
 unfolding lines.renew
@@ -287,7 +347,7 @@ session_close_holds d = bare (address (codes "from") and token (codes "session")
 
 session_set_holds : (d : Data) → Holds IsActInOrder (lines.session_set d)
 unfolding lines.session_set
-session_set_holds d = bare (address (codes "from") and token (codes "session") and msg.bytes (codes "state") (codes "state_hex")) (λ x. act.SessionSet x.0 x.1.0 x.1.1) d (λ x. tt)
+session_set_holds d = bare lines.remembered (λ x. act.SessionSet x.0 x.1.0 x.1.1) d (λ x. tt)
 
 session_state_holds : (d : Data) → Holds IsActInOrder (lines.session_state d)
 unfolding lines.session_state
@@ -304,6 +364,26 @@ commit_holds d = bare (number (codes "txn")) (λ x. act.Commit x) d (λ x. tt)
 rollback_holds : (d : Data) → Holds IsActInOrder (lines.rollback d)
 unfolding lines.rollback
 rollback_holds d = bare (number (codes "txn")) (λ x. act.Rollback x) d (λ x. tt)
+
+abbrev AreSteps : Path × List Step → Type 0
+AreSteps = Two Any (Each IsStepInOrder)
+
+together_fields_hold : (d : Data) → Holds AreSteps (lines.together_fields.reads d)
+together_fields_hold d = and_holds Any (Each IsStepInOrder) (entity (codes "entity")) lines.operations d (any_field (entity (codes "entity")) d) (operations_hold d)
+
+together_holds : (d : Data) → Holds IsActInOrder (lines.together d)
+unfolding lines.together
+together_holds d = row_holds AreSteps lines.together_fields (λ x. act.Together x.0 x.1) d (together_fields_hold d) (λ x is. is.1)
+
+together_alone_holds : (d : Data) → Holds IsActInOrder (lines.together_alone d)
+unfolding lines.together_alone
+together_alone_holds d =
+    made_holds (λ x. act.Together x.0 x.1) AreSteps IsActInOrder (object_of (lines.in_step lines.together_fields) d)
+    (object_holds AreSteps (lines.in_step lines.together_fields) d (together_fields_hold d)) (λ x is. is.1)
+
+forget_client_holds : (d : Data) → Holds IsActInOrder (lines.forget_client d)
+unfolding lines.forget_client
+forget_client_holds d = bare (text (codes "name")) (λ x. act.ForgetClient x) d (λ x. tt)
 
 peek_holds : (d : Data) → Holds IsActInOrder (lines.peek d)
 unfolding lines.peek
@@ -328,6 +408,10 @@ sessions_hold d = bare (entity (codes "entity") and lines.text_if (codes "after"
 transactions_hold : (d : Data) → Holds IsActInOrder (lines.transactions d)
 unfolding lines.transactions
 transactions_hold d = bare nothing (λ _. act.Look look.Transactions) d (λ x. tt)
+
+clients_hold : (d : Data) → Holds IsActInOrder (lines.clients d)
+unfolding lines.clients
+clients_hold d = bare (lines.text_if (codes "after") and whole (codes "count")) (λ x. act.Look (look.Clients x.0 x.1)) d (λ x. tt)
 
 abbrev AreSent : List Message × Option ℕ → Type 0
 AreSent = Two (Each IsInOrder) Any
@@ -365,25 +449,32 @@ create_rule_holds d =
 -- ---- lines
 
 either_act : (b : Bool) (x y : Result Act (List ℕ)) → Holds IsActInOrder x → Holds IsActInOrder y → Holds IsActInOrder (if b then x else y)
-either_act true x y one two = one
-either_act false x y one two = two
+either_act b x y one two = one_holds IsActInOrder b x y one two
+
+pub alone_holds : (d : Data) → Holds IsActInOrder (lines.together_of d)
+alone_holds d =
+    known_holds IsActInOrder (or_key (codes "do") (text_at (codes "do") d)) (λ word. lines.together_named word d) (λ word.
+    either_act (bytes_eq word (codes "together")) (lines.together_alone d) (Err (codes "do")) (together_alone_holds d) tt)
 
 look_act_holds : (word : List ℕ) (d : Data) → Holds IsActInOrder (lines.look_act word d)
 unfolding lines.look_act
 look_act_holds word d =
-    either_act (bytes_eq word (codes "list")) (lines.list d) (if bytes_eq word (codes "describe") then lines.describe d else (if bytes_eq word (codes "sessions") then lines.sessions d else (if bytes_eq word (codes "transactions") then lines.transactions d else (Err (codes "do"))))) (list_holds d) (
-    either_act (bytes_eq word (codes "describe")) (lines.describe d) (if bytes_eq word (codes "sessions") then lines.sessions d else (if bytes_eq word (codes "transactions") then lines.transactions d else (Err (codes "do")))) (describe_holds d) (
-    either_act (bytes_eq word (codes "sessions")) (lines.sessions d) (if bytes_eq word (codes "transactions") then lines.transactions d else (Err (codes "do"))) (sessions_hold d) (
-    either_act (bytes_eq word (codes "transactions")) (lines.transactions d) (Err (codes "do")) (transactions_hold d) (
-    tt))))
+    either_act (bytes_eq word (codes "list")) (lines.list d) (if bytes_eq word (codes "describe") then lines.describe d else (if bytes_eq word (codes "sessions") then lines.sessions d else (if bytes_eq word (codes "transactions") then lines.transactions d else (if bytes_eq word (codes "clients") then lines.clients d else (Err (codes "do")))))) (list_holds d) (
+    either_act (bytes_eq word (codes "describe")) (lines.describe d) (if bytes_eq word (codes "sessions") then lines.sessions d else (if bytes_eq word (codes "transactions") then lines.transactions d else (if bytes_eq word (codes "clients") then lines.clients d else (Err (codes "do"))))) (describe_holds d) (
+    either_act (bytes_eq word (codes "sessions")) (lines.sessions d) (if bytes_eq word (codes "transactions") then lines.transactions d else (if bytes_eq word (codes "clients") then lines.clients d else (Err (codes "do")))) (sessions_hold d) (
+    either_act (bytes_eq word (codes "transactions")) (lines.transactions d) (if bytes_eq word (codes "clients") then lines.clients d else (Err (codes "do"))) (transactions_hold d) (
+    either_act (bytes_eq word (codes "clients")) (lines.clients d) (Err (codes "do")) (clients_hold d) (
+    tt)))))
 
 transaction_act_holds : (word : List ℕ) (d : Data) → Holds IsActInOrder (lines.transaction_act word d)
 unfolding lines.transaction_act
 transaction_act_holds word d =
-    either_act (bytes_eq word (codes "begin")) (lines.begin d) (if bytes_eq word (codes "commit") then lines.commit d else (if bytes_eq word (codes "rollback") then lines.rollback d else (lines.look_act word d))) (begin_holds d) (
-    either_act (bytes_eq word (codes "commit")) (lines.commit d) (if bytes_eq word (codes "rollback") then lines.rollback d else (lines.look_act word d)) (commit_holds d) (
-    either_act (bytes_eq word (codes "rollback")) (lines.rollback d) (lines.look_act word d) (rollback_holds d) (
-    look_act_holds word d)))
+    either_act (bytes_eq word (codes "begin")) (lines.begin d) (if bytes_eq word (codes "commit") then lines.commit d else (if bytes_eq word (codes "rollback") then lines.rollback d else (if bytes_eq word (codes "together") then lines.together d else (if bytes_eq word (codes "forget-client") then lines.forget_client d else (lines.look_act word d))))) (begin_holds d) (
+    either_act (bytes_eq word (codes "commit")) (lines.commit d) (if bytes_eq word (codes "rollback") then lines.rollback d else (if bytes_eq word (codes "together") then lines.together d else (if bytes_eq word (codes "forget-client") then lines.forget_client d else (lines.look_act word d)))) (commit_holds d) (
+    either_act (bytes_eq word (codes "rollback")) (lines.rollback d) (if bytes_eq word (codes "together") then lines.together d else (if bytes_eq word (codes "forget-client") then lines.forget_client d else (lines.look_act word d))) (rollback_holds d) (
+    either_act (bytes_eq word (codes "together")) (lines.together d) (if bytes_eq word (codes "forget-client") then lines.forget_client d else (lines.look_act word d)) (together_holds d) (
+    either_act (bytes_eq word (codes "forget-client")) (lines.forget_client d) (lines.look_act word d) (forget_client_holds d) (
+    look_act_holds word d)))))
 
 session_act_holds : (word : List ℕ) (d : Data) → Holds IsActInOrder (lines.session_act word d)
 unfolding lines.session_act

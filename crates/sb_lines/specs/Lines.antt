@@ -1,8 +1,8 @@
 -- Which line spells which call, and which key is at fault in a line that spells none.
-use Rattle.std.specs.Prelude.{ℕ, List, [], Bool, true, false, not, ◌||◌, if◌then◌else◌, codes, bytes_eq, Option, Some, None, option_and_then, Result, Ok, Err}
-use Rattle.serde_json.specs.Data.{Data}
+use Rattle.std.specs.Prelude.{ℕ, List, [], ◌∷◌, Bool, true, false, not, ◌||◌, if◌then◌else◌, codes, bytes_eq, Option, Some, None, option_and_then, Result, Ok, Err}
+use Rattle.serde_json.specs.Data.{Data, Items, no_items, item}
 use Rattle.serde_json.specs.Read.{read}
-use Rattle.serde_json.specs.Find.{get, as_str, as_object}
+use Rattle.serde_json.specs.Find.{get, as_str, as_array, as_object}
 use Rattle.sb_machine.specs.declared.call.Act.{Act}
 use Rattle.sb_machine.specs.declared.call.Act.TheVariants as act
 use Rattle.sb_machine.specs.declared.call.By.{By}
@@ -11,6 +11,8 @@ use Rattle.sb_machine.specs.declared.call.FilterText.TheVariants.{Sql, Correlati
 use Rattle.sb_machine.specs.declared.call.How.{How}
 use Rattle.sb_machine.specs.declared.call.How.TheVariants.{Complete, Abandon, Defer, DeadLetter}
 use Rattle.sb_machine.specs.declared.call.Path.{Path}
+use Rattle.sb_machine.specs.declared.call.Step.{Step}
+use Rattle.sb_machine.specs.declared.call.Step.TheVariants as step
 use Rattle.sb_machine.specs.declared.call.Token.{Token}
 use Rattle.sb_machine.specs.declared.call.Which.{Which}
 use Rattle.sb_machine.specs.declared.call.Which.TheVariants.{Number, Id}
@@ -23,7 +25,7 @@ use Rattle.sb_lines.specs.declared.table.Either.TheVariants.{First, Second}
 use Rattle.sb_lines.specs.Descriptions.{queue_fields, topic_fields, subscription_fields}
 use Rattle.sb_lines.specs.Faults.{or_key, then_by}
 use Rattle.sb_lines.specs.Fields.{text_at, whole_in, number_in, or_default}
-use Rattle.sb_lines.specs.Messages.{messages, conditions, bytes}
+use Rattle.sb_lines.specs.Messages.{before_those, messages, conditions, bytes}
 use Rattle.sb_lines.specs.Tables.{Field, address, entity, name, text, token, whole, number, mode, form, wait, nothing, ◌and◌, optional, one_of, made, object_of}
 
 -- ---- fields that several acts have
@@ -57,6 +59,68 @@ txn_if = optional (codes "txn") (number (codes "txn"))
 -- a text, or none
 abbrev pub text_if : List ℕ → Field (Option (List ℕ))
 text_if key = optional key (text key)
+
+-- a settlement of a copy, and what stands behind its session
+abbrev pub settled : {A : Type 0} → Field A → Field (Path × (Which × (Token × (Option Token × A))))
+settled rest = address (codes "from") and which and token (codes "token") and session_if and rest
+
+-- a dead letter's reason and description, each or none
+abbrev pub reasons : Field (Option (List ℕ) × Option (List ℕ))
+reasons = text_if (codes "reason") and text_if (codes "description")
+
+-- what a session is to remember; nothing where neither key stands
+abbrev pub remembered : Field (Path × (Token × Option (List ℕ)))
+remembered = address (codes "from") and token (codes "session") and bytes (codes "state") (codes "state_hex")
+
+-- ---- operations that act together, each in the fields of its act
+
+-- the keys of an operation: its word, beside those of its fields
+abbrev pub in_step : {A : Type 0} → Field A → Field A
+in_step f = record { knows = λ k. bytes_eq k (codes "do") || f.knows k; reads = f.reads }
+
+-- the operation that these fields make, of an object that has no other keys
+abbrev pub step_row : {P : Type 0} → Field P → (P → Step) → Data → Result Step (List ℕ)
+step_row f make d = then_by (object_of (in_step f) d) (λ x. Ok (make x))
+
+-- messages are sent
+unfoldable pub send_step : Data → Result Step (List ℕ)
+send_step = step_row (address (codes "to") and messages (codes "messages")) (λ x. step.Send x.0 x.1)
+
+-- complete, abandon, defer
+unfoldable pub settle_step : How → Data → Result Step (List ℕ)
+settle_step how = step_row (settled nothing) (λ x. step.Settle x.0 x.1.0 x.1.1.0 x.1.1.1.0 how)
+
+-- a message is dead-lettered, with a reason and a description or without
+unfoldable pub dead_letter_step : Data → Result Step (List ℕ)
+dead_letter_step = step_row (settled reasons) (λ x. step.Settle x.0 x.1.0 x.1.1.0 x.1.1.1.0 (DeadLetter x.1.1.1.1.0 x.1.1.1.1.1))
+
+-- a session's state is written, or removed where neither key stands
+unfoldable pub session_set_step : Data → Result Step (List ℕ)
+session_set_step = step_row remembered (λ x. step.SessionSet x.0 x.1.0 x.1.1)
+
+-- the operation of a word, and its fields; no other act is one
+unfoldable pub step_named : List ℕ → Data → Result Step (List ℕ)
+step_named word d =
+    if bytes_eq word (codes "send") then send_step d
+    else if bytes_eq word (codes "complete") then settle_step Complete d
+    else if bytes_eq word (codes "abandon") then settle_step Abandon d
+    else if bytes_eq word (codes "defer") then settle_step Defer d
+    else if bytes_eq word (codes "dead-letter") then dead_letter_step d
+    else if bytes_eq word (codes "session-set") then session_set_step d
+    else Err (codes "operations")
+
+-- an operation is an object with its word
+abbrev pub step_of : Data → Result Step (List ℕ)
+step_of d = then_by (or_key (codes "operations") (text_at (codes "do") d)) (λ word. step_named word d)
+
+-- each in turn, or the first key at fault
+abbrev pub steps_of : Items → Result (List Step) (List ℕ)
+steps_of no_items = Ok []
+steps_of (item d ds) = then_by (step_of d) (λ x. before_those (x ∷ []) (steps_of ds))
+
+-- a list of operations
+unfoldable pub operations : Field (List Step)
+operations = record { knows = λ k. bytes_eq k (codes "operations"); reads = λ d. then_by (or_key (codes "operations") (option_and_then as_array (get (codes "operations") d))) steps_of }
 
 -- ---- the acts
 
@@ -119,13 +183,11 @@ receive_deferred = row (shown (address (codes "from") and number (codes "seq") a
 
 -- complete, abandon, defer
 unfoldable pub settle : How → Data → Result Act (List ℕ)
-settle how = row (address (codes "from") and which and token (codes "token") and session_if and txn_if) (λ x. act.Settle x.0 x.1.0 x.1.1.0 x.1.1.1.0 how x.1.1.1.1)
+settle how = row (settled txn_if) (λ x. act.Settle x.0 x.1.0 x.1.1.0 x.1.1.1.0 how x.1.1.1.1)
 
 -- a message is dead-lettered, with a reason and a description or without
 unfoldable pub dead_letter : Data → Result Act (List ℕ)
-dead_letter =
-    row (address (codes "from") and which and token (codes "token") and session_if and txn_if and text_if (codes "reason") and text_if (codes "description"))
-    (λ x. act.Settle x.0 x.1.0 x.1.1.0 x.1.1.1.0 (DeadLetter x.1.1.1.1.1.0 x.1.1.1.1.1.1) x.1.1.1.1.0)
+dead_letter = row (settled (txn_if and reasons)) (λ x. act.Settle x.0 x.1.0 x.1.1.0 x.1.1.1.0 (DeadLetter x.1.1.1.1.1.0 x.1.1.1.1.1.1) x.1.1.1.1.0)
 
 -- a message's lock is renewed
 unfoldable pub renew : Data → Result Act (List ℕ)
@@ -145,7 +207,7 @@ session_close = row (address (codes "from") and token (codes "session")) (λ x. 
 
 -- a session's state is written, or removed where neither key stands
 unfoldable pub session_set : Data → Result Act (List ℕ)
-session_set = row (address (codes "from") and token (codes "session") and bytes (codes "state") (codes "state_hex")) (λ x. act.SessionSet x.0 x.1.0 x.1.1)
+session_set = row remembered (λ x. act.SessionSet x.0 x.1.0 x.1.1)
 
 -- a session's state is read
 unfoldable pub session_state : Data → Result Act (List ℕ)
@@ -162,6 +224,18 @@ commit = row (number (codes "txn")) (λ x. act.Commit x)
 -- a transaction is dropped
 unfoldable pub rollback : Data → Result Act (List ℕ)
 rollback = row (number (codes "txn")) (λ x. act.Rollback x)
+
+-- the entity whose transaction would have them, and the operations
+abbrev pub together_fields : Field (Path × List Step)
+together_fields = entity (codes "entity") and operations
+
+-- operations act together
+unfoldable pub together : Data → Result Act (List ℕ)
+together = row together_fields (λ x. act.Together x.0 x.1)
+
+-- what is remembered of a client is forgotten
+unfoldable pub forget_client : Data → Result Act (List ℕ)
+forget_client = row (text (codes "name")) (λ x. act.ForgetClient x)
 
 -- messages are looked at, from a number on
 unfoldable pub peek : Data → Result Act (List ℕ)
@@ -197,6 +271,10 @@ sessions = row (entity (codes "entity") and text_if (codes "after") and whole (c
 unfoldable pub transactions : Data → Result Act (List ℕ)
 transactions = row nothing (λ _. act.Look look.Transactions)
 
+-- the clients that are remembered are listed
+unfoldable pub clients : Data → Result Act (List ℕ)
+clients = row (text_if (codes "after") and whole (codes "count")) (λ x. act.Look (look.Clients x.0 x.1))
+
 -- ---- the act of a name, and its fields: those of one kind, else those of the next
 
 -- what an operator looks at
@@ -206,14 +284,17 @@ look_act word d =
     else if bytes_eq word (codes "describe") then describe d
     else if bytes_eq word (codes "sessions") then sessions d
     else if bytes_eq word (codes "transactions") then transactions d
+    else if bytes_eq word (codes "clients") then clients d
     else Err (codes "do")
 
--- transactions
+-- transactions, and what is remembered of clients
 unfoldable pub transaction_act : List ℕ → Data → Result Act (List ℕ)
 transaction_act word d =
     if bytes_eq word (codes "begin") then begin d
     else if bytes_eq word (codes "commit") then commit d
     else if bytes_eq word (codes "rollback") then rollback d
+    else if bytes_eq word (codes "together") then together d
+    else if bytes_eq word (codes "forget-client") then forget_client d
     else look_act word d
 
 -- sessions
@@ -287,7 +368,8 @@ beside takes d = then_by (reading_of d) (λ reading. then_by (by_of takes d) (λ
 
 -- whether an act of this name is what an operator looks at
 abbrev pub is_look : List ℕ → Bool
-is_look word = bytes_eq word (codes "list") || bytes_eq word (codes "describe") || bytes_eq word (codes "sessions") || bytes_eq word (codes "transactions")
+is_look word =
+    bytes_eq word (codes "list") || bytes_eq word (codes "describe") || bytes_eq word (codes "sessions") || bytes_eq word (codes "transactions") || bytes_eq word (codes "clients")
 
 -- whether a client may number the act of this name: not what only looks
 abbrev pub is_numbered : List ℕ → Bool
@@ -320,3 +402,17 @@ object_itself d = option_and_then (λ _. Some d) (as_object d)
 -- the call that this text spells, with the form of its reply and how long it waits, or the key at fault, which is empty where the text is no object
 abbrev pub line_of : List ℕ → Result Line (List ℕ)
 line_of text = then_by (or_key [] (option_and_then object_itself (read text))) call_of
+
+-- ---- operations that act together, by an object that has nothing beside their act: a request of HTTP says the rest in its head
+
+-- the act of an object that has its word, and no keys beside those of its fields
+unfoldable pub together_alone : Data → Result Act (List ℕ)
+together_alone d = then_by (object_of (in_step together_fields) d) (λ x. Ok (act.Together x.0 x.1))
+
+-- no other act is asked for so
+abbrev pub together_named : List ℕ → Data → Result Act (List ℕ)
+together_named word d = if bytes_eq word (codes "together") then together_alone d else Err (codes "do")
+
+-- what an object asks for, by its word
+abbrev pub together_of : Data → Result Act (List ℕ)
+together_of d = then_by (or_key (codes "do") (text_at (codes "do") d)) (λ word. together_named word d)

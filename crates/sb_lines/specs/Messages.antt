@@ -192,10 +192,10 @@ sent_fields = record { knows = λ k. bytes_eq k amqp_key || message_fields.knows
 abbrev pub message_of : Data → Result Message (List ℕ)
 message_of d = then_by (or_key (codes "messages") (as_object d)) (λ _. object_of sent_fields d)
 
--- messages before others, unless those have a fault
-abbrev pub before_those : List Message → Result (List Message) (List ℕ) → Result (List Message) (List ℕ)
+-- what was read before the rest, unless that has a fault
+abbrev pub before_those : {T : Type 0} → List T → Result (List T) (List ℕ) → Result (List T) (List ℕ)
 before_those first (Err key) = Err key
-before_those first (Ok ms) = Ok (first ++ ms)
+before_those first (Ok rest) = Ok (first ++ rest)
 
 -- each in turn, or the first key at fault
 abbrev pub messages_of : Items → Result (List Message) (List ℕ)

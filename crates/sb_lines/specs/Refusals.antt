@@ -2,7 +2,7 @@
 use Rattle.std.specs.Prelude.{ℕ, List, codes}
 use Rattle.serde_json.specs.Data.{Data, number, unsigned, string, object, Members, no_members, member}
 use Rattle.sb_machine.specs.declared.reply.Refusal.{Refusal}
-use Rattle.sb_machine.specs.declared.reply.Refusal.TheVariants.{BadCall, EntityNotFound, EntityExists, BadName, BadDescription, BadFilter, WrongKind, TooLarge, QuotaExceeded, SessionRequired, SessionNotAllowed, SessionHeld, SessionLost, LockLost, NotDeferred, NotScheduled, TxnNotFound, TxnPending, TxnScope, TxnFull, StaleNumber, NumberReused, ClientsFull, TxnsFull, Exhausted, DiskFault, Stopped, OutOfMemory}
+use Rattle.sb_machine.specs.declared.reply.Refusal.TheVariants.{BadCall, EntityNotFound, EntityExists, BadName, BadDescription, BadFilter, WrongKind, TooLarge, QuotaExceeded, SessionRequired, SessionNotAllowed, SessionHeld, SessionLost, LockLost, NotDeferred, NotScheduled, TxnNotFound, TxnPending, TxnScope, TxnFull, StaleNumber, NumberReused, ClientsFull, ClientNotFound, TxnsFull, Exhausted, DiskFault, Stopped, OutOfMemory}
 
 -- the name, and these members behind it
 abbrev pub refused_before : List ℕ → Members → Members
@@ -49,6 +49,7 @@ refusal_data TxnFull = plain (codes "TxnFull")
 refusal_data (StaleNumber kept) = object (with_number (codes "kept") kept (refused (codes "StaleNumber")))
 refusal_data NumberReused = plain (codes "NumberReused")
 refusal_data ClientsFull = plain (codes "ClientsFull")
+refusal_data ClientNotFound = plain (codes "ClientNotFound")
 refusal_data TxnsFull = plain (codes "TxnsFull")
 refusal_data Exhausted = plain (codes "Exhausted")
 refusal_data DiskFault = plain (codes "DiskFault")

@@ -7,19 +7,21 @@ use Rattle.sb_machine.specs.declared.call.Part.{Part}
 use Rattle.sb_machine.specs.declared.call.Part.TheVariants.{Main, Dead, Transfer}
 use Rattle.sb_machine.specs.declared.look.Described.{Described}
 use Rattle.sb_machine.specs.declared.look.View.{View}
-use Rattle.sb_machine.specs.declared.look.View.TheVariants.{Entities, Entity, Sessions, Transactions}
+use Rattle.sb_machine.specs.declared.look.View.TheVariants.{Entities, Entity, Sessions, Transactions, Clients}
 use Rattle.sb_machine.specs.declared.reply.Answered.{Answered}
 use Rattle.sb_machine.specs.declared.reply.Answered.TheVariants.{New, Kept}
 use Rattle.sb_machine.specs.declared.reply.Receipt.{Receipt}
 use Rattle.sb_machine.specs.declared.reply.Receipt.TheVariants.{Number, Duplicate}
 use Rattle.sb_machine.specs.declared.reply.Refusal.{Refusal}
 use Rattle.sb_machine.specs.declared.reply.Reply.{Reply}
-use Rattle.sb_machine.specs.declared.reply.Reply.TheVariants.{Done, Sent, Message, Empty, Copies, Expired, Session, Renewed, State, Begun, Queued, Committed, Aborted, Counts, Seen}
+use Rattle.sb_machine.specs.declared.reply.Reply.TheVariants.{Done, Sent, Message, Empty, Copies, Expired, Session, Renewed, State, Begun, Queued, Committed, Aborted, Together, Counts, Seen}
+use Rattle.sb_machine.specs.declared.reply.StepReply.{StepReply}
+use Rattle.sb_machine.specs.declared.reply.StepReply.TheVariants.{Done as StepDone, Sent as StepSent}
 use Rattle.sb_lines.specs.declared.form.Form.{Form}
 use Rattle.sb_lines.specs.Refusals.{refusal_data, with_number, with_string}
 use Rattle.sb_lines.specs.Shown.{shown_data, with_bytes}
 use Rattle.sb_lines.specs.Tokens.{token_text}
-use Rattle.sb_lines.specs.Views.{kind_name, entities_data, description_data, forwards_data, rules_data, sessions_data, transactions_data}
+use Rattle.sb_lines.specs.Views.{kind_name, entities_data, description_data, forwards_data, rules_data, sessions_data, transactions_data, clients_data}
 
 -- ---- parts of replies
 
@@ -35,6 +37,15 @@ said word = said_before word no_members
 abbrev pub receipt_data : Receipt → Data
 receipt_data (Number n) = number (unsigned n)
 receipt_data Duplicate = null
+
+-- which numbers a send's messages were given
+abbrev pub sent_data : List Receipt → Data
+sent_data receipts = object (member (codes "numbers") (array (items_of (map receipt_data receipts))) (said (codes "sent")))
+
+-- what became of one of the operations that acted together
+abbrev pub step_data : StepReply → Data
+step_data StepDone = object (said (codes "done"))
+step_data (StepSent receipts) = sent_data receipts
 
 -- how each part is named
 abbrev pub part_name : Part → List ℕ
@@ -65,13 +76,14 @@ seen_data (Entities es) = object (member (codes "entities") (entities_data es) (
 seen_data (Entity d) = described_data d
 seen_data (Sessions xs) = object (said_before (codes "sessions") (member (codes "sessions") (sessions_data xs) no_members))
 seen_data (Transactions xs) = object (said_before (codes "transactions") (member (codes "transactions") (transactions_data xs) no_members))
+seen_data (Clients xs) = object (member (codes "clients") (clients_data xs) (said (codes "clients")))
 
 -- ---- what was done
 
 -- copies are shown in this form
 abbrev pub reply_data : Form → Reply → Data
 reply_data form Done = object (said (codes "done"))
-reply_data form (Sent receipts) = object (member (codes "numbers") (array (items_of (map receipt_data receipts))) (said (codes "sent")))
+reply_data form (Sent receipts) = sent_data receipts
 reply_data form (Message copy) = object (member (codes "message") (shown_data form copy) (said (codes "message")))
 reply_data form Empty = object (said (codes "empty"))
 reply_data form (Copies copies) = object (member (codes "copies") (array (items_of (map (λ c. shown_data form c) copies))) (said (codes "copies")))
@@ -83,8 +95,13 @@ reply_data form (Begun txn) = object (said_before (codes "begun") (with_number (
 reply_data form Queued = object (said (codes "queued"))
 reply_data form Committed = object (said (codes "committed"))
 reply_data form (Aborted part n) = object (said_before (codes "aborted") (with_string (codes "part") (part_name part) (with_number (codes "seq") n no_members)))
+reply_data form (Together replies) = object (said_before (codes "together") (member (codes "replies") (array (items_of (map step_data replies))) no_members))
 reply_data form (Counts main dead transfer) = object (member (codes "counts") (count_data main dead transfer) (said (codes "counts")))
 reply_data form (Seen view) = seen_data view
+
+-- its object as compact JSON
+abbrev pub reply_text : Form → Reply → List ℕ
+reply_text form reply = compact_text (reply_data form reply)
 
 -- ---- the line
 

@@ -1,4 +1,4 @@
--- What an operator looks at as JSON, keys in byte order: entities, how one is described, sessions, transactions.
+-- What an operator looks at as JSON, keys in byte order: entities, how one is described, sessions, transactions, clients.
 use Rattle.std.specs.Prelude.{ℕ, List, [], ◌∷◌, ◌++◌, Bool, codes, map, Option, Some, None}
 use Rattle.serde_json.specs.Data.{Data, null, number, unsigned, boolean, string, array, object, Members, no_members, member, put}
 use Rattle.serde_json.specs.View.{items_of}
@@ -6,6 +6,7 @@ use Rattle.sb_machine.specs.declared.call.Description.{Description}
 use Rattle.sb_machine.specs.declared.call.FilterText.{FilterText}
 use Rattle.sb_machine.specs.declared.call.FilterText.TheVariants.{Sql, Correlation}
 use Rattle.sb_machine.specs.declared.call.Path.{Path}
+use Rattle.sb_machine.specs.declared.look.ClientShown.{ClientShown}
 use Rattle.sb_machine.specs.declared.look.Described.{Described}
 use Rattle.sb_machine.specs.declared.look.EntityShown.{EntityShown}
 use Rattle.sb_machine.specs.declared.look.PartShown.{PartShown}
@@ -145,7 +146,7 @@ rule_data r = object (string_if (codes "action") r.action (with_filter r.filter 
 abbrev pub rules_data : List RuleShown → Data
 rules_data rs = array (items_of (map rule_data rs))
 
--- ---- sessions and transactions
+-- ---- sessions, transactions, clients
 
 -- a session in a list
 abbrev pub session_data : SessionShown → Data
@@ -164,3 +165,11 @@ transaction_data x =
 -- transactions in their order
 abbrev pub transactions_data : List TransactionShown → Data
 transactions_data xs = array (items_of (map transaction_data xs))
+
+-- a client in a list
+abbrev pub client_data : ClientShown → Data
+client_data x = object (with_string (codes "client") x.client (with_number (codes "number") x.number no_members))
+
+-- clients in their order
+abbrev pub clients_data : List ClientShown → Data
+clients_data xs = array (items_of (map client_data xs))

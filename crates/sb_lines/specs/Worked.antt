@@ -1,11 +1,14 @@
 -- Lines that were worked out by hand.
 use Rattle.std.specs.Prelude.{ℕ, pos, List, [], ◌∷◌, false, true, codes, Some, None, Result, Ok}
 use Rattle.sb_machine.specs.declared.call.Act.{Act}
-use Rattle.sb_machine.specs.declared.call.Act.TheVariants.{CreateRule, Receive, Accept, Look as LookAt}
+use Rattle.sb_machine.specs.declared.call.Act.TheVariants.{CreateRule, Receive, Accept, Together, ForgetClient, Look as LookAt}
 use Rattle.sb_machine.specs.declared.call.FilterText.TheVariants.{Sql, Correlation}
 use Rattle.sb_machine.specs.declared.call.Mode.TheVariants.{Lock}
 use Rattle.sb_machine.specs.declared.call.Part.TheVariants.{Main}
 use Rattle.sb_machine.specs.declared.call.Path.{Path}
+use Rattle.sb_machine.specs.declared.call.Step.{Step}
+use Rattle.sb_machine.specs.declared.call.Step.TheVariants.{Send}
+use Rattle.sb_machine.specs.declared.look.ClientShown.{ClientShown}
 use Rattle.sb_machine.specs.declared.look.EntityShown.{EntityShown}
 use Rattle.sb_machine.specs.declared.look.Look.{Look}
 use Rattle.sb_machine.specs.declared.look.PartShown.{PartShown}
@@ -14,7 +17,10 @@ use Rattle.sb_machine.specs.declared.look.TransactionShown.{TransactionShown}
 use Rattle.sb_machine.specs.declared.look.View.{View}
 use Rattle.sb_machine.specs.declared.look.View.TheVariants as seen
 use Rattle.sb_machine.specs.declared.reply.Answered.TheVariants.{New}
-use Rattle.sb_machine.specs.declared.reply.Reply.TheVariants.{Seen}
+use Rattle.sb_machine.specs.declared.reply.Receipt.TheVariants.{Number, Duplicate}
+use Rattle.sb_machine.specs.declared.reply.Reply.TheVariants.{Seen, Together as Told}
+use Rattle.sb_machine.specs.declared.reply.StepReply.{StepReply}
+use Rattle.sb_machine.specs.declared.reply.StepReply.TheVariants.{Done, Sent}
 use Rattle.sb_machine.specs.declared.rule.Conditions.{Conditions}
 use Rattle.sb_machine.specs.declared.state.EntityKind.TheVariants.{Queue, Subscription}
 use Rattle.sb_machine.specs.Namespace.{default_description, entity_path, subscription_path}
@@ -94,6 +100,40 @@ waiting_session = record { id = codes "s1"; until = None; state_bytes = 0; ready
 abbrev pub open_transactions : List TransactionShown
 open_transactions = record { number = 1; entity = Some (entity_path (codes "orders")); deadline = 120000; operations = 2 } ∷ record { number = 2; entity = None; deadline = 120001; operations = 0 } ∷ []
 
+-- ---- clients
+
+-- the client shop-7 is forgotten: this is asked by nobody at 0
+abbrev pub forgets : Result Line (List ℕ)
+forgets = asks_for (ForgetClient (codes "shop-7")) Plain 0
+
+-- the same at 5, as its third call asked by the client ops
+abbrev pub ops_forgets : Result Line (List ℕ)
+ops_forgets = Ok (record { timed = record { reading = 5; call = record { by = Some (record { client = codes "ops"; number = 3 }); act = ForgetClient (codes "shop-7") } }; form = Plain; wait_s = 0 })
+
+-- two clients that are remembered
+abbrev pub two_clients : List ClientShown
+two_clients = record { client = codes "shop-7"; number = 12 } ∷ record { client = codes "shop-8"; number = 1 } ∷ []
+
+-- ---- operations that act together
+
+-- a send of no messages to q
+abbrev pub sends_nothing : Step
+sends_nothing = Send q []
+
+-- these act together on q: this is asked by nobody at 0
+abbrev pub acts_together : List Step → Result Line (List ℕ)
+acts_together steps = asks_for (Together q steps) Plain 0
+
+-- a settlement, a send of two messages of which the second is a duplicate, and a send of none
+abbrev pub three_replies : List StepReply
+three_replies = Done ∷ Sent (Number 3 ∷ Duplicate ∷ []) ∷ Sent [] ∷ []
+
+-- ---- lines of replies
+
 -- the line that shows this
 abbrev pub line_of_view : View → List ℕ
 line_of_view view = answer_line Plain (Ok (New (Seen view)))
+
+-- the line that tells what became of operations that acted together
+abbrev pub line_of_replies : List StepReply → List ℕ
+line_of_replies replies = answer_line Plain (Ok (New (Told replies)))

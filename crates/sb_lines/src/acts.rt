@@ -9,41 +9,14 @@ use crate::fault::LineFault;
 use crate::in_line::{InLine, Shown, Waiting};
 use crate::keys::{Address, EntityAddress, ModeWord, Named, Number, TokenText, Whole, Words};
 use crate::looks::look_act;
-use crate::messages::{Bytes, Correlation, Messages};
+use crate::messages::{Correlation, Messages};
+use crate::settlements::{Reasons, Remembered, Settled, WhichOne};
+use crate::steps::Operations;
 use crate::table::{AtMostOne, Both, Either, Field, OneOf, Optional, object_of};
-use sb_machine::{Act, Conditions, FilterText, How, Which};
+use sb_machine::{Act, Conditions, FilterText, How};
 use sb_model::Text;
 use serde_json::Value;
 use std::alloc::Global;
-
-fn which_of(said: Either<u64, Text>) -> Which
-    ensures { result ≡ lines.which_of said }
-{
-    match said {
-        Either::First(number) => Which::Number(number),
-        Either::Second(id) => Which::Id(id),
-    }
-}
-
-/// A copy, by its number or by its id.
-struct WhichOne;
-
-impl Field for WhichOne {
-    type Value = Which;
-
-    ghost field = { λ _. lines.which };
-
-    #[tactic(auto, unfolding(crate::specs::Lines::which))]
-    fn knows(&self, key: &str) -> bool {
-        key == "seq" || key == "id"
-    }
-
-    #[tactic(auto, unfolding(crate::specs::Lines::which))]
-    fn read(&self, alloc: Global, value: &Value) -> Result<Which, LineFault> {
-        let said = OneOf(AtMostOne("seq", Number("seq"), "id", Words("id"))).read(alloc, value)?;
-        Ok(which_of(said))
-    }
-}
 
 fn filter_of(said: Either<Text, Conditions>) -> FilterText
     ensures { result ≡ lines.filter_of said }
@@ -272,19 +245,7 @@ fn settle(alloc: Global, value: &Value, how: How) -> Result<Act, LineFault>
     let (from, (which, (token, (session, txn)))) = object_of(
         alloc,
         value,
-        &InLine(Both(
-            Address("from"),
-            Both(
-                WhichOne,
-                Both(
-                    TokenText("token"),
-                    Both(
-                        Optional("session", TokenText("session")),
-                        Optional("txn", Number("txn")),
-                    ),
-                ),
-            ),
-        )),
+        &InLine(Settled(Optional("txn", Number("txn")))),
     )?;
     Ok(Act::Settle {
         from,
@@ -303,25 +264,7 @@ fn dead_letter(alloc: Global, value: &Value) -> Result<Act, LineFault>
     let (from, (which, (token, (session, (txn, (reason, description)))))) = object_of(
         alloc,
         value,
-        &InLine(Both(
-            Address("from"),
-            Both(
-                WhichOne,
-                Both(
-                    TokenText("token"),
-                    Both(
-                        Optional("session", TokenText("session")),
-                        Both(
-                            Optional("txn", Number("txn")),
-                            Both(
-                                Optional("reason", Words("reason")),
-                                Optional("description", Words("description")),
-                            ),
-                        ),
-                    ),
-                ),
-            ),
-        )),
+        &InLine(Settled(Both(Optional("txn", Number("txn")), Reasons))),
     )?;
     Ok(Act::Settle {
         from,
@@ -395,15 +338,12 @@ fn session_close(alloc: Global, value: &Value) -> Result<Act, LineFault>
 fn session_set(alloc: Global, value: &Value) -> Result<Act, LineFault>
     ensures { Answers result (lines.session_set (view value.now)) }
 {
-    row!(
-        alloc,
-        value,
-        SessionSet {
-            from: Address("from"),
-            session: TokenText("session"),
-            state: Bytes("state", "state_hex")
-        }
-    )
+    let (from, (session, state)) = object_of(alloc, value, &InLine(Remembered))?;
+    Ok(Act::SessionSet {
+        from,
+        session,
+        state,
+    })
 }
 
 #[tactic(auto, unfolding(crate::specs::Lines::session_state))]
@@ -447,6 +387,33 @@ fn rollback(alloc: Global, value: &Value) -> Result<Act, LineFault>
     row!(alloc, value, Rollback { txn: Number("txn") })
 }
 
+#[tactic(auto, unfolding(crate::specs::Lines::together))]
+fn together(alloc: Global, value: &Value) -> Result<Act, LineFault>
+    ensures { Answers result (lines.together (view value.now)) }
+{
+    row!(
+        alloc,
+        value,
+        Together {
+            entity: EntityAddress("entity"),
+            steps: Operations
+        }
+    )
+}
+
+#[tactic(auto, unfolding(crate::specs::Lines::forget_client))]
+fn forget_client(alloc: Global, value: &Value) -> Result<Act, LineFault>
+    ensures { Answers result (lines.forget_client (view value.now)) }
+{
+    row!(
+        alloc,
+        value,
+        ForgetClient {
+            client: Words("name")
+        }
+    )
+}
+
 #[tactic(auto, unfolding(crate::specs::Lines::peek))]
 fn peek(alloc: Global, value: &Value) -> Result<Act, LineFault>
     ensures { Answers result (lines.peek (view value.now)) }
@@ -472,7 +439,7 @@ fn counts(alloc: Global, value: &Value) -> Result<Act, LineFault>
     )
 }
 
-// Of transactions, or of what follows.
+// Of transactions and of clients, or of what follows.
 #[tactic(auto, unfolding(crate::specs::Lines::transaction_act))]
 fn transaction_act(alloc: Global, value: &Value, word: &str) -> Result<Act, LineFault>
     ensures { Answers result (lines.transaction_act word.now (view value.now)) }
@@ -481,6 +448,8 @@ fn transaction_act(alloc: Global, value: &Value, word: &str) -> Result<Act, Line
         "begin" => begin(alloc, value),
         "commit" => commit(alloc, value),
         "rollback" => rollback(alloc, value),
+        "together" => together(alloc, value),
+        "forget-client" => forget_client(alloc, value),
         _ => look_act(alloc, value, word),
     }
 }

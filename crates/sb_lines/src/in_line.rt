@@ -1,4 +1,4 @@
-// The keys that a line may have beside those of its act.
+// The keys that a line, or an operation of one, may have beside those of its act.
 ghost use Rattle.std.specs.Prelude.{◌≡◌};
 ghost use Rattle.sb_lines.specs.Lines as lines;
 
@@ -51,6 +51,23 @@ impl<F: Field> Field for Waiting<F> {
 
     fn knows(&self, key: &str) -> bool {
         self.0.knows(key) || key == "wait"
+    }
+
+    fn read(&self, alloc: Global, value: &Value) -> Result<F::Value, LineFault> {
+        self.0.read(alloc, value)
+    }
+}
+
+/// Fields of an operation that acts together with others, beside its word.
+pub(crate) struct InStep<F>(pub F);
+
+impl<F: Field> Field for InStep<F> {
+    type Value = F::Value;
+
+    ghost field = { λ f. lines.in_step (F.field f.0) };
+
+    fn knows(&self, key: &str) -> bool {
+        key == "do" || self.0.knows(key)
     }
 
     fn read(&self, alloc: Global, value: &Value) -> Result<F::Value, LineFault> {

@@ -3,12 +3,11 @@ ghost use Rattle.std.specs.Prelude.{◌≡◌};
 ghost use Rattle.serde_json.specs.View.{view};
 ghost use Rattle.sb_lines.specs.Faults.{Answers};
 ghost use Rattle.sb_lines.specs.Lines as lines;
-ghost use Rattle.sb_lines.specs.Tables as tables;
 
 use crate::fault::{LineFault, bad};
 use crate::in_line::InLine;
 use crate::keys::{EntityAddress, Named, Whole, Words};
-use crate::table::{Both, Field, Optional, object_of};
+use crate::table::{Both, Nothing, Optional, object_of};
 use sb_machine::{Act, Look};
 use serde_json::Value;
 use std::alloc::Global;
@@ -17,7 +16,11 @@ use std::alloc::Global;
 pub(crate) fn is_look(word: &str) -> bool
     ensures { result ≡ lines.is_look word.now }
 {
-    word == "list" || word == "describe" || word == "sessions" || word == "transactions"
+    word == "list"
+        || word == "describe"
+        || word == "sessions"
+        || word == "transactions"
+        || word == "clients"
 }
 
 /// The look of this name, with its fields.
@@ -30,6 +33,7 @@ pub(crate) fn look_act(alloc: Global, value: &Value, word: &str) -> Result<Act, 
         "describe" => describe(alloc, value),
         "sessions" => sessions(alloc, value),
         "transactions" => transactions(alloc, value),
+        "clients" => clients(alloc, value),
         _ => bad(alloc, "do"),
     }
 }
@@ -79,28 +83,24 @@ fn sessions(alloc: Global, value: &Value) -> Result<Act, LineFault>
     Ok(Act::Look { what })
 }
 
-/// No fields.
-struct Nothing;
-
-impl Field for Nothing {
-    type Value = ();
-
-    ghost field = { λ _. tables.nothing };
-
-    fn knows(&self, _key: &str) -> bool {
-        false
-    }
-
-    fn read(&self, _alloc: Global, _value: &Value) -> Result<(), LineFault> {
-        Ok(())
-    }
-}
-
 #[tactic(auto, unfolding(crate::specs::Lines::transactions))]
 fn transactions(alloc: Global, value: &Value) -> Result<Act, LineFault>
     ensures { Answers result (lines.transactions (view value.now)) }
 {
     object_of(alloc, value, &InLine(Nothing))?;
     let what = Look::Transactions;
+    Ok(Act::Look { what })
+}
+
+#[tactic(auto, unfolding(crate::specs::Lines::clients))]
+fn clients(alloc: Global, value: &Value) -> Result<Act, LineFault>
+    ensures { Answers result (lines.clients (view value.now)) }
+{
+    let (after, count) = object_of(
+        alloc,
+        value,
+        &InLine(Both(Optional("after", Words("after")), Whole("count"))),
+    )?;
+    let what = Look::Clients { after, count };
     Ok(Act::Look { what })
 }

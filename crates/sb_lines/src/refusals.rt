@@ -70,6 +70,7 @@ pub fn refusal_value(alloc: Global, refusal: &Refusal) -> Result<Value, AllocErr
         Refusal::StaleNumber { kept } => with_number(alloc, "StaleNumber", "kept", *kept),
         Refusal::NumberReused => plain(alloc, "NumberReused"),
         Refusal::ClientsFull => plain(alloc, "ClientsFull"),
+        Refusal::ClientNotFound => plain(alloc, "ClientNotFound"),
         Refusal::TxnsFull => plain(alloc, "TxnsFull"),
         Refusal::Exhausted => plain(alloc, "Exhausted"),
         Refusal::DiskFault => plain(alloc, "DiskFault"),

@@ -13,10 +13,10 @@ use crate::members::{
 };
 use crate::shown::shown_value;
 use crate::views::{
-    description_value, entities_value, forwards_value, kind_name, rules_value, sessions_value,
-    transactions_value,
+    clients_value, description_value, entities_value, forwards_value, kind_name, rules_value,
+    sessions_value, transactions_value,
 };
-use sb_machine::{CopyShown, Described, Part, Receipt, Reply, Token, View};
+use sb_machine::{CopyShown, Described, Part, Receipt, Reply, StepReply, Token, View};
 use sb_model::{Rows, Text};
 use serde_json::{Map, Value, put};
 use std::alloc::{AllocError, Global};
@@ -48,6 +48,33 @@ fn receipts_value(alloc: Global, receipts: &[Receipt]) -> Result<Value, AllocErr
     let mut items = Vec::new(alloc);
     for receipt in receipts {
         items.push(receipt_value(*receipt))?;
+    }
+    Ok(Value::Array(items))
+}
+
+fn sent_value(alloc: Global, receipts: &[Receipt]) -> Result<Value, AllocError>
+    ensures { IfOk result (λ v. view v ≡ replies.sent_data receipts.now) }
+{
+    let numbers = receipts_value(alloc, receipts)?;
+    said_with(alloc, "sent", "numbers", numbers)
+}
+
+fn step_value(alloc: Global, reply: &StepReply) -> Result<Value, AllocError>
+    ensures { IfOk result (λ v. view v ≡ replies.step_data reply.now) }
+{
+    match reply {
+        StepReply::Done => said(alloc, "done"),
+        StepReply::Sent(receipts) => sent_value(alloc, receipts.as_slice()),
+    }
+}
+
+fn steps_value(alloc: Global, steps: &[StepReply]) -> Result<Value, AllocError>
+    ensures { IfOk result (λ v. view v ≡ array (items_of (map replies.step_data steps.now))) }
+{
+    let mut items = Vec::new(alloc);
+    for step in steps {
+        let told = step_value(alloc, step)?;
+        items.push(told)?;
     }
     Ok(Value::Array(items))
 }
@@ -162,6 +189,10 @@ fn seen_value(alloc: Global, seen: &View) -> Result<Value, AllocError>
             let list = transactions_value(alloc, transactions.as_slice())?;
             said_with(alloc, "transactions", "transactions", list)
         }
+        View::Clients(clients) => {
+            let list = clients_value(alloc, clients.as_slice())?;
+            said_with(alloc, "clients", "clients", list)
+        }
     }
 }
 
@@ -171,10 +202,7 @@ pub(crate) fn reply_value(alloc: Global, form: Form, reply: &Reply) -> Result<Va
 {
     match reply {
         Reply::Done => said(alloc, "done"),
-        Reply::Sent(receipts) => {
-            let numbers = receipts_value(alloc, receipts.as_slice())?;
-            said_with(alloc, "sent", "numbers", numbers)
-        }
+        Reply::Sent(receipts) => sent_value(alloc, receipts.as_slice()),
         Reply::Message(copy) => {
             let shown = shown_value(alloc, form, copy)?;
             said_with(alloc, "message", "message", shown)
@@ -192,6 +220,10 @@ pub(crate) fn reply_value(alloc: Global, form: Form, reply: &Reply) -> Result<Va
         Reply::Queued => said(alloc, "queued"),
         Reply::Committed => said(alloc, "committed"),
         Reply::Aborted { part, number } => aborted_value(alloc, *part, *number),
+        Reply::Together(steps) => {
+            let told = steps_value(alloc, steps.as_slice())?;
+            said_with(alloc, "together", "replies", told)
+        }
         Reply::Counts {
             main,
             dead,

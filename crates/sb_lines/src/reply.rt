@@ -43,6 +43,15 @@ fn line_text(alloc: Global, value: &Value) -> Result<String, AllocError>
     Ok(text)
 }
 
+/// The object of a reply, which shows copies in this form, as the line has it without its line feed. It fails for
+/// want of memory alone.
+pub fn reply_text(alloc: Global, form: Form, reply: &Reply) -> Result<String, AllocError>
+    ensures { IfOk result (λ s. string_bytes s ≡ replies.reply_text form reply.now) }
+{
+    let value = reply_value(alloc, form, reply)?;
+    compact(alloc, &value)
+}
+
 /// The line of a reply, with its line feed, which shows copies in this form. It fails for want of
 /// memory alone.
 pub fn reply_line(alloc: Global, form: Form, answer: &Answer) -> Result<String, AllocError>

@@ -31,6 +31,23 @@ pub(crate) trait Field {
         ensures { Answers result ((field self.now).reads (view value.now)) };
 }
 
+/// No fields.
+pub(crate) struct Nothing;
+
+impl Field for Nothing {
+    type Value = ();
+
+    ghost field = { λ _. tables.nothing };
+
+    fn knows(&self, _key: &str) -> bool {
+        false
+    }
+
+    fn read(&self, _alloc: Global, _value: &Value) -> Result<(), LineFault> {
+        Ok(())
+    }
+}
+
 /// These, the first one's faults before the second's.
 pub(crate) struct Both<F, G>(pub F, pub G);
 

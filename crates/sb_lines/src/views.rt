@@ -7,8 +7,8 @@ ghost use Rattle.sb_lines.specs.Views as views;
 use crate::members::{Members, put_number, put_text};
 use crate::shown::{properties_value, texts_value};
 use sb_machine::{
-    Conditions, Described, Description, EntityKind, EntityShown, FilterText, PartShown, Path,
-    RuleShown, SessionShown, TransactionShown,
+    ClientShown, Conditions, Described, Description, EntityKind, EntityShown, FilterText,
+    PartShown, Path, RuleShown, SessionShown, TransactionShown,
 };
 use sb_model::Text;
 use serde_json::{Map, Value, put};
@@ -328,7 +328,7 @@ pub(crate) fn rules_value(alloc: Global, rules: &[RuleShown]) -> Result<Value, A
     Ok(Value::Array(items))
 }
 
-// ---- sessions and transactions
+// ---- sessions, transactions, clients
 
 fn session_value(alloc: Global, session: &SessionShown) -> Result<Value, AllocError>
     ensures { IfOk result (λ v. view v ≡ views.session_data session.now) }
@@ -373,6 +373,26 @@ pub(crate) fn transactions_value(
     let mut items = Vec::new(alloc);
     for transaction in transactions {
         let shown = transaction_value(alloc, transaction)?;
+        items.push(shown)?;
+    }
+    Ok(Value::Array(items))
+}
+
+fn client_value(alloc: Global, client: &ClientShown) -> Result<Value, AllocError>
+    ensures { IfOk result (λ v. view v ≡ views.client_data client.now) }
+{
+    let mut members = Map::new(alloc);
+    put_text(&mut members, alloc, "client", client.client.as_str())?;
+    put_number(&mut members, alloc, "number", client.number)?;
+    Ok(Value::Object(members))
+}
+
+pub(crate) fn clients_value(alloc: Global, clients: &[ClientShown]) -> Result<Value, AllocError>
+    ensures { IfOk result (λ v. view v ≡ views.clients_data clients.now) }
+{
+    let mut items = Vec::new(alloc);
+    for client in clients {
+        let shown = client_value(alloc, client)?;
         items.push(shown)?;
     }
     Ok(Value::Array(items))

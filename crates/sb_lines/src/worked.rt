@@ -2,9 +2,11 @@
 ghost use Rattle.std.specs.Prelude.{◌≡◌, codes, [], ◌∷◌, Some, None, Err};
 ghost use Rattle.sb_machine.specs.declared.look.Look.TheVariants as look;
 ghost use Rattle.sb_machine.specs.declared.look.View.TheVariants as seen;
+ghost use Rattle.sb_machine.specs.declared.reply.Refusal.TheVariants.{ClientNotFound};
 ghost use Rattle.sb_lines.specs.declared.form.Form.TheVariants.{Plain, Amqp};
 ghost use Rattle.sb_lines.specs.Lines.{line_of};
-ghost use Rattle.sb_lines.specs.Worked.{receives, accepts, q, eu, looks_at, line_of_view, orders_shown, forwarding, dear_things, correlated, asks_for_rule, waiting_session, open_transactions};
+ghost use Rattle.sb_lines.specs.Replies.{answer_line};
+ghost use Rattle.sb_lines.specs.Worked.{receives, accepts, q, eu, looks_at, line_of_view, orders_shown, forwarding, dear_things, correlated, asks_for_rule, waiting_session, open_transactions, forgets, ops_forgets, two_clients, acts_together, sends_nothing, line_of_replies, three_replies};
 
 /// The definitions say of these lines how long they wait, as was worked out by hand.
 pub fn worked_waits()
@@ -42,4 +44,39 @@ pub fn worked_views()
     ensures read_back { line_of (codes "{\"do\":\"create-rule\",\"topic\":\"t\",\"subscription\":\"s\",\"name\":\"r\",\"correlation\":{\"props\":{\"a\":1,\"b\":true},\"sys\":{\"Label\":\"l\",\"To\":\"t\"}}}") ≡ asks_for_rule }
     ensures sessions { line_of_view (seen.Sessions (waiting_session ∷ [])) ≡ codes "{\"ok\":\"sessions\",\"sessions\":[{\"id\":\"s1\",\"ready\":2,\"state_bytes\":0,\"until\":null}]}\n" }
     ensures transactions { line_of_view (seen.Transactions open_transactions) ≡ codes "{\"ok\":\"transactions\",\"transactions\":[{\"deadline\":120000,\"entity\":\"orders\",\"operations\":2,\"txn\":1},{\"deadline\":120001,\"entity\":null,\"operations\":0,\"txn\":2}]}\n" }
+{}
+
+/// The definitions say of these lines that clients are looked at or forgotten, and show them so.
+pub fn worked_clients()
+    ensures first { line_of (codes "{\"do\":\"clients\",\"count\":10}") ≡ looks_at (look.Clients None 10) }
+    ensures behind { line_of (codes "{\"do\":\"clients\",\"after\":\"Shop-1\",\"count\":1}") ≡ looks_at (look.Clients (Some (codes "Shop-1")) 1) }
+    ensures uncounted { line_of (codes "{\"do\":\"clients\",\"after\":\"shop-1\"}") ≡ Err (codes "count") }
+    ensures after_first { line_of (codes "{\"do\":\"clients\",\"after\":1}") ≡ Err (codes "after") }
+    ensures unnumbered { line_of (codes "{\"do\":\"clients\",\"count\":1,\"client\":\"c\",\"number\":1}") ≡ Err (codes "client") }
+    ensures forget { line_of (codes "{\"do\":\"forget-client\",\"name\":\"shop-7\"}") ≡ forgets }
+    ensures numbered { line_of (codes "{\"do\":\"forget-client\",\"name\":\"shop-7\",\"client\":\"ops\",\"number\":3,\"at\":5}") ≡ ops_forgets }
+    ensures nameless { line_of (codes "{\"do\":\"forget-client\"}") ≡ Err (codes "name") }
+    ensures unknown { line_of (codes "{\"do\":\"forget-client\",\"name\":\"shop-7\",\"count\":1}") ≡ Err (codes "count") }
+    ensures shown { line_of_view (seen.Clients two_clients) ≡ codes "{\"clients\":[{\"client\":\"shop-7\",\"number\":12},{\"client\":\"shop-8\",\"number\":1}],\"ok\":\"clients\"}\n" }
+    ensures none { line_of_view (seen.Clients []) ≡ codes "{\"clients\":[],\"ok\":\"clients\"}\n" }
+    ensures refused { answer_line Plain (Err ClientNotFound) ≡ codes "{\"refused\":\"ClientNotFound\"}\n" }
+{}
+
+/// The definitions say of these lines which operations act together, and tell so what became of them.
+pub fn worked_together()
+    ensures none { line_of (codes "{\"do\":\"together\",\"entity\":\"q\",\"operations\":[]}") ≡ acts_together [] }
+    ensures two { line_of (codes "{\"do\":\"together\",\"entity\":\"q\",\"operations\":[{\"do\":\"send\",\"to\":\"q\",\"messages\":[]},{\"do\":\"send\",\"to\":\"q\",\"messages\":[]}]}") ≡ acts_together (sends_nothing ∷ sends_nothing ∷ []) }
+    ensures other_entity { line_of (codes "{\"do\":\"together\",\"entity\":\"q/$deadletterqueue\",\"operations\":1}") ≡ Err (codes "entity") }
+    ensures left_out { line_of (codes "{\"do\":\"together\",\"entity\":\"q\"}") ≡ Err (codes "operations") }
+    ensures no_list { line_of (codes "{\"do\":\"together\",\"entity\":\"q\",\"operations\":{\"do\":\"send\",\"to\":\"q\",\"messages\":[]}}") ≡ Err (codes "operations") }
+    ensures no_object { line_of (codes "{\"do\":\"together\",\"entity\":\"q\",\"operations\":[1]}") ≡ Err (codes "operations") }
+    ensures wordless { line_of (codes "{\"do\":\"together\",\"entity\":\"q\",\"operations\":[{\"to\":\"q\",\"messages\":[]}]}") ≡ Err (codes "operations") }
+    ensures other_act { line_of (codes "{\"do\":\"together\",\"entity\":\"q\",\"operations\":[{\"do\":\"receive\",\"from\":\"q\"}]}") ≡ Err (codes "operations") }
+    ensures within { line_of (codes "{\"do\":\"together\",\"entity\":\"q\",\"operations\":[{\"do\":\"send\",\"to\":\"q\"}]}") ≡ Err (codes "messages") }
+    ensures first { line_of (codes "{\"do\":\"together\",\"entity\":\"q\",\"operations\":[{\"do\":\"send\",\"to\":\"q\",\"messages\":[]},{\"do\":\"session-set\"},{\"do\":\"receive\"}]}") ≡ Err (codes "from") }
+    ensures in_transaction { line_of (codes "{\"do\":\"together\",\"entity\":\"q\",\"operations\":[{\"do\":\"send\",\"to\":\"q\",\"messages\":[],\"txn\":1}]}") ≡ Err (codes "txn") }
+    ensures numbered { line_of (codes "{\"do\":\"together\",\"entity\":\"q\",\"operations\":[{\"do\":\"complete\",\"client\":\"c\",\"number\":1,\"from\":\"q\"}]}") ≡ Err (codes "client") }
+    ensures timed { line_of (codes "{\"do\":\"together\",\"entity\":\"q\",\"operations\":[{\"at\":1,\"do\":\"dead-letter\",\"from\":\"q\"}]}") ≡ Err (codes "at") }
+    ensures unknown { line_of (codes "{\"do\":\"together\",\"entity\":\"q\",\"operations\":1,\"txn\":1}") ≡ Err (codes "txn") }
+    ensures told { line_of_replies three_replies ≡ codes "{\"ok\":\"together\",\"replies\":[{\"ok\":\"done\"},{\"numbers\":[3,null],\"ok\":\"sent\"},{\"numbers\":[],\"ok\":\"sent\"}]}\n" }
 {}

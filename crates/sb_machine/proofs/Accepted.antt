@@ -1,11 +1,11 @@
 -- A call that the machine accepts with an event has passed its tests.
-use Rattle.std.proofs.Common.{◌≡◌, ℕ, List, [], ◌∷◌, length, Bool, true, false, ◌&&◌, nat_le, cond, Option, Some, None, refl}
-use Rattle.std.specs.Prelude.{is_none, is_some, ◌||◌, nat_lt, ◌==◌}
+use Rattle.std.proofs.Common.{◌≡◌, ℕ, List, [], ◌∷◌, length, Bool, true, false, ◌&&◌, nat_le, cond, Option, Some, None, refl, sym, ◌∙◌}
+use Rattle.std.specs.Prelude.{is_none, is_some, ◌+◌, ◌||◌, nat_lt, ◌==◌, sum_by}
 use Rattle.std.specs.Option.{option_map}
 use Rattle.sb_machine.specs.Acts.{act_row, row_of, bad_call, is_via_in}
 use Rattle.sb_machine.specs.Administration.{create_row, create_subscription_row, create_rule_row, default_rule, rule_in, counts_row, bad_description, are_rule_names, filter_of, action_of, large_filter, read_or}
 use Rattle.sb_machine.specs.Answers.{is_change}
-use Rattle.sb_machine.specs.Changes.{is_numbered}
+use Rattle.sb_machine.specs.Changes.{after_all, is_numbered}
 use Rattle.sb_machine.specs.Claims.{has_sessions}
 use Rattle.sb_machine.specs.Consistent.{IsConsistent}
 use Rattle.sb_machine.specs.Descriptions.{bad_in_description}
@@ -19,25 +19,29 @@ use Rattle.sb_machine.specs.Namespace.{entity_at, entity_path, subscription_path
 use Rattle.sb_machine.specs.Ordered.{IsActInOrder}
 use Rattle.sb_machine.specs.Looks.{described, look_row, sessions_shown}
 use Rattle.sb_machine.specs.Receiving.{peek_row, peeked}
-use Rattle.sb_machine.specs.Repeats.{Outcome, refused, repeated, acted, of_row, by_number, for_client, kept_for, max_clients, client_of, outcome_of}
+use Rattle.sb_machine.specs.Repeats.{Outcome, refused, repeated, acted, forgot, of_answer, of_row, with_clients, by_number, for_client, kept_for, max_clients, client_of, outcome_of}
 use Rattle.sb_machine.specs.Same.{same_act}
 use Rattle.sb_machine.specs.Rows.{Row, refuses, answers, refused_by, asks, found_or, absent_or, at_entity, numbered, is_topic}
-use Rattle.sb_machine.specs.Queueing.{open_in, is_open, has_room_in}
+use Rattle.sb_machine.specs.Queueing.{open_in, is_open, has_room_in, max_operations}
 use Rattle.sb_machine.specs.SendRow.{send_row, is_via, is_destination, have_sessions_at, sent_or_queued}
 use Rattle.sb_machine.specs.Sending.{too_large}
 use Rattle.sb_machine.specs.Sessions.{held_or, session_state_row, session_set_row, size_of, max_state}
+use Rattle.sb_machine.specs.Together.{are_addressed, behind, commit_steps, fitting, large_steps, step_weight, steps_row, then_row, together_row}
+use Rattle.sb_machine.specs.Transactions.{begin_row}
 use Rattle.sb_machine.specs.declared.call.Act.{Act}
-use Rattle.sb_machine.specs.declared.call.Act.TheVariants.{CreateQueue, CreateTopic, CreateSubscription, CreateRule, Delete, DeleteRule, Send, Cancel, Receive, ReceiveDeferred, Settle, Renew, Accept, SessionRenew, SessionClose, SessionSet, SessionState, Begin, Commit, Rollback, Peek, Counts, Look}
+use Rattle.sb_machine.specs.declared.call.Act.TheVariants.{CreateQueue, CreateTopic, CreateSubscription, CreateRule, Delete, DeleteRule, Send, Cancel, Receive, ReceiveDeferred, Settle, Renew, Accept, SessionRenew, SessionClose, SessionSet, SessionState, Begin, Commit, Rollback, Together, ForgetClient, Peek, Counts, Look}
 use Rattle.sb_machine.specs.declared.call.By.{By}
 use Rattle.sb_machine.specs.declared.call.Call.{Call}
 use Rattle.sb_machine.specs.declared.call.Description.{Description}
 use Rattle.sb_machine.specs.declared.call.Part.TheVariants.{Main}
 use Rattle.sb_machine.specs.declared.call.Path.{Path}
+use Rattle.sb_machine.specs.declared.call.Step.{Step}
 use Rattle.sb_machine.specs.declared.call.Token.{Token}
 use Rattle.sb_machine.specs.declared.call.FilterText.{FilterText}
 use Rattle.sb_machine.specs.declared.look.Look.{Look as Looked}
 use Rattle.sb_machine.specs.declared.look.Look.TheVariants as look
 use Rattle.sb_machine.specs.declared.look.View.TheVariants as seen
+use Rattle.sb_machine.specs.declared.change.Change.{Change}
 use Rattle.sb_machine.specs.declared.change.Change.TheVariants.{Makes, AddsRule}
 use Rattle.sb_machine.specs.declared.change.LeafChange.TheVariants.{Writes}
 use Rattle.sb_model.specs.declared.message.Message.{Message}
@@ -82,11 +86,13 @@ abbrev is_acted : Outcome → Bool
 is_acted (refused r) = false
 is_acted (repeated reply) = false
 is_acted (acted reply cs) = true
+is_acted (forgot name) = true
 
 change_acts : (by : Option By) (o : Outcome) → is_change by o ≡ true → is_acted o ≡ true
 change_acts by (refused r) e = absurd cc
 change_acts by (repeated reply) e = absurd cc
 change_acts by (acted reply cs) e = refl
+change_acts by (forgot name) e = refl
 
 cond_acts : (b : Bool) (x y : Outcome) → is_acted (cond b x y) ≡ true → is_acted x ≡ false → is_acted y ≡ true
 cond_acts true x y e none = absurd cc
@@ -111,20 +117,27 @@ client_acts : (by : Option By) (act : Act) (clients : List Kept) (next : Outcome
 client_acts None act clients next e = e
 client_acts (Some by) act clients next e = number_acts by act clients (kept_for by.client clients) next e
 
-row_acts : (row : Row) → is_acted (of_row row) ≡ true → is_answer row ≡ true
-row_acts (refuses r) e = absurd cc
-row_acts (answers reply cs) e = refl
-
-row_changes : (row : Row) → is_change None (of_row row) ≡ true → has_changes row ≡ true
-row_changes (refuses r) e = absurd cc
-row_changes (answers reply []) e = absurd cc
-row_changes (answers reply (c ∷ cs)) e = refl
+row_acts : (clients : List Kept) (act : Act) (row : Row) → is_acted (of_row clients act row) ≡ true → is_answer row ≡ true
+row_acts clients act (refuses r) e = absurd cc
+row_acts clients act (answers reply cs) e = refl
 
 -- ---- acts that only look
 
-looked : (t : ℕ) (s : Space) (o : Option Refusal) (row : Row) → is_change None (of_row (numbered t s (refused_by o row))) ≡ true → Passes has_changes row
-looked t s o row e =
-    (refused_passed has_changes no_changes o row (record { is = numbered_changes t s (refused_by o row) (row_changes (numbered t s (refused_by o row)) e) })).1
+-- an act whose changes are those of its row
+abbrev ChangesAsRow : List Kept → Act → Type 0
+ChangesAsRow clients act = (reply : Reply) (cs : List Change) → is_change None (of_answer clients act reply cs) ≡ has_changes (answers reply cs)
+
+as_row : (told reply : Reply) (cs : List Change) → is_change None (acted told cs) ≡ has_changes (answers reply cs)
+as_row told reply [] = refl
+as_row told reply (c ∷ cs) = refl
+
+row_changes : (clients : List Kept) (act : Act) (row : Row) → ChangesAsRow clients act → is_change None (of_row clients act row) ≡ true → has_changes row ≡ true
+row_changes clients act (refuses r) same e = absurd cc
+row_changes clients act (answers reply cs) same e = sym (same reply cs) ∙ e
+
+looked : (clients : List Kept) (act : Act) (t : ℕ) (s : Space) (o : Option Refusal) (row : Row) → ChangesAsRow clients act → is_change None (of_row clients act (numbered t s (refused_by o row))) ≡ true → Passes has_changes row
+looked clients act t s o row same e =
+    (refused_passed has_changes no_changes o row (record { is = numbered_changes t s (refused_by o row) (row_changes clients act (numbered t s (refused_by o row)) same e) })).1
 
 no_change : (reply : Reply) → Passes has_changes (answers reply []) → ⊥
 no_change reply e = let never : false ≡ true = e.is in absurd cc
@@ -151,6 +164,7 @@ no_sight s (look.Sessions path after count) e =
     let a = at_entity_passed has_changes no_changes s path next e in
     no_change _ (asks_passed has_changes no_changes (has_sessions a.1.0 Main) SessionNotAllowed (answers (Seen (seen.Sessions (sessions_shown after count a.1.0.main))) []) a.1.1).1
 no_sight s look.Transactions e = no_change _ e
+no_sight s (look.Clients after count) e = no_change _ e
 
 -- what changes something takes a client's number
 coded : (s : State) (t : ℕ) (by : Option By) (act : Act) → is_change (client_of (record { by = by; act = act })) (outcome_of s t (record { by = by; act = act })) ≡ true → takes_number act ≡ true
@@ -170,13 +184,15 @@ coded s t by (Accept from id) e = refl
 coded s t by (SessionRenew from session) e = refl
 coded s t by (SessionClose from session) e = refl
 coded s t by (SessionSet from session state) e = refl
-coded s t by (SessionState from session) e = absurd (no_state s.space t from session (looked t s.space _ (session_state_row s.space t from session) e))
+coded s t by (SessionState from session) e = absurd (no_state s.space t from session (looked s.clients (SessionState from session) t s.space _ (session_state_row s.space t from session) (λ reply cs. as_row reply reply cs) e))
 coded s t by (Begin entity) e = refl
 coded s t by (Commit txn) e = refl
 coded s t by (Rollback txn) e = refl
-coded s t by (Peek from start count) e = absurd (no_look s.space from start count (looked t s.space _ (peek_row s.space from start count) e))
-coded s t by (Counts entity) e = absurd (no_count s.space entity (looked t s.space _ (counts_row s.space entity) e))
-coded s t by (Look what) e = absurd (no_sight s.space what (looked t s.space _ (look_row s.space what) e))
+coded s t by (Together entity steps) e = refl
+coded s t by (ForgetClient name) e = refl
+coded s t by (Peek from start count) e = absurd (no_look s.space from start count (looked s.clients (Peek from start count) t s.space _ (peek_row s.space from start count) (λ reply cs. as_row reply reply cs) e))
+coded s t by (Counts entity) e = absurd (no_count s.space entity (looked s.clients (Counts entity) t s.space _ (counts_row s.space entity) (λ reply cs. as_row reply reply cs) e))
+coded s t by (Look what) e = absurd (no_sight s.space what (looked s.clients (Look what) t s.space _ (look_row s.space what) (λ reply cs. as_row (with_clients s.clients what reply) reply cs) e))
 
 -- ---- what each act's row tests
 
@@ -265,6 +281,30 @@ state_tested s t from token state e =
     let c = held_passed is_answer no_answer (held a.1.0) (sized a.1.0) b.1 in
     (a.0, (asked_by (nat_le (size_of state) max_state) (TooLarge (size_of state)) (written a.1.0 c.0) c.1).0)
 
+behind_passed : (cs : List Change) (row : Row) → Passes is_answer (behind cs row) → Passes is_answer row
+behind_passed cs (refuses r) e = absurd (no_answer r e.is)
+behind_passed cs (answers reply ds) e = record { is = refl }
+
+then_passed : (t : ℕ) (s : Space) (row : Row) (next : Space → Row) → Passes is_answer (then_row t s row next) → Passes is_answer row × ((later : Space) × Passes is_answer (next later))
+then_passed t s (refuses r) next e = absurd (no_answer r e.is)
+then_passed t s (answers reply cs) next e = (record { is = refl }, (after_all t cs s, behind_passed cs (next (after_all t cs s)) e))
+
+none_large : (o : Option ℕ) → option_map (λ size. TooLarge size) o ≡ None → is_none o ≡ true
+none_large None e = refl
+none_large (Some size) e = absurd cc
+
+together_tested : (s : Space) (t : ℕ) (entity : Path) (steps : List Step) → Passes is_answer (together_row s t entity steps) → Tested (Together entity steps)
+together_tested s t entity steps e =
+    let last = steps_row t entity (s.last_txn + 1) (commit_steps t (s.last_txn + 1) steps) steps in
+    let begun = then_passed t s (begin_row s t entity) (λ later. fitting steps (last later)) e in
+    let named = asked_by (are_addressed steps) BadName _ begun.1.1 in
+    let few = asked_by (nat_le (sum_by step_weight steps) max_operations) TxnFull _ named.1 in
+    let small = refused_passed is_answer no_answer (option_map (λ size. TooLarge size) (large_steps steps)) (last begun.1.0) few.1 in (
+      both_true (is_address entity) (are_addressed steps) (addressed s entity _ begun.0) named.0,
+      refl,
+      both_true (nat_le (sum_by step_weight steps) max_operations) (is_none (large_steps steps)) few.0 (none_large (large_steps steps) small.0),
+    )
+
 row_tested : (s : Space) (t : ℕ) (a : Act) → Passes is_answer (act_row s t a) → Tested a
 row_tested s t (CreateQueue name d) e = let a = create_tested s Queue name d e in (a.0, a.1, refl)
 row_tested s t (CreateTopic name d) e = let a = create_tested s Topic name d e in (a.0, a.1, refl)
@@ -286,6 +326,8 @@ row_tested s t (SessionState from session) e = (addressed s from _ e, refl, refl
 row_tested s t (Begin entity) e = (addressed s entity _ e, refl, refl)
 row_tested s t (Commit txn) e = (refl, refl, refl)
 row_tested s t (Rollback txn) e = (refl, refl, refl)
+row_tested s t (Together entity steps) e = together_tested s t entity steps e
+row_tested s t (ForgetClient name) e = (refl, refl, refl)
 row_tested s t (Peek from start count) e = (addressed s from _ e, refl, refl)
 row_tested s t (Counts entity) e = (addressed s entity _ e, refl, refl)
 row_tested s t (Look what) e = (refl, refl, refl)
@@ -311,6 +353,8 @@ id_tested s t (SessionState from session) fits e = refl
 id_tested s t (Begin entity) fits e = refl
 id_tested s t (Commit txn) fits e = refl
 id_tested s t (Rollback txn) fits e = refl
+id_tested s t (Together entity steps) fits e = refl
+id_tested s t (ForgetClient name) fits e = refl
 id_tested s t (Peek from start count) fits e = refl
 id_tested s t (Counts entity) fits e = refl
 id_tested s t (Look what) fits e = refl
@@ -319,7 +363,7 @@ id_tested s t (Look what) fits e = refl
 pub changing_judged : (s : State) (t : ℕ) (call : Call) → IsConsistent s → IsActInOrder call.act → is_change (client_of call) (outcome_of s t call) ≡ true → IsJudged (is_via_in s.space call.act) call
 changing_judged s t call fits order changing =
     let row = row_of s.space t call.by call.act in
-    let answered = row_acts row (client_acts (client_of call) call.act s.clients (of_row row) (change_acts (client_of call) (outcome_of s t call) changing)) in
+    let answered = row_acts s.clients call.act row (client_acts (client_of call) call.act s.clients (of_row s.clients call.act row) (change_acts (client_of call) (outcome_of s t call) changing)) in
     let bad = bad_field (is_via_in s.space call.act) call.act call.by in
     let tested = refused_passed is_answer no_answer (bad_call bad) (act_row s.space t call.act) (record { is = numbered_answer t s.space (refused_by (bad_call bad) (act_row s.space t call.act)) answered }) in
     let passed = row_tested s.space t call.act tested.1 in

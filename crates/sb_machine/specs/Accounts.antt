@@ -15,7 +15,7 @@ use Rattle.sb_machine.specs.declared.reply.Answered.{Answered}
 use Rattle.sb_machine.specs.declared.reply.Refusal.{Refusal}
 use Rattle.sb_machine.specs.declared.state.Space.{Space}
 use Rattle.sb_machine.specs.Ends.{End, ends_in, spends_in, Noted, notes_in}
-use Rattle.sb_machine.specs.Repeats.{refused, repeated, acted, Outcome, outcome_of, client_of}
+use Rattle.sb_machine.specs.Repeats.{refused, repeated, acted, forgot, Outcome, outcome_of, client_of}
 
 -- ---- along a history
 
@@ -65,16 +65,26 @@ pub record Numbered : Type 0 where
   pub client : List ℕ
   pub number : ℕ
 
--- the client and number of a call that acted, where it has them
-abbrev pub acted_by : Option By → Outcome → List Numbered
-acted_by (Some by) (acted reply cs) = record { client = by.client; number = by.number } ∷ []
-acted_by (Some by) (refused r) = []
-acted_by (Some by) (repeated reply) = []
-acted_by None o = []
+-- what bears on a client's numbers: a call acts with one, or what is remembered of a client is forgotten
+pub data NumberUse : Type 0 where
+  acts : Numbered → NumberUse
+  forgets : List ℕ → NumberUse
 
--- the numbered calls of a history that acted, in order
-abbrev pub acted_numbers : Log → List Entry → List Numbered
-acted_numbers l h = each_outcome (λ t call answer o. acted_by (client_of call) o) (λ t. []) l h
+-- the client and number of a call that acted, where it has them
+abbrev pub acted_with : Option By → List NumberUse
+acted_with (Some by) = acts (record { client = by.client; number = by.number }) ∷ []
+acted_with None = []
+
+-- what a call's outcome does to clients' numbers
+abbrev pub uses_in : Option By → Outcome → List NumberUse
+uses_in by (refused r) = []
+uses_in by (repeated reply) = []
+uses_in by (acted reply cs) = acted_with by
+uses_in by (forgot name) = forgets name ∷ acted_with by
+
+-- the numbered calls of a history that acted, and the clients that it forgot, in order
+abbrev pub number_uses : Log → List Entry → List NumberUse
+number_uses l h = each_outcome (λ t call answer o. uses_in (client_of call) o) (λ t. []) l h
 
 -- the event of a call that changed the state
 abbrev pub event_of : ℕ → Call → Outcome → List Event

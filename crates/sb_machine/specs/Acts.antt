@@ -1,27 +1,30 @@
 -- What each act (an operation that a caller asks for) comes to, its fields judged first and the numbers that it gives last.
-use Rattle.std.specs.Prelude.{ℕ, Bool, false, Option, Some, None}
+use Rattle.std.specs.Prelude.{ℕ, Bool, false, [], Option, Some, None}
 use Rattle.sb_machine.specs.Administration.{create_row, create_subscription_row, create_rule_row, delete_row, delete_rule_row, counts_row}
 use Rattle.sb_machine.specs.Fields.{Key, bad_field}
 use Rattle.sb_machine.specs.Looks.{look_row}
 use Rattle.sb_machine.specs.Receiving.{receive_row, receive_deferred_row, cancel_row, peek_row}
-use Rattle.sb_machine.specs.Rows.{Row, refused_by, numbered}
+use Rattle.sb_machine.specs.Rows.{Row, answers, refused_by, numbered}
 use Rattle.sb_machine.specs.Sessions.{accept_row, session_renew_row, session_close_row, session_state_row, session_set_row}
 use Rattle.sb_machine.specs.Settlement.{renew_row}
 use Rattle.sb_machine.specs.Transactions.{begin_row, commit_row, rollback_row}
 use Rattle.sb_machine.specs.declared.call.Act.{Act}
-use Rattle.sb_machine.specs.declared.call.Act.TheVariants.{CreateQueue, CreateTopic, CreateSubscription, CreateRule, Delete, DeleteRule, Send, Cancel, Receive, ReceiveDeferred, Settle, Renew, Accept, SessionRenew, SessionClose, SessionSet, SessionState, Begin, Commit, Rollback, Peek, Counts, Look}
+use Rattle.sb_machine.specs.declared.call.Act.TheVariants.{CreateQueue, CreateTopic, CreateSubscription, CreateRule, Delete, DeleteRule, Send, Cancel, Receive, ReceiveDeferred, Settle, Renew, Accept, SessionRenew, SessionClose, SessionSet, SessionState, Begin, Commit, Rollback, Together, ForgetClient, Peek, Counts, Look}
 use Rattle.sb_machine.specs.declared.call.By.{By}
 use Rattle.sb_machine.specs.declared.reply.Refusal.{Refusal}
 use Rattle.sb_machine.specs.declared.reply.Refusal.TheVariants.{BadCall}
+use Rattle.sb_machine.specs.declared.reply.Reply.TheVariants.{Done}
 use Rattle.sb_machine.specs.declared.state.EntityKind.TheVariants.{Queue, Topic}
 use Rattle.sb_machine.specs.declared.state.Space.{Space}
 use Rattle.sb_machine.specs.Queueing.{open_in}
 use Rattle.sb_machine.specs.SendRow.{send_row, is_via}
+use Rattle.sb_machine.specs.Together.{together_row}
 use Rattle.sb_machine.specs.SettleRow.{settle_row}
 
 -- ---- an act
 
--- what each operation comes to at t in the namespace s, its fields taken for sound
+-- What each operation comes to at t in the namespace s, its fields taken for sound. Clients are remembered beside it: what comes of those that
+-- ask of clients is said where they are (Repeats).
 abbrev pub act_row : Space → ℕ → Act → Row
 act_row s t (CreateQueue name d) = create_row s Queue name d
 act_row s t (CreateTopic name d) = create_row s Topic name d
@@ -46,6 +49,8 @@ act_row s t (Rollback txn) = rollback_row s txn
 act_row s t (Peek from start count) = peek_row s from start count
 act_row s t (Counts entity) = counts_row s entity
 act_row s t (Look what) = look_row s what
+act_row s t (Together entity steps) = together_row s t entity steps
+act_row s t (ForgetClient name) = answers Done []
 
 -- the refusal of a call for a field that is outside its range
 abbrev pub bad_call : Key → Option Refusal

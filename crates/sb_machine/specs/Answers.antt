@@ -13,7 +13,8 @@ use Rattle.sb_machine.specs.declared.reply.Refusal.{Refusal}
 use Rattle.sb_machine.specs.declared.reply.Reply.{Reply}
 use Rattle.sb_machine.specs.declared.state.Kept.{Kept}
 use Rattle.sb_machine.specs.declared.state.State.{State}
-use Rattle.sb_machine.specs.Repeats.{refused, repeated, acted, Outcome, is_client, kept_for, client_of, outcome_of}
+use Rattle.sb_machine.specs.declared.reply.Reply.TheVariants.{Done}
+use Rattle.sb_machine.specs.Repeats.{refused, repeated, acted, forgot, Outcome, is_client, kept_for, client_of, outcome_of}
 
 -- the last moment that counts, in ms since 1970: the begin of the last day of the year 9999
 abbrev pub max_moment : ℕ
@@ -30,6 +31,7 @@ abbrev pub answer_in : Outcome → Result Answered Refusal
 answer_in (refused r) = Err r
 answer_in (repeated reply) = Ok (Repeated reply)
 answer_in (acted reply cs) = Ok (New reply)
+answer_in (forgot name) = Ok (New Done)
 
 -- what is remembered of a client: the number of its last call, that call and its reply
 abbrev pub kept_as : By → Act → Reply → Kept
@@ -44,6 +46,10 @@ abbrev pub keeping : Option By → Act → Reply → List Kept → List Kept
 keeping None act reply clients = clients
 keeping (Some by) act reply clients = with_kept (kept_as by act reply) clients
 
+-- the clients without this one
+abbrev pub without_client : List ℕ → List Kept → List Kept
+without_client name clients = changed (is_client name) (λ x. []) clients
+
 -- an accepted call with a client's number is kept; else what has no changes changes nothing
 abbrev pub is_change : Option By → Outcome → Bool
 is_change by (refused r) = false
@@ -51,12 +57,14 @@ is_change by (repeated reply) = false
 is_change (Some by) (acted reply cs) = true
 is_change None (acted reply []) = false
 is_change None (acted reply (c ∷ cs)) = true
+is_change by (forgot name) = true
 
--- the changes of an outcome; only one that acted has any
+-- the changes of an outcome to entities and transactions; only one that acted has any
 abbrev pub changes_of : Outcome → List Change
 changes_of (refused r) = []
 changes_of (repeated reply) = []
 changes_of (acted reply cs) = cs
+changes_of (forgot name) = []
 
 -- the state behind an outcome: the changes carried out and the reply remembered, where the call changed anything
 abbrev pub state_in : State → ℕ → Call → Outcome → State
@@ -66,6 +74,7 @@ state_in s t call (acted reply cs) =
     if is_change (client_of call) (acted reply cs)
     then record { now = t; clients = keeping (client_of call) call.act reply s.clients; space = after_all t cs s.space }
     else s
+state_in s t call (forgot name) = record { now = t; clients = keeping (client_of call) call.act Done (without_client name s.clients); space = s.space }
 
 -- what a call is answered in a state, at t
 abbrev pub answer_of : State → ℕ → Call → Result Answered Refusal

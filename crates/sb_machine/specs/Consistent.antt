@@ -4,7 +4,7 @@ use Rattle.std.specs.List.{flat_map}
 use Rattle.sb_machine.specs.Answers.{max_moment}
 use Rattle.sb_machine.specs.Changes.{max_number}
 use Rattle.sb_machine.specs.Delivery.{max_count}
-use Rattle.sb_machine.specs.Fields.{max_messages, bad_in_how, is_between, is_id, is_number}
+use Rattle.sb_machine.specs.Fields.{max_messages, max_steps, bad_in_how, is_between, is_id, is_number}
 use Rattle.sb_machine.specs.Judged.{IsJudged}
 use Rattle.sb_machine.specs.Keyed.{AreRising}
 use Rattle.sb_machine.specs.Names.{is_address, is_main, is_before, is_same_entity}
@@ -17,8 +17,10 @@ use Rattle.sb_machine.specs.declared.call.Part.TheVariants.{Main, Dead, Transfer
 use Rattle.sb_machine.specs.declared.change.LeafKey.{LeafKey}
 use Rattle.sb_machine.specs.declared.reply.CopyShown.{CopyShown}
 use Rattle.sb_machine.specs.declared.reply.Reply.{Reply}
-use Rattle.sb_machine.specs.declared.reply.Reply.TheVariants.{Sent, Copies, State as Remembers, Counts, Seen, Message as Given, Session as Accepted}
+use Rattle.sb_machine.specs.declared.reply.Reply.TheVariants.{Sent, Copies, State as Remembers, Counts, Seen, Message as Given, Session as Accepted, Together as Told}
 use Rattle.sb_machine.specs.declared.reply.Showing.{Showing}
+use Rattle.sb_machine.specs.declared.reply.StepReply.{StepReply}
+use Rattle.sb_machine.specs.declared.reply.StepReply.TheVariants.{Done as StepDone, Sent as StepSent}
 use Rattle.sb_machine.specs.declared.reply.Showing.TheVariants.{Removed, Locked, Browsed}
 use Rattle.sb_machine.specs.declared.state.Entity.{Entity}
 use Rattle.sb_machine.specs.declared.state.Kept.{Kept}
@@ -108,9 +110,15 @@ pub record IsGiven (c : CopyShown) : Type 0 where
   pub once : 1 ≤ c.delivery
   pub count : c.delivery ≤ max_count + 1
 
+-- what holds of the reply to one of the operations that acted together
+abbrev pub IsStepReply : StepReply → Type 0
+IsStepReply (StepSent receipts) = length receipts ≤ max_messages
+IsStepReply StepDone = Unit {0}
+
 -- what holds of a reply that is remembered for a client: it is never one of a call that only looks
 abbrev pub IsReply : Reply → Type 0
 IsReply (Sent receipts) = length receipts ≤ max_messages
+IsReply (Told replies) = (length replies ≤ max_steps) × Each IsStepReply replies
 IsReply (Given shown) = IsGiven shown
 IsReply (Accepted id token until) = is_id id ≡ true
 IsReply (Copies copies) = ⊥

@@ -1,5 +1,5 @@
 -- The first field of a call that is outside its range.
-use Rattle.std.specs.Prelude.{ℕ, List, [], ◌∷◌, length, Bool, true, false, nat_le, ◌&&◌, ◌||◌, not, if◌then◌else◌, codes, Option, Some, None, is_none}
+use Rattle.std.specs.Prelude.{ℕ, ◌==◌, List, [], ◌∷◌, length, Bool, true, false, nat_le, ◌&&◌, ◌||◌, not, if◌then◌else◌, bytes_eq, codes, Option, Some, None, is_none}
 use Rattle.std.specs.List.{list_all, list_any}
 use Rattle.std.specs.Str.{chars}
 use Rattle.sb_machine.specs.Changes.{max_number}
@@ -7,7 +7,7 @@ use Rattle.sb_model.specs.Effects.{text_limit, is_within, max_user_properties}
 use Rattle.sb_machine.specs.Names.{is_main, is_address, is_name_byte}
 use Rattle.sb_model.specs.SystemNames.{system_name}
 use Rattle.sb_machine.specs.declared.call.Act.{Act}
-use Rattle.sb_machine.specs.declared.call.Act.TheVariants.{CreateRule, Delete, Send, Cancel, ReceiveDeferred, Settle, Renew, Accept, SessionState, Begin, Commit, Rollback, Peek, Counts, Look}
+use Rattle.sb_machine.specs.declared.call.Act.TheVariants.{CreateRule, Delete, Send, Cancel, ReceiveDeferred, Settle, Renew, Accept, SessionState, Begin, Commit, Rollback, Together, ForgetClient, Peek, Counts, Look}
 use Rattle.sb_machine.specs.declared.call.By.{By}
 use Rattle.sb_machine.specs.declared.call.FilterText.{FilterText}
 use Rattle.sb_machine.specs.declared.call.FilterText.TheVariants.{Sql, Correlation}
@@ -15,7 +15,9 @@ use Rattle.sb_machine.specs.declared.call.How.{How}
 use Rattle.sb_machine.specs.declared.call.How.TheVariants.{Complete, Abandon, Defer, DeadLetter}
 use Rattle.sb_machine.specs.declared.call.Path.{Path}
 use Rattle.sb_machine.specs.declared.look.Look.{Look as Looked}
-use Rattle.sb_machine.specs.declared.look.Look.TheVariants.{Entities, Entity, Sessions, Transactions}
+use Rattle.sb_machine.specs.declared.look.Look.TheVariants.{Entities, Entity, Sessions, Transactions, Clients}
+use Rattle.sb_machine.specs.declared.call.Step.{Step}
+use Rattle.sb_machine.specs.declared.call.Step.TheVariants.{Send as StepSend, Settle as StepSettle, SessionSet as StateSet}
 use Rattle.sb_machine.specs.declared.call.Which.{Which}
 use Rattle.sb_machine.specs.declared.call.Which.TheVariants.{Number, Id}
 use Rattle.sb_model.specs.declared.message.Message.{Message}
@@ -146,12 +148,62 @@ abbrev pub is_entity_or_none : Option Path → Bool
 is_entity_or_none None = true
 is_entity_or_none (Some path) = is_address path && is_main path.part
 
+-- whether a client may be named so, in bytes
+abbrev pub is_client_name : List ℕ → Bool
+is_client_name name = is_between 1 50 (length name)
+
+-- the same, or none
+abbrev pub is_client_or_none : Option (List ℕ) → Bool
+is_client_or_none None = true
+is_client_or_none (Some name) = is_client_name name
+
 -- the first bad field of a look
 abbrev pub bad_in_look : Looked → Key
 bad_in_look (Entities prefix after count) = first_some (unless (is_front prefix) (codes "prefix")) (first_some (unless (is_entity_or_none after) (codes "after")) (unless (is_between 1 max_listed count) (codes "count")))
 bad_in_look (Entity path) = bad_in_entity path
 bad_in_look (Sessions path after count) = first_some (bad_in_entity path) (first_some (unless (is_short 128 after) (codes "after")) (unless (is_between 1 max_listed count) (codes "count")))
 bad_in_look Transactions = None
+bad_in_look (Clients after count) = first_some (unless (is_client_or_none after) (codes "after")) (unless (is_between 1 max_listed count) (codes "count"))
+
+-- ---- operations that act together
+
+-- whether an operation sets what the session of this lock remembers
+abbrev pub sets_session : ℕ → Step → Bool
+sets_session lock (StateSet from session state) = session.lock == lock
+sets_session lock _ = false
+
+-- what a session remembers is set at most once
+abbrev pub are_set_once : List Step → Bool
+are_set_once [] = true
+are_set_once (StateSet from session state ∷ xs) = not (list_any (sets_session session.lock) xs) && are_set_once xs
+are_set_once (x ∷ xs) = are_set_once xs
+
+-- a text that names a copy is no longer than an id may be
+abbrev pub bad_in_id : Which → Key
+bad_in_id (Number n) = None
+bad_in_id (Id id) = unless (is_id id) (codes "id")
+
+-- the first bad field of one of them
+abbrev pub bad_in_step : Step → Key
+bad_in_step (StepSend to messages) = bad_in_send false messages None
+bad_in_step (StepSettle from which token session how) = first_some (bad_in_which which) (first_some (bad_in_id which) (bad_in_how how))
+bad_in_step (StateSet from session state) = None
+
+-- of all
+abbrev pub bad_in_steps : List Step → Key
+bad_in_steps [] = None
+bad_in_steps (x ∷ xs) = first_some (bad_in_step x) (bad_in_steps xs)
+
+-- the most operations that act together
+abbrev pub max_steps : ℕ
+max_steps = 100
+
+-- the first bad field of operations that act together
+abbrev pub bad_in_together : Path → List Step → Key
+bad_in_together entity steps =
+    first_some (bad_in_entity entity) (first_some (unless (is_between 1 max_steps (length steps) && are_set_once steps) (codes "operations")) (bad_in_steps steps))
+
+-- ---- all acts
 
 -- the first bad field of each operation
 abbrev pub bad_in_act : Bool → Act → Key
@@ -169,6 +221,8 @@ bad_in_act is_via (Commit txn) = unless (is_number txn) (codes "txn")
 bad_in_act is_via (Rollback txn) = unless (is_number txn) (codes "txn")
 bad_in_act is_via (Peek from start count) = first_some (unless (is_number start) (codes "start")) (unless (is_between 1 max_peeked count) (codes "count"))
 bad_in_act is_via (Look what) = bad_in_look what
+bad_in_act is_via (Together entity steps) = bad_in_together entity steps
+bad_in_act is_via (ForgetClient name) = unless (is_client_name name) (codes "name")
 bad_in_act is_via _ = None
 
 -- acts that take no number
@@ -179,10 +233,17 @@ takes_number (Counts entity) = false
 takes_number (Look what) = false
 takes_number _ = true
 
+-- whether a client's numbered call forgets that client itself
+abbrev pub forgets_itself : Act → By → Bool
+forgets_itself (ForgetClient name) by = bytes_eq name by.client
+forgets_itself _ by = false
+
 -- the first bad field of a repeatable call's client and number
 abbrev pub bad_in_by : Act → Option By → Key
 bad_in_by act None = None
-bad_in_by act (Some by) = first_some (unless (takes_number act && is_between 1 50 (length by.client)) (codes "client")) (unless (is_number by.number) (codes "number"))
+bad_in_by act (Some by) =
+    first_some (unless (not (forgets_itself act by)) (codes "name"))
+    (first_some (unless (takes_number act && is_client_name by.client) (codes "client")) (unless (is_number by.number) (codes "number")))
 
 -- the first key at fault, the client's last
 abbrev pub bad_field : Bool → Act → Option By → Key

@@ -1,5 +1,5 @@
 -- What the machine's own tests say of a call that it accepts.
-use Rattle.std.specs.Prelude.{◌≡◌, ◌&&◌, Bool, true, nat_le, None, is_none}
+use Rattle.std.specs.Prelude.{◌≡◌, ◌&&◌, Bool, true, nat_le, sum_by, None, is_none}
 use Rattle.sb_machine.specs.Administration.{are_rule_names, filter_of, action_of, large_filter}
 use Rattle.sb_machine.specs.Descriptions.{bad_in_description}
 use Rattle.sb_machine.specs.Each.{is_read}
@@ -7,9 +7,11 @@ use Rattle.sb_machine.specs.Fields.{Key, bad_field, is_id, takes_number}
 use Rattle.sb_machine.specs.Messages.{large_size}
 use Rattle.sb_machine.specs.Names.{is_name, is_short_name, is_address}
 use Rattle.sb_machine.specs.Ordered.{IsActInOrder}
+use Rattle.sb_machine.specs.Queueing.{max_operations}
 use Rattle.sb_machine.specs.Sessions.{size_of, max_state}
+use Rattle.sb_machine.specs.Together.{are_addressed, large_steps, step_weight}
 use Rattle.sb_machine.specs.declared.call.Act.{Act}
-use Rattle.sb_machine.specs.declared.call.Act.TheVariants.{CreateQueue, CreateTopic, CreateSubscription, CreateRule, Delete, DeleteRule, Send, Cancel, Receive, ReceiveDeferred, Settle, Renew, Accept, SessionRenew, SessionClose, SessionSet, SessionState, Begin, Commit, Rollback, Peek, Counts, Look}
+use Rattle.sb_machine.specs.declared.call.Act.TheVariants.{CreateQueue, CreateTopic, CreateSubscription, CreateRule, Delete, DeleteRule, Send, Cancel, Receive, ReceiveDeferred, Settle, Renew, Accept, SessionRenew, SessionClose, SessionSet, SessionState, Begin, Commit, Rollback, Together, ForgetClient, Peek, Counts, Look}
 use Rattle.sb_machine.specs.declared.call.Call.{Call}
 use Rattle.sb_machine.specs.declared.call.Which.{Which}
 use Rattle.sb_machine.specs.declared.call.Which.TheVariants.{Number, Id}
@@ -40,6 +42,8 @@ has_names (Rollback txn) = true
 has_names (Peek from start count) = is_address from
 has_names (Counts entity) = is_address entity
 has_names (Look what) = true
+has_names (Together entity steps) = is_address entity && are_addressed steps
+has_names (ForgetClient name) = true
 
 -- the first field of a description that is out of range
 abbrev pub bad_described : Act → Key
@@ -64,6 +68,7 @@ abbrev pub has_sizes : Act → Bool
 has_sizes (CreateRule topic subscription name asked action) = is_read (filter_of asked) && is_read (action_of action) && is_none (large_filter asked)
 has_sizes (Send to messages txn) = is_none (large_size messages)
 has_sizes (SessionSet from session state) = nat_le (size_of state) max_state
+has_sizes (Together entity steps) = nat_le (sum_by step_weight steps) max_operations && is_none (large_steps steps)
 has_sizes _ = true
 
 -- what the tests say of a call that passed all of them

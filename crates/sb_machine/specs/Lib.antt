@@ -25,6 +25,7 @@ pub mod Sessions
 pub mod Queueing
 pub mod SendRow
 pub mod SettleRow
+pub mod Together
 pub mod Transactions
 pub mod Looks
 pub mod Same

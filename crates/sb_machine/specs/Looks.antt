@@ -223,9 +223,10 @@ transactions_row s = answers (Seen (seen.Transactions (map (transaction_shown s)
 
 -- ---- all looks
 
--- what each look comes to
+-- What each look comes to. Clients are no part of a namespace: they are shown where they are remembered (Repeats).
 abbrev pub look_row : Space → Look → Row
 look_row s (look.Entities prefix after count) = entities_row s prefix after count
 look_row s (look.Entity path) = entity_row s path
 look_row s (look.Sessions path after count) = sessions_row s path after count
 look_row s look.Transactions = transactions_row s
+look_row s (look.Clients after count) = answers (Seen (seen.Clients [])) []

@@ -1,31 +1,34 @@
--- Calls with a client's number: repeated, refused, or acting.
-use Rattle.std.specs.Prelude.{ℕ, ◌==◌, Bool, nat_lt, bytes_eq, find, length, List, if◌then◌else◌, Option, Some, None}
+-- What is remembered of clients: their calls with a number are repeated, refused, or act; it is looked at, and forgotten.
+use Rattle.std.specs.Prelude.{ℕ, ◌==◌, Bool, nat_lt, bytes_eq, find, filter, map, take, length, List, [], if◌then◌else◌, Option, Some, None, is_some}
 use Rattle.sb_machine.specs.Fields.{takes_number}
+use Rattle.sb_machine.specs.Looks.{is_behind}
 use Rattle.sb_machine.specs.Rows.{Row, refuses, answers}
 use Rattle.sb_machine.specs.Same.{same_act}
 use Rattle.sb_machine.specs.declared.call.Act.{Act}
+use Rattle.sb_machine.specs.declared.call.Act.TheVariants.{ForgetClient, Look}
 use Rattle.sb_machine.specs.declared.call.By.{By}
 use Rattle.sb_machine.specs.declared.call.Call.{Call}
 use Rattle.sb_machine.specs.declared.change.Change.{Change}
+use Rattle.sb_machine.specs.declared.look.ClientShown.{ClientShown}
+use Rattle.sb_machine.specs.declared.look.Look.{Look as Looked}
+use Rattle.sb_machine.specs.declared.look.Look.TheVariants as look
+use Rattle.sb_machine.specs.declared.look.View.TheVariants as seen
 use Rattle.sb_machine.specs.declared.reply.Refusal.{Refusal}
-use Rattle.sb_machine.specs.declared.reply.Refusal.TheVariants.{StaleNumber, NumberReused, ClientsFull}
+use Rattle.sb_machine.specs.declared.reply.Refusal.TheVariants.{StaleNumber, NumberReused, ClientsFull, ClientNotFound}
 use Rattle.sb_machine.specs.declared.reply.Reply.{Reply}
+use Rattle.sb_machine.specs.declared.reply.Reply.TheVariants.{Seen}
 use Rattle.sb_machine.specs.declared.state.Kept.{Kept}
 use Rattle.sb_machine.specs.declared.state.State.{State}
 use Rattle.sb_machine.specs.Acts.{row_of}
 
 -- ---- a call with a client's number
 
--- What a call comes to: it is refused, repeats what was kept, or acts.
+-- What a call comes to: it is refused, repeats what was kept, acts, or makes the namespace forget a client.
 pub data Outcome : Type 0 where
   refused : Refusal → Outcome
   repeated : Reply → Outcome
   acted : Reply → List Change → Outcome
-
--- the outcome that a row is
-abbrev pub of_row : Row → Outcome
-of_row (refuses r) = refused r
-of_row (answers reply cs) = acted reply cs
+  forgot : List ℕ → Outcome
 
 -- whether this is remembered for that client
 abbrev pub is_client : List ℕ → Kept → Bool
@@ -38,6 +41,38 @@ kept_for client clients = find (is_client client) clients
 -- the most clients that are remembered
 abbrev pub max_clients : ℕ
 max_clients = 10000
+
+-- ---- looking at clients, and forgetting one
+
+-- a client as it is shown
+abbrev pub client_shown : Kept → ClientShown
+client_shown k = record { client = k.client; number = k.number }
+
+-- the first clients behind a name
+abbrev pub clients_shown : Option (List ℕ) → ℕ → List Kept → List ClientShown
+clients_shown after count clients = map client_shown (take count (filter (λ k. is_behind after k.client) clients))
+
+-- what a look shows: clients are shown as they are remembered, of all else the namespace has said it
+abbrev pub with_clients : List Kept → Looked → Reply → Reply
+with_clients clients (look.Clients after count) reply = Seen (seen.Clients (clients_shown after count clients))
+with_clients clients _ reply = reply
+
+-- a client is forgotten that is remembered
+abbrev pub forgetting : List ℕ → List Kept → Outcome
+forgetting name clients = if is_some (kept_for name clients) then forgot name else refused ClientNotFound
+
+-- what an accepted act comes to where these clients are remembered
+abbrev pub of_answer : List Kept → Act → Reply → List Change → Outcome
+of_answer clients (ForgetClient name) reply cs = forgetting name clients
+of_answer clients (Look what) reply cs = acted (with_clients clients what reply) cs
+of_answer clients _ reply cs = acted reply cs
+
+-- the outcome that an act's row is
+abbrev pub of_row : List Kept → Act → Row → Outcome
+of_row clients act (refuses r) = refused r
+of_row clients act (answers reply cs) = of_answer clients act reply cs
+
+-- ---- numbers
 
 -- a client's number against the one that is kept
 abbrev pub against : By → Act → Kept → Outcome → Outcome
@@ -62,4 +97,4 @@ for_client (Some by) act clients next = by_number by act clients (kept_for by.cl
 
 -- what a call comes to in a state at t
 abbrev pub outcome_of : State → ℕ → Call → Outcome
-outcome_of s t call = for_client (client_of call) call.act s.clients (of_row (row_of s.space t call.by call.act))
+outcome_of s t call = for_client (client_of call) call.act s.clients (of_row s.clients call.act (row_of s.space t call.by call.act))

@@ -4,7 +4,7 @@ use Rattle.sb_machine.specs.Names.{is_same_entity, is_same_part, is_same_option}
 use Rattle.sb_machine.specs.Selection.{same_value}
 use Rattle.sb_model.specs.SystemNames.{system_code}
 use Rattle.sb_machine.specs.declared.call.Act.{Act}
-use Rattle.sb_machine.specs.declared.call.Act.TheVariants.{CreateQueue, CreateTopic, CreateSubscription, CreateRule, Delete, DeleteRule, Send, Cancel, Receive, ReceiveDeferred, Settle, Renew, Accept, SessionRenew, SessionClose, SessionSet, SessionState, Begin, Commit, Rollback, Peek, Counts, Look}
+use Rattle.sb_machine.specs.declared.call.Act.TheVariants.{CreateQueue, CreateTopic, CreateSubscription, CreateRule, Delete, DeleteRule, Send, Cancel, Receive, ReceiveDeferred, Settle, Renew, Accept, SessionRenew, SessionClose, SessionSet, SessionState, Begin, Commit, Rollback, Together, ForgetClient, Peek, Counts, Look}
 use Rattle.sb_machine.specs.declared.call.Description.{Description}
 use Rattle.sb_machine.specs.declared.call.FilterText.{FilterText}
 use Rattle.sb_machine.specs.declared.call.FilterText.TheVariants.{Sql, Correlation}
@@ -13,11 +13,13 @@ use Rattle.sb_machine.specs.declared.call.How.TheVariants.{Complete, Abandon, De
 use Rattle.sb_machine.specs.declared.call.Mode.{Mode}
 use Rattle.sb_machine.specs.declared.call.Mode.TheVariants.{Lock, Delete as WithDeletion}
 use Rattle.sb_machine.specs.declared.call.Path.{Path}
+use Rattle.sb_machine.specs.declared.call.Step.{Step}
+use Rattle.sb_machine.specs.declared.call.Step.TheVariants.{Send as StepSend, Settle as StepSettle, SessionSet as StateSet}
 use Rattle.sb_machine.specs.declared.call.Token.{Token}
 use Rattle.sb_machine.specs.declared.call.Which.{Which}
 use Rattle.sb_machine.specs.declared.call.Which.TheVariants.{Number, Id}
 use Rattle.sb_machine.specs.declared.look.Look.{Look as Looked}
-use Rattle.sb_machine.specs.declared.look.Look.TheVariants.{Entities, Entity, Sessions, Transactions}
+use Rattle.sb_machine.specs.declared.look.Look.TheVariants.{Entities, Entity, Sessions, Transactions, Clients}
 use Rattle.sb_model.specs.declared.message.Message.{Message}
 use Rattle.sb_model.specs.declared.message.Property.{Property}
 use Rattle.sb_model.specs.declared.message.SystemText.{SystemText}
@@ -100,12 +102,20 @@ same_how Defer Defer = true
 same_how (DeadLetter r d) (DeadLetter s e) = is_same_option r s && is_same_option d e
 same_how _ _ = false
 
+-- whether two of the operations that act together are equal
+abbrev pub same_step : Step → Step → Bool
+same_step (StepSend p ms) (StepSend q ns) = same_path p q && same_list same_message ms ns
+same_step (StepSettle p w k s h) (StepSettle q v l r g) = same_path p q && same_which w v && same_token k l && same_option same_token s r && same_how h g
+same_step (StateSet p k b) (StateSet q l c) = same_path p q && same_token k l && is_same_option b c
+same_step _ _ = false
+
 -- whether two looks are equal
 abbrev pub same_look : Looked → Looked → Bool
 same_look (Entities f a n) (Entities g b m) = is_same_option f g && same_option same_path a b && (n == m)
 same_look (Entity p) (Entity q) = same_path p q
 same_look (Sessions p a n) (Sessions q b m) = same_path p q && is_same_option a b && (n == m)
 same_look Transactions Transactions = true
+same_look (Clients a n) (Clients b m) = is_same_option a b && (n == m)
 same_look _ _ = false
 
 -- whether two operations are equal, in all their fields
@@ -133,4 +143,6 @@ same_act (Rollback x) (Rollback y) = x == y
 same_act (Peek p n m) (Peek q k l) = same_path p q && (n == k) && (m == l)
 same_act (Counts p) (Counts q) = same_path p q
 same_act (Look a) (Look b) = same_look a b
+same_act (Together p xs) (Together q ys) = same_path p q && same_list same_step xs ys
+same_act (ForgetClient n) (ForgetClient m) = bytes_eq n m
 same_act _ _ = false

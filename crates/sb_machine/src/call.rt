@@ -82,6 +82,30 @@ pub enum FilterText {
     Correlation(Conditions),
 }
 
+/// One of the operations that act together.
+#[derive(Drop)]
+pub enum Step {
+    /// Sends messages, in order, to the entity itself or by way of it to another.
+    Send {
+        to: Path,
+        messages: Rows<Message>,
+    },
+    /// Settles a copy of the entity that is held under a lock.
+    Settle {
+        from: Path,
+        which: Which,
+        token: Token,
+        session: Option<Token>,
+        how: How,
+    },
+    /// Sets the bytes that a session of the entity remembers, or clears them.
+    SessionSet {
+        from: Path,
+        session: Token,
+        state: Option<Rows<u8>>,
+    },
+}
+
 /// What is asked of the namespace.
 #[derive(Drop)]
 pub enum Act {
@@ -185,6 +209,16 @@ pub enum Act {
     },
     Rollback {
         txn: u64,
+    },
+    /// What a transaction on an entity would do that is begun, filled with these 1 to 100 operations
+    /// and committed at one moment.
+    Together {
+        entity: Path,
+        steps: Rows<Step>,
+    },
+    /// Forgets the last numbered call of a client, which may act again as a new one.
+    ForgetClient {
+        client: Text,
     },
     /// Shows up to `count` copies (1 to 100) from the number `start` (1 to 2^63 - 1) on.
     Peek {

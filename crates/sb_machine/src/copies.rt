@@ -2,12 +2,13 @@
 // function for each variant keeps what is given up then small.
 ghost use Rattle.std.specs.Prelude.{◌≡◌, IfOk};
 ghost use Rattle.sb_machine.specs.declared.call.Act.TheVariants as act_of;
+ghost use Rattle.sb_machine.specs.declared.call.Step.TheVariants as step_of;
 ghost use Rattle.sb_machine.specs.declared.look.View.TheVariants as view_of;
 ghost use Rattle.sb_machine.specs.declared.reply.Reply.TheVariants as reply_of;
 
 use crate::{
-    Act, CopyShown, Described, Description, EntityShown, FilterText, How, Path, Receipt, Reply,
-    RuleShown, SessionShown, Token, TransactionShown, View, Which,
+    Act, ClientShown, CopyShown, Described, Description, EntityShown, FilterText, How, Path,
+    Receipt, Reply, RuleShown, SessionShown, Step, StepReply, Token, TransactionShown, View, Which,
 };
 use sb_model::{Message, Name, Rows, Text};
 use std::alloc::AllocError;
@@ -96,6 +97,10 @@ impl Clone for Act {
             }),
             Act::Commit { txn } => Ok(Act::Commit { txn: *txn }),
             Act::Rollback { txn } => Ok(Act::Rollback { txn: *txn }),
+            Act::Together { entity, steps } => together(entity, steps),
+            Act::ForgetClient { client } => Ok(Act::ForgetClient {
+                client: client.clone()?,
+            }),
             Act::Peek { from, start, count } => Ok(Act::Peek {
                 from: from.clone()?,
                 start: *start,
@@ -132,6 +137,7 @@ impl Clone for Reply {
                 part: *part,
                 number: *number,
             }),
+            Reply::Together(all) => step_replies(all),
             Reply::Counts {
                 main,
                 dead,
@@ -172,6 +178,28 @@ impl Clone for Described {
     }
 }
 
+impl Clone for Step {
+    ghost is_clone = { λ v w. w ≡ v };
+
+    fn clone(&self) -> Result<Step, AllocError> {
+        match self {
+            Step::Send { to, messages } => step_send(to, messages),
+            Step::Settle {
+                from,
+                which,
+                token,
+                session,
+                how,
+            } => step_settle(from, which, *token, *session, how),
+            Step::SessionSet {
+                from,
+                session,
+                state,
+            } => step_set(from, *session, state),
+        }
+    }
+}
+
 impl Clone for View {
     ghost is_clone = { λ v w. w ≡ v };
 
@@ -181,6 +209,7 @@ impl Clone for View {
             View::Entity(one) => described(one),
             View::Sessions(all) => sessions(all),
             View::Transactions(all) => transactions(all),
+            View::Clients(all) => clients(all),
         }
     }
 }
@@ -256,6 +285,52 @@ fn delete_rule(topic: &Name, subscription: &Name, name: &Name) -> Result<Act, Al
         topic: topic.clone()?,
         subscription: subscription.clone()?,
         name: name.clone()?,
+    })
+}
+
+fn step_send(to: &Path, messages: &Rows<Message>) -> Result<Step, AllocError>
+    ensures { IfOk result (λ step. step ≡ step_of.Send to.now messages.now) }
+{
+    Ok(Step::Send {
+        to: to.clone()?,
+        messages: messages.clone()?,
+    })
+}
+
+fn step_settle(
+    from: &Path,
+    which: &Which,
+    token: Token,
+    session: Option<Token>,
+    how: &How,
+) -> Result<Step, AllocError>
+    ensures { IfOk result (λ step. step ≡ step_of.Settle from.now which.now token session how.now) }
+{
+    Ok(Step::Settle {
+        from: from.clone()?,
+        which: which.clone()?,
+        token,
+        session,
+        how: how.clone()?,
+    })
+}
+
+fn step_set(from: &Path, session: Token, state: &Option<Rows<u8>>) -> Result<Step, AllocError>
+    ensures { IfOk result (λ step. step ≡ step_of.SessionSet from.now session state.now) }
+{
+    Ok(Step::SessionSet {
+        from: from.clone()?,
+        session,
+        state: state.clone()?,
+    })
+}
+
+fn together(entity: &Path, steps: &Rows<Step>) -> Result<Act, AllocError>
+    ensures { IfOk result (λ act. act ≡ act_of.Together entity.now steps.now) }
+{
+    Ok(Act::Together {
+        entity: entity.clone()?,
+        steps: steps.clone()?,
     })
 }
 
@@ -338,6 +413,12 @@ fn copies(all: &Rows<CopyShown>) -> Result<Reply, AllocError>
     Ok(Reply::Copies(all.clone()?))
 }
 
+fn step_replies(all: &Rows<StepReply>) -> Result<Reply, AllocError>
+    ensures { IfOk result (λ reply. reply ≡ reply_of.Together all.now) }
+{
+    Ok(Reply::Together(all.clone()?))
+}
+
 fn of_session(id: &Text, session: Token, until: u64) -> Result<Reply, AllocError>
     ensures { IfOk result (λ reply. reply ≡ reply_of.Session id.now session until) }
 {
@@ -384,4 +465,10 @@ fn transactions(all: &Rows<TransactionShown>) -> Result<View, AllocError>
     ensures { IfOk result (λ view. view ≡ view_of.Transactions all.now) }
 {
     Ok(View::Transactions(all.clone()?))
+}
+
+fn clients(all: &Rows<ClientShown>) -> Result<View, AllocError>
+    ensures { IfOk result (λ view. view ≡ view_of.Clients all.now) }
+{
+    Ok(View::Clients(all.clone()?))
 }

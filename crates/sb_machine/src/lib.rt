@@ -1,4 +1,4 @@
-//! The namespace machine: what each of its 23 acts is answered in each state, what it changes, what
+//! The namespace machine: what each of its 25 acts is answered in each state, what it changes, what
 //! falls due as time goes on, and which histories are legal.
 //!
 //! Here are the types that all layers above pass (calls, replies, refusals, the state, changes,
@@ -28,19 +28,22 @@ mod rule;
 mod state;
 
 pub use call::{
-    Act, By, Call, Description, Event, EventRef, FilterText, How, Mode, Part, Path, TimedCall,
-    Token, Which,
+    Act, By, Call, Description, Event, EventRef, FilterText, How, Mode, Part, Path, Step,
+    TimedCall, Token, Which,
 };
 pub use change::{Cause, Change, Fresh, LeafChange, LeafKey};
 pub use changes::Changes;
 pub use directory::Directory;
 pub use history::Entry;
 pub use look::{
-    Described, EntityShown, Look, PartShown, RuleShown, SessionShown, TransactionShown, View,
+    ClientShown, Described, EntityShown, Look, PartShown, RuleShown, SessionShown,
+    TransactionShown, View,
 };
 pub use lookups::{has_text_of, is_living_holder, text_of};
 pub use reason::DeadReason;
-pub use reply::{Answer, Answered, CopyShown, CopyState, Receipt, Refusal, Reply, Showing};
+pub use reply::{
+    Answer, Answered, CopyShown, CopyState, Receipt, Refusal, Reply, Showing, StepReply,
+};
 pub use rule::{Condition, Conditions, Effect, Outcome, Rule, RuleFilter};
 pub use state::{
     AcceptedId, Entity, EntityKind, Hold, Holder, Kept, Leaf, Listed, Operation, Session, Space,

@@ -24,6 +24,12 @@ pub enum Look {
     },
     /// The open transactions, in order of their numbers.
     Transactions,
+    /// The clients that are remembered, in order of their names: up to `count` (1 to 1,000) behind
+    /// the name `after`.
+    Clients {
+        after: Option<Text>,
+        count: u64,
+    },
 }
 
 /// How many copies of a part stand how.
@@ -102,6 +108,14 @@ pub struct TransactionShown {
     pub operations: u64,
 }
 
+/// A client in a list.
+#[derive(Clone, Drop)]
+pub struct ClientShown {
+    pub client: Text,
+    /// Of its last call that was accepted.
+    pub number: u64,
+}
+
 /// What a look shows.
 #[derive(Drop)]
 pub enum View {
@@ -109,4 +123,5 @@ pub enum View {
     Entity(Described),
     Sessions(Rows<SessionShown>),
     Transactions(Rows<TransactionShown>),
+    Clients(Rows<ClientShown>),
 }

@@ -48,6 +48,14 @@ pub enum Receipt {
     Duplicate,
 }
 
+/// What one of the operations that acted together is answered.
+#[derive(Clone, Drop)]
+pub enum StepReply {
+    Done,
+    /// One receipt for each message, in order.
+    Sent(Rows<Receipt>),
+}
+
 /// What an accepted call is answered.
 #[derive(Drop)]
 pub enum Reply {
@@ -85,6 +93,8 @@ pub enum Reply {
         part: Part,
         number: u64,
     },
+    /// One reply for each operation, in order.
+    Together(Rows<StepReply>),
     Counts {
         main: u64,
         dead: u64,
@@ -142,6 +152,8 @@ pub enum Refusal {
     /// The number that is kept, with another act.
     NumberReused,
     ClientsFull,
+    /// Nothing is remembered of a client of that name.
+    ClientNotFound,
     TxnsFull,
     /// A number would pass 2^63 - 1.
     Exhausted,

@@ -1,5 +1,5 @@
 // The first field of a call that is outside its range.
-ghost use Rattle.std.specs.Prelude.{◌≡◌, ◌&&◌, ◌||◌, not, length, codes, is_none, option_map};
+ghost use Rattle.std.specs.Prelude.{◌≡◌, ◌∷◌, ◌&&◌, ◌||◌, not, length, bytes_eq, codes, is_none, option_map};
 ghost use Rattle.std.specs.List.{list_all, list_any};
 ghost use Rattle.std.specs.Str.{chars};
 ghost use Rattle.sb_machine.specs.Fields as fields;
@@ -8,12 +8,15 @@ ghost use Rattle.sb_model.specs.Effects as effects;
 
 use crate::address::{is_address, is_main};
 use crate::limits::{
-    MAX_CLIENT, MAX_ID, MAX_LISTED, MAX_MESSAGES, MAX_NAME, MAX_NUMBER, MAX_PEEKED, MAX_REASON,
+    MAX_ID, MAX_LISTED, MAX_MESSAGES, MAX_NAME, MAX_NUMBER, MAX_PEEKED, MAX_REASON, MAX_STEPS,
     MAX_TTL, MAX_USER_PROPERTIES,
 };
 use crate::name::are_name_bytes;
-use crate::ranges::{characters, is_between, is_between_or_none, is_number, is_short};
-use sb_machine::{Act, By, FilterText, How, Look, Path, Which};
+use crate::ranges::{
+    characters, is_between, is_between_or_none, is_client_name, is_id, is_length_between,
+    is_number, is_short,
+};
+use sb_machine::{Act, By, FilterText, How, Look, Path, Step, Which};
 use sb_model::{Message, Name, Property, SystemName, SystemText, Text};
 
 // The key where the test fails.
@@ -79,12 +82,6 @@ fn has_capital(name: &[u8]) -> bool
     name.iter().any(|b| is_capital(*b))
 }
 
-fn is_length_between(low: usize, high: usize, length: usize) -> bool
-    ensures { result ≡ fields.is_between low high length }
-{
-    low <= length && length <= high
-}
-
 fn is_property_name(name: &[u8]) -> bool
     ensures { result ≡ fields.is_property_name name.now }
 {
@@ -132,7 +129,9 @@ fn bad_in_message(is_via: bool, message: &Message) -> Option<&'static str>
     unless(may_be_scheduled(is_via, message.schedule), "schedule")
 }
 
-fn bad_in_messages(is_via: bool, messages: &[Message]) -> Option<&'static str>
+/// The first bad field of messages, in their order. `is_via` where they are sent, in a transaction, to
+/// another entity than the transaction's.
+pub fn bad_in_messages(is_via: bool, messages: &[Message]) -> Option<&'static str>
     ensures { option_map (λ k. k.now) result ≡ fields.bad_in_messages is_via messages.now }
 {
     for message in messages {
@@ -270,6 +269,24 @@ fn bad_in_sessions(path: &Path, after: &Option<Text>, count: u64) -> Option<&'st
     unless(is_between(1, MAX_LISTED, count), "count")
 }
 
+fn is_client_or_none(after: &Option<Text>) -> bool
+    ensures { result ≡ fields.is_client_or_none after.now }
+{
+    match after {
+        Some(name) => is_client_name(name.as_str()),
+        None => true,
+    }
+}
+
+fn bad_in_clients(after: &Option<Text>, count: u64) -> Option<&'static str>
+    ensures { option_map (λ k. k.now) result ≡ fields.bad_in_look (look.Clients after.now count) }
+{
+    if !is_client_or_none(after) {
+        return Some("after");
+    }
+    unless(is_between(1, MAX_LISTED, count), "count")
+}
+
 fn bad_in_look(what: &Look) -> Option<&'static str>
     ensures { option_map (λ k. k.now) result ≡ fields.bad_in_look what.now }
 {
@@ -282,7 +299,112 @@ fn bad_in_look(what: &Look) -> Option<&'static str>
         Look::Entity { path } => bad_in_entity(path),
         Look::Sessions { path, after, count } => bad_in_sessions(path, after, *count),
         Look::Transactions => None,
+        Look::Clients { after, count } => bad_in_clients(after, *count),
     }
+}
+
+// ---- operations that act together
+
+fn sets_session(lock: u64, step: &Step) -> bool
+    ensures { result ≡ fields.sets_session lock step.now }
+{
+    match step {
+        Step::SessionSet { session, .. } => session.lock == lock,
+        Step::Send { .. } | Step::Settle { .. } => false,
+    }
+}
+
+fn set_session(lock: u64, steps: &[Step]) -> bool
+    ensures { result ≡ list_any (fields.sets_session lock) steps.now }
+{
+    steps.iter().any(|step| sets_session(lock, step))
+}
+
+// Whether one of those behind an operation sets the session again that it sets.
+fn is_set_again(step: &Step, behind: &[Step]) -> bool
+    ensures { fields.are_set_once (step.now ∷ behind.now) ≡ (not result && fields.are_set_once behind.now) }
+{
+    match step {
+        Step::SessionSet { session, .. } => set_session(session.lock, behind),
+        Step::Send { .. } | Step::Settle { .. } => false,
+    }
+}
+
+fn are_set_once(steps: &[Step]) -> bool
+    ensures { result ≡ fields.are_set_once steps.now }
+{
+    let mut left = steps;
+    'steps: while let [step, behind @ ..] = left {
+        if is_set_again(step, behind) {
+            return false;
+        }
+        left = behind;
+    }
+    true
+}
+
+fn are_operations(steps: &[Step]) -> bool
+    ensures { result ≡ (fields.is_between 1 fields.max_steps (length steps.now) && fields.are_set_once steps.now) }
+{
+    is_length_between(1, MAX_STEPS, steps.len()) && are_set_once(steps)
+}
+
+fn bad_in_id(which: &Which) -> Option<&'static str>
+    ensures { option_map (λ k. k.now) result ≡ fields.bad_in_id which.now }
+{
+    match which {
+        Which::Number(_) => None,
+        Which::Id(id) => unless(is_id(id.as_str()), "id"),
+    }
+}
+
+fn bad_in_settled(which: &Which, how: &How) -> Option<&'static str>
+    ensures { option_map (λ k. k.now) result ≡ fields.first_some (fields.bad_in_which which.now) (fields.first_some (fields.bad_in_id which.now) (fields.bad_in_how how.now)) }
+{
+    let bad = bad_in_which(which);
+    if bad.is_some() {
+        return bad;
+    }
+    let bad = bad_in_id(which);
+    if bad.is_some() {
+        return bad;
+    }
+    bad_in_how(how)
+}
+
+fn bad_in_step(step: &Step) -> Option<&'static str>
+    ensures { option_map (λ k. k.now) result ≡ fields.bad_in_step step.now }
+{
+    match step {
+        Step::Send { messages, .. } => bad_in_send(false, messages.as_slice(), None),
+        Step::Settle { which, how, .. } => bad_in_settled(which, how),
+        Step::SessionSet { .. } => None,
+    }
+}
+
+fn bad_in_steps(steps: &[Step]) -> Option<&'static str>
+    ensures { option_map (λ k. k.now) result ≡ fields.bad_in_steps steps.now }
+{
+    for step in steps {
+        let bad = bad_in_step(step);
+        if bad.is_some() {
+            return bad;
+        }
+    }
+    None
+}
+
+fn bad_in_together(entity: &Path, steps: &[Step]) -> Option<&'static str>
+    ensures { option_map (λ k. k.now) result ≡ fields.bad_in_together entity.now steps.now }
+{
+    let bad = bad_in_entity(entity);
+    if bad.is_some() {
+        return bad;
+    }
+    if !are_operations(steps) {
+        return Some("operations");
+    }
+    bad_in_steps(steps)
 }
 
 // ---- all acts
@@ -310,6 +432,8 @@ fn bad_in_act(is_via: bool, act: &Act) -> Option<&'static str>
         Act::Commit { txn } | Act::Rollback { txn } => unless(is_number(*txn), "txn"),
         Act::Peek { start, count, .. } => bad_in_peek(*start, *count),
         Act::Look { what } => bad_in_look(what),
+        Act::Together { entity, steps } => bad_in_together(entity, steps.as_slice()),
+        Act::ForgetClient { client } => unless(is_client_name(client.as_str()), "name"),
         Act::CreateQueue { .. }
         | Act::CreateTopic { .. }
         | Act::CreateSubscription { .. }
@@ -349,14 +473,31 @@ pub fn takes_number(act: &Act) -> bool
         | Act::SessionSet { .. }
         | Act::Begin { .. }
         | Act::Commit { .. }
-        | Act::Rollback { .. } => true,
+        | Act::Rollback { .. }
+        | Act::Together { .. }
+        | Act::ForgetClient { .. } => true,
+    }
+}
+
+fn is_same_client(client: &Text, other: &Text) -> bool
+    ensures { result ≡ bytes_eq client.now other.now }
+{
+    client.as_bytes() == other.as_bytes()
+}
+
+fn forgets_itself(act: &Act, by: &By) -> bool
+    ensures { result ≡ fields.forgets_itself act.now by.now }
+{
+    match act {
+        Act::ForgetClient { client } => is_same_client(client, &by.client),
+        _ => false,
     }
 }
 
 fn is_client(act: &Act, client: &Text) -> bool
-    ensures { result ≡ (fields.takes_number act.now && fields.is_between 1 50 (length client.now)) }
+    ensures { result ≡ (fields.takes_number act.now && fields.is_client_name client.now) }
 {
-    takes_number(act) && is_length_between(1, MAX_CLIENT, client.as_bytes().len())
+    takes_number(act) && is_client_name(client.as_str())
 }
 
 fn bad_in_by(act: &Act, by: &Option<By>) -> Option<&'static str>
@@ -364,6 +505,9 @@ fn bad_in_by(act: &Act, by: &Option<By>) -> Option<&'static str>
 {
     match by {
         Some(by) => {
+            if forgets_itself(act, by) {
+                return Some("name");
+            }
             if !is_client(act, &by.client) {
                 return Some("client");
             }

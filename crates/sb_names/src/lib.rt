@@ -5,7 +5,8 @@
 //! case as they are read; a [`Name`](sb_model::Name) that wasn't read from text may be anything, and is
 //! judged here. It stands on `sb_machine`, whose `specs/Names` and `specs/Descriptions` say
 //! what a good name and a good description are. `specs/Fields` and `specs/Messages` there say which
-//! fields and sizes of a call are out of their ranges: `bad_field` and `large_size` find the first.
+//! fields and sizes of a call are out of their ranges: `bad_field` and `large_size` find the first,
+//! and `large_steps` that of operations that act together (`specs/Together`).
 //!
 //! ```text
 //! let path = read_address(alloc, "Orders/Subscriptions/Lamps/$DeadLetterQueue")?;
@@ -22,16 +23,18 @@ mod name;
 mod ranges;
 mod settlement;
 mod sizes;
+mod steps;
 mod worked;
 
 pub use address::{is_address, is_main, is_same_entity, read_address};
 pub use description::check_desc;
-pub use fields::{bad_field, bad_in_how, bad_in_texts, takes_number};
+pub use fields::{bad_field, bad_in_how, bad_in_messages, bad_in_texts, takes_number};
 pub use name::{BadName, NameKind, check_name, fold_name, is_name, is_rule_name, is_short_name};
-pub use ranges::{is_between, is_between_or_none, is_id, is_number};
+pub use ranges::{is_between, is_between_or_none, is_client_name, is_id, is_number};
 pub use settlement::goes_with;
 pub use sizes::{
     conditions_size, large_size, properties_size, property_bytes, property_size, texts_size,
     value_size,
 };
+pub use steps::{are_addressed, are_few, large_steps};
 pub use worked::worked_addresses;

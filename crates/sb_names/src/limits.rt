@@ -51,6 +51,9 @@ pub const MAX_COPIES: u64 = 1_000_000;
 /// Operations of one transaction; each message and each settlement counts one.
 pub const MAX_OPERATIONS: usize = 100;
 
+/// Operations that act together.
+pub const MAX_STEPS: usize = 100;
+
 /// Bytes that a session remembers (Microsoft Learn, "Message sessions", Message session state: as
 /// many as one message may have; "Service Bus quotas": 256 KB).
 pub const MAX_STATE: usize = 262_144;

@@ -3,7 +3,7 @@ ghost use Rattle.std.specs.Prelude.{◌≡◌, length};
 ghost use Rattle.std.specs.Str.{chars};
 ghost use Rattle.sb_machine.specs.Fields as fields;
 
-use crate::limits::{MAX_ID, MAX_NUMBER};
+use crate::limits::{MAX_CLIENT, MAX_ID, MAX_NUMBER};
 use sb_model::Text;
 
 /// Whether `low <= n <= high`.
@@ -30,6 +30,12 @@ pub fn is_number(n: u64) -> bool
     is_between(1, MAX_NUMBER, n)
 }
 
+pub(crate) fn is_length_between(low: usize, high: usize, length: usize) -> bool
+    ensures { result ≡ fields.is_between low high length }
+{
+    low <= length && length <= high
+}
+
 pub(crate) fn characters(text: &str) -> usize
     ensures { result ≡ length (chars text.now) }
 {
@@ -50,4 +56,11 @@ pub fn is_id(text: &str) -> bool
     ensures { result ≡ fields.is_id text.now }
 {
     characters(text) <= MAX_ID
+}
+
+/// Whether a client may be named so: 1 to 50 bytes.
+pub fn is_client_name(name: &str) -> bool
+    ensures { result ≡ fields.is_client_name name.now }
+{
+    is_length_between(1, MAX_CLIENT, name.len())
 }

@@ -11,7 +11,7 @@ use sb_model::{Message, Property, PropertyValue, SystemText};
 use std::alloc::AllocError;
 
 // Memory is wanting for a sum that passes 2^64 - 1, which nothing in memory comes to.
-fn sum(a: u64, b: u64) -> Result<u64, AllocError>
+pub(crate) fn sum(a: u64, b: u64) -> Result<u64, AllocError>
     ensures { IfOk result (λ s. s ≡ a + b) }
 {
     match a.checked_add(b) {
@@ -99,7 +99,7 @@ fn message_size(message: &Message) -> Result<u64, AllocError>
     sum(body_size(message), property_bytes(message)?)
 }
 
-fn all_sizes(sent: &[Message]) -> Result<u64, AllocError>
+pub(crate) fn all_sizes(sent: &[Message]) -> Result<u64, AllocError>
     ensures { IfOk result (λ size. size ≡ messages.all_bytes sent.now) }
 {
     let mut size = 0_u64;
@@ -109,7 +109,7 @@ fn all_sizes(sent: &[Message]) -> Result<u64, AllocError>
     Ok(size)
 }
 
-fn above(most: u64, size: u64) -> Option<u64>
+pub(crate) fn above(most: u64, size: u64) -> Option<u64>
     ensures { result ≡ messages.above most size }
 {
     if size <= most { None } else { Some(size) }

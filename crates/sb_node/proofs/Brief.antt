@@ -4,7 +4,7 @@ use Rattle.std.specs.Str.{chars, chars_after, continuation_len, lead_bits}
 use Rattle.std.proofs.lemmas.Bool.{leb-true}
 use Rattle.sb_machine.specs.Names.{is_name, is_address, is_subscription}
 use Rattle.sb_machine.specs.declared.call.Act.{Act}
-use Rattle.sb_machine.specs.declared.call.Act.TheVariants.{CreateQueue, CreateTopic, CreateSubscription, CreateRule, Delete, DeleteRule, Send, Cancel, Receive, ReceiveDeferred, Settle, Renew, Accept, SessionRenew, SessionClose, SessionSet, SessionState, Begin, Commit, Rollback, Peek, Counts, Look}
+use Rattle.sb_machine.specs.declared.call.Act.TheVariants.{CreateQueue, CreateTopic, CreateSubscription, CreateRule, Delete, DeleteRule, Send, Cancel, Receive, ReceiveDeferred, Settle, Renew, Accept, SessionRenew, SessionClose, SessionSet, SessionState, Begin, Commit, Rollback, Together, ForgetClient, Peek, Counts, Look}
 use Rattle.sb_machine.specs.declared.call.By.{By}
 use Rattle.sb_machine.specs.declared.call.Call.{Call}
 use Rattle.sb_machine.specs.declared.call.Event.TheVariants.{Called}
@@ -152,6 +152,8 @@ act_content (SessionSet from session state) small named short = absurd cc
 act_content (SessionState from session) small named short = absurd cc
 act_content (Begin entity) small named short = absurd cc
 act_content (Commit txn) small named short = absurd cc
+act_content (Together entity steps) small named short = absurd cc
+act_content (ForgetClient name) small named short = absurd cc
 act_content (Peek from start count) small named short = absurd cc
 act_content (Counts entity) small named short = absurd cc
 act_content (Look what) small named short = absurd cc

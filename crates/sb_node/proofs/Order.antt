@@ -14,11 +14,13 @@ use Rattle.sb_model.specs.declared.message.Message.{Message}
 use Rattle.sb_model.specs.declared.message.Property.{Property}
 use Rattle.sb_model.specs.declared.message.SystemText.{SystemText}
 use Rattle.sb_machine.specs.Each.{Each}
-use Rattle.sb_machine.specs.Ordered.{IsActInOrder, IsFilterInOrder, asked_of}
+use Rattle.sb_machine.specs.Ordered.{IsActInOrder, IsFilterInOrder, IsStepInOrder, asked_of}
 use Rattle.sb_machine.specs.declared.call.Event.{Event}
 use Rattle.sb_machine.specs.declared.call.Event.TheVariants.{Tick, Called}
 use Rattle.sb_codec.specs.Acts as acts
 use Rattle.sb_codec.specs.Acts.{any_act, any_act_choice}
+use Rattle.sb_codec.specs.Steps as steps
+use Rattle.sb_codec.specs.Steps.{step, step_choice}
 use Rattle.sb_codec.specs.Choices.{filter_text, sql, correlation}
 use Rattle.sb_codec.specs.EventBytes.{a_call, event, tick, called, read_event}
 use Rattle.sb_codec.specs.Forms.{Row, Choice, ◌or◌, ◌then◌, no_row, chosen_at, Follow, blob, text, number64, optional, listed}
@@ -174,9 +176,12 @@ message_order =
     (first_reads (AreRising name_before) properties.reads (optional number64 then optional number64).reads properties_order)) bytes x e in
     record { props = r.1; sys = r.0.0; set = r.0.1 })
 
-each_in_order : (last : Option Message) (ms : List Message) → Follow (λ l m. IsInOrder m) last ms → Each IsInOrder ms
-each_in_order last [] f = tt
-each_in_order last (m ∷ ms) f = (f.0, each_in_order (Some m) ms f.1)
+each_follows : {X : Type 0} (P : X → Type 0) (last : Option X) (xs : List X) → Follow (λ l x. P x) last xs → Each P xs
+each_follows P last [] f = tt
+each_follows P last (x ∷ xs) f = (f.0, each_follows P (Some x) xs f.1)
+
+messages_order : Reads (Follow (λ l m. IsInOrder m) None) (listed any_next message).reads
+messages_order = listed_reads (λ l m. IsInOrder m) (λ l. tested (any_next l) message.reads) (λ l. also_tested IsInOrder (any_next l) message.reads message_order)
 
 -- ---- acts
 
@@ -190,11 +195,29 @@ filter_order =
 
 send_order : Reads (λ x. IsActInOrder (acts.send.make x)) acts.send.form.reads
 send_order bytes x e =
-    each_in_order None x.0.1.0
+    each_follows IsInOrder None x.0.1.0
     (second_reads (λ y. Follow (λ l m. IsInOrder m) None y.0) path.reads (listed any_next message then optional number64).reads
-    (first_reads (Follow (λ l m. IsInOrder m) None) (listed any_next message).reads (optional number64).reads
-    (listed_reads (λ l m. IsInOrder m) (λ l. tested (any_next l) message.reads) (λ l. also_tested IsInOrder (any_next l) message.reads message_order)))
+    (first_reads (Follow (λ l m. IsInOrder m) None) (listed any_next message).reads (optional number64).reads messages_order)
     bytes x e)
+
+step_send_order : Reads (λ x. IsStepInOrder (steps.send.make x)) steps.send.form.reads
+step_send_order bytes x e =
+    each_follows IsInOrder None x.0.1 (second_reads (Follow (λ l m. IsInOrder m) None) path.reads (listed any_next message).reads messages_order bytes x e)
+
+step_order : Reads IsStepInOrder step.reads
+unfolding step
+step_order =
+    chosen_reads IsStepInOrder step_choice
+    (row_reads IsStepInOrder steps.send _ step_send_order
+    (row_reads IsStepInOrder steps.settle _ (λ bytes x e. tt)
+    (row_reads IsStepInOrder steps.session_set _ (λ bytes x e. tt)
+    (none_reads IsStepInOrder))))
+
+together_order : Reads (λ x. IsActInOrder (acts.together.make x)) acts.together.form.reads
+together_order bytes x e =
+    each_follows IsStepInOrder None x.0.1
+    (second_reads (Follow (λ l y. IsStepInOrder y) None) path.reads (listed any_next step).reads
+    (listed_reads (λ l y. IsStepInOrder y) (λ l. tested (any_next l) step.reads) (λ l. also_tested IsStepInOrder (any_next l) step.reads step_order)) bytes x e)
 
 rule_order : Reads (λ x. IsActInOrder (acts.create_rule.make x)) acts.create_rule.form.reads
 rule_order =
@@ -226,7 +249,9 @@ act_order =
     (row_reads IsActInOrder acts.begin _ (λ bytes x e. tt)
     (row_reads IsActInOrder acts.commit _ (λ bytes x e. tt)
     (row_reads IsActInOrder acts.rollback _ (λ bytes x e. tt)
-    (none_reads IsActInOrder))))))))))))))))))))
+    (row_reads IsActInOrder acts.together _ together_order
+    (row_reads IsActInOrder acts.forget_client _ (λ bytes x e. tt)
+    (none_reads IsActInOrder))))))))))))))))))))))
 
 -- ---- events
 

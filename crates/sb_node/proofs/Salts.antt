@@ -11,7 +11,7 @@ use Rattle.sb_machine.specs.Changes.{after, after_all}
 use Rattle.sb_machine.specs.Due.{tick_changes}
 use Rattle.sb_machine.specs.History.{advanced}
 use Rattle.sb_machine.specs.Namespace.{empty_state}
-use Rattle.sb_machine.specs.Repeats.{Outcome, refused, repeated, acted, client_of, outcome_of}
+use Rattle.sb_machine.specs.Repeats.{Outcome, refused, repeated, acted, forgot, client_of, outcome_of}
 use Rattle.sb_machine.specs.declared.call.Call.{Call}
 use Rattle.sb_machine.specs.declared.call.Event.{Event}
 use Rattle.sb_machine.specs.declared.call.Event.TheVariants.{Tick, Called}
@@ -52,6 +52,7 @@ outcome_salt s t call (acted reply cs) = by_change (is_change (client_of call) (
     by_change : (b : Bool) → (if b then record { now = t; clients = keeping (client_of call) call.act reply s.clients; space = after_all t cs s.space } else s).space.salt ≡ s.space.salt
     by_change true = changes_salt t cs s.space
     by_change false = refl
+outcome_salt s t call (forgot name) = refl
 
 event_salt : (s : State) (o : Option Event) (next : State) → next_state s o ≡ Some next → next.space.salt ≡ s.space.salt
 event_salt s None next e = absurd cc

@@ -6,7 +6,7 @@ use Rattle.std.proofs.lemmas.Bool.Decides.{nat_tests}
 use Rattle.sb_machine.specs.Answers.{answer_in, state_in, state_of, is_change, max_moment}
 use Rattle.sb_machine.specs.Due.{is_due}
 use Rattle.sb_machine.specs.History.{advanced, is_spent}
-use Rattle.sb_machine.specs.Repeats.{Outcome, refused, repeated, acted, client_of, outcome_of}
+use Rattle.sb_machine.specs.Repeats.{Outcome, refused, repeated, acted, forgot, client_of, outcome_of}
 use Rattle.sb_machine.specs.declared.call.Call.{Call}
 use Rattle.sb_machine.specs.declared.call.By.{By}
 use Rattle.sb_machine.specs.declared.call.Event.TheVariants.{Tick, Called}
@@ -75,12 +75,14 @@ pub refused_still : (by : Option By) (o : Outcome) (r : Refusal) → answer_in o
 refused_still by (refused x) r e = refl
 refused_still by (repeated reply) r e = absurd cc
 refused_still by (acted reply cs) r e = absurd cc
+refused_still by (forgot name) r e = absurd cc
 
 -- where nothing changes, the state stays
 pub still_stays : (s : State) (t : ℕ) (call : Call) (o : Outcome) → is_change (client_of call) o ≡ false → state_in s t call o ≡ s
 still_stays s t call (refused r) still = refl
 still_stays s t call (repeated reply) still = refl
 still_stays s t call (acted reply cs) still = rw still refl
+still_stays s t call (forgot name) still = absurd cc
 
 -- ---- what an event that was taken says
 

@@ -1,7 +1,7 @@
 -- The words by which the numbers of calls are shown.
 use Rattle.std.specs.Prelude.{ℕ, List, codes}
 use Rattle.sb_numbers.specs.declared.kind.Kind.{Kind}
-use Rattle.sb_numbers.specs.declared.kind.Kind.TheVariants.{CreateQueue, CreateTopic, CreateSubscription, CreateRule, Delete, DeleteRule, Send, Cancel, Receive, ReceiveDeferred, Complete, Abandon, Defer, DeadLetter, Renew, Accept, SessionRenew, SessionClose, SessionSet, SessionState, Begin, Commit, Rollback, Peek, Counts, List as Lists, Describe, Sessions, Transactions}
+use Rattle.sb_numbers.specs.declared.kind.Kind.TheVariants.{CreateQueue, CreateTopic, CreateSubscription, CreateRule, Delete, DeleteRule, Send, Cancel, Receive, ReceiveDeferred, Complete, Abandon, Defer, DeadLetter, Renew, Accept, SessionRenew, SessionClose, SessionSet, SessionState, Begin, Commit, Rollback, Together, ForgetClient, Peek, Counts, List as Lists, Describe, Sessions, Transactions, Clients}
 use Rattle.sb_numbers.specs.declared.kind.Outcome.{Outcome}
 use Rattle.sb_numbers.specs.declared.kind.Outcome.TheVariants.{Done, Empty, Kept, Refused}
 
@@ -30,12 +30,15 @@ kind_word SessionState = codes "session-state"
 kind_word Begin = codes "begin"
 kind_word Commit = codes "commit"
 kind_word Rollback = codes "rollback"
+kind_word Together = codes "together"
+kind_word ForgetClient = codes "forget-client"
 kind_word Peek = codes "peek"
 kind_word Counts = codes "counts"
 kind_word Lists = codes "list"
 kind_word Describe = codes "describe"
 kind_word Sessions = codes "sessions"
 kind_word Transactions = codes "transactions"
+kind_word Clients = codes "clients"
 
 -- how it was answered
 abbrev pub outcome_word : Outcome → List ℕ

@@ -4,7 +4,7 @@ use std::alloc::{AllocError, Global};
 use std::sync::atomic::{AtomicU64, Ordering};
 
 // Each kind of call, in the order of their counts.
-const KINDS: [Kind; 29] = [
+const KINDS: [Kind; 32] = [
     Kind::CreateQueue,
     Kind::CreateTopic,
     Kind::CreateSubscription,
@@ -28,12 +28,15 @@ const KINDS: [Kind; 29] = [
     Kind::Begin,
     Kind::Commit,
     Kind::Rollback,
+    Kind::Together,
+    Kind::ForgetClient,
     Kind::Peek,
     Kind::Counts,
     Kind::List,
     Kind::Describe,
     Kind::Sessions,
     Kind::Transactions,
+    Kind::Clients,
 ];
 
 // Each outcome, in the order of the counts of a kind.

@@ -26,12 +26,15 @@ pub enum Kind {
     Begin,
     Commit,
     Rollback,
+    Together,
+    ForgetClient,
     Peek,
     Counts,
     List,
     Describe,
     Sessions,
     Transactions,
+    Clients,
 }
 
 /// How a call was answered.

@@ -33,12 +33,15 @@ impl Kind {
             Kind::Begin => "begin",
             Kind::Commit => "commit",
             Kind::Rollback => "rollback",
+            Kind::Together => "together",
+            Kind::ForgetClient => "forget-client",
             Kind::Peek => "peek",
             Kind::Counts => "counts",
             Kind::List => "list",
             Kind::Describe => "describe",
             Kind::Sessions => "sessions",
             Kind::Transactions => "transactions",
+            Kind::Clients => "clients",
         }
     }
 }

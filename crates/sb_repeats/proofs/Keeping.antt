@@ -1,9 +1,9 @@
--- Clients in order: the place of one, and a call kept there.
+-- Clients in order: the place of one, a call kept there, and one that is forgotten.
 use Rattle.std.proofs.Common.{◌≡◌, ℕ, zero, suc, List, [], ◌∷◌, ◌<◌, length, arith, Bool, true, false, Option, Some, None, find, refl, sym, ap, ◌∙◌, subst, cond, if◌then◌else◌}
 use Rattle.std.specs.Prelude.{bytes_eq, slice_set, is_some}
-use Rattle.std.specs.List.{insert, prefix_len, slice_get}
+use Rattle.std.specs.List.{insert, prefix_len, remove, slice_get}
 use Rattle.std.specs.List.Sorted.{IsPartitionedBy}
-use Rattle.sb_machine.specs.Answers.{with_kept}
+use Rattle.sb_machine.specs.Answers.{with_kept, without_client}
 use Rattle.sb_machine.specs.Each.{Each, IsSorted}
 use Rattle.sb_machine.specs.Keyed.{changed, with_sorted}
 use Rattle.sb_machine.specs.Names.{is_before}
@@ -115,3 +115,53 @@ pub sorted_new : (k : Kept) (client : List ℕ) (rows : List Kept) (place : ℕ)
 sorted_new k client rows place named is sorted off =
     let none = kept_at k.client rows sorted ∙ absent k client rows place named is off in
     subst (λ (n : ℕ). IsSorted is_first (insert rows n k)) (sym (is ∙ ap (λ (c : List ℕ). entry c rows) named)) (sorted_with is_first k (λ y z p q. before_later k.client y.client z.client p q) rows (others k.client rows none) sorted)
+
+-- ---- one that is forgotten
+
+forgotten_at : (client : List ℕ) (rows : List Kept) → is_some (of_client client (slice_get rows (entry client rows))) ≡ true → remove rows (entry client rows) ≡ without_client client rows
+forgotten_at client [] there = absurd (let bad : false ≡ true = there in cc)
+forgotten_at client (y ∷ ys) there = at (is_before y.client client) refl (forgotten_at client ys) where
+  at : (b : Bool) → is_before y.client client ≡ b → (is_some (of_client client (slice_get ys (entry client ys))) ≡ true → remove ys (entry client ys) ≡ without_client client ys) → remove (y ∷ ys) (entry client (y ∷ ys)) ≡ without_client client (y ∷ ys)
+  at true is ih =
+      let on = prefix_on (λ x. is_before x.client client) y ys is in
+      let behind : is_some (of_client client (slice_get ys (entry client ys))) ≡ true = ap (λ (n : ℕ). is_some (of_client client (slice_get (y ∷ ys) n))) (sym on) ∙ there in
+      rw (on, before_differs y.client client is) (ap (λ (l : List Kept). y ∷ l) (ih behind))
+  at false is ih =
+      let off = prefix_off (λ x. is_before x.client client) y ys is in
+      let here : is_some (of_client client (Some y)) ≡ true = ap (λ (n : ℕ). is_some (of_client client (slice_get (y ∷ ys) n))) (sym off) ∙ there in
+      let it = is_of client (Some y) here in
+      let one : y ≡ it.0 = let e = it.1 in cc in
+      let named : is_client client y ≡ true = subst (λ (z : Kept). is_client client z ≡ true) (sym one) it.2 in
+      rw (off, named) refl
+
+pub forget_known : (client : List ℕ) (rows : List Kept) (place : ℕ) → place ≡ entry client rows → is_some (of_client client (slice_get rows place)) ≡ true → remove rows place ≡ without_client client rows
+forget_known client rows place is there =
+    ap (λ (n : ℕ). remove rows n) is ∙ forgotten_at client rows (subst (λ (n : ℕ). is_some (of_client client (slice_get rows n)) ≡ true) is there)
+
+none_changed : (client : List ℕ) (rows : List Kept) → kept_for client rows ≡ None → rows ≡ without_client client rows
+none_changed client [] none = refl
+none_changed client (y ∷ ys) none = at (is_client client y) refl (none_changed client ys) where
+  at : (b : Bool) → is_client client y ≡ b → (kept_for client ys ≡ None → ys ≡ without_client client ys) → y ∷ ys ≡ without_client client (y ∷ ys)
+  at true is ih = let bad : Some y ≡ None = rw is at none in absurd cc
+  at false is ih = let rest : kept_for client ys ≡ None = rw is at none in rw is (ap (λ (l : List Kept). y ∷ l) (ih rest))
+
+pub forget_none : (client : List ℕ) (rows : List Kept) (place : ℕ) → place ≡ entry client rows → IsSorted is_first rows → is_some (of_client client (slice_get rows place)) ≡ false → rows ≡ without_client client rows
+forget_none client rows place is sorted off =
+    none_changed client rows (kept_at client rows sorted ∙ is_not_of _ (subst (λ (n : ℕ). is_some (of_client client (slice_get rows n)) ≡ false) is off))
+
+each_forgotten : (P : Kept → Type 0) (client : List ℕ) (rows : List Kept) → Each P rows → Each P (without_client client rows)
+each_forgotten P client [] h = tt
+each_forgotten P client (y ∷ ys) h = at (is_client client y) refl (each_forgotten P client ys h.1) where
+  at : (b : Bool) → is_client client y ≡ b → Each P (without_client client ys) → Each P (without_client client (y ∷ ys))
+  at true is ih = rw is h.1
+  at false is ih = rw is (h.0, ih)
+
+sorted_without : (client : List ℕ) (rows : List Kept) → IsSorted is_first rows → IsSorted is_first (without_client client rows)
+sorted_without client [] sorted = tt
+sorted_without client (y ∷ ys) sorted = at (is_client client y) refl (sorted_without client ys sorted.1) where
+  at : (b : Bool) → is_client client y ≡ b → IsSorted is_first (without_client client ys) → IsSorted is_first (without_client client (y ∷ ys))
+  at true is ih = rw is sorted.1
+  at false is ih = rw is (each_forgotten (λ z. is_first y z ≡ true) client ys sorted.0, ih)
+
+pub sorted_forgotten : (client : List ℕ) (rows : List Kept) (place : ℕ) → place ≡ entry client rows → IsSorted is_first rows → is_some (of_client client (slice_get rows place)) ≡ true → IsSorted is_first (remove rows place)
+sorted_forgotten client rows place is sorted there = subst (λ (l : List Kept). IsSorted is_first l) (sym (forget_known client rows place is there)) (sorted_without client rows sorted)

@@ -3,3 +3,4 @@ pub mod Forgetting
 pub mod Ids
 pub mod Keeping
 pub mod Keys
+pub mod Showing

@@ -1,17 +1,18 @@
 // The last numbered call of each client.
-ghost use Rattle.std.specs.Prelude.{◌≡◌, ◌+◌, ◌-◌, ◌≤◌, ◌<◌, max, [], length, OnOk, OnErr, IsTrue, is_some, slice_set, vec_len, vec_capacity};
-ghost use Rattle.std.specs.List.{insert, prefix_len, slice_get};
+ghost use Rattle.std.specs.Prelude.{◌≡◌, ◌+◌, ◌-◌, ◌≤◌, ◌<◌, max, [], length, IfOk, OnOk, OnErr, IsTrue, is_some, slice_set, vec_len, vec_capacity};
+ghost use Rattle.std.specs.List.{insert, prefix_len, remove, slice_get};
 ghost use Rattle.std.specs.Option.{option_map};
 ghost use Rattle.std.specs.Ordering.{nat_cmp, is_lt};
 ghost use Rattle.std.specs.Cmp.Lexicographic.{slice_cmp};
-ghost use Rattle.sb_machine.specs.Answers.{with_kept};
+ghost use Rattle.sb_machine.specs.Answers.{with_kept, without_client};
 ghost use Rattle.sb_machine.specs.Each.{IsSorted};
 ghost use Rattle.sb_machine.specs.Names.{is_before};
-ghost use Rattle.sb_machine.specs.Repeats.{kept_for};
+ghost use Rattle.sb_machine.specs.Repeats.{clients_shown, kept_for};
 ghost use Rattle.sb_repeats.specs.Clients.{is_first, of_client};
 
-use sb_machine::Kept;
-use sb_model::Rows;
+use crate::shown::first_shown;
+use sb_machine::{ClientShown, Kept};
+use sb_model::{Rows, Text};
 use std::alloc::{AllocError, Global};
 use std::marker::Model;
 use std::mem;
@@ -98,6 +99,19 @@ impl Clients {
         kept_of(&self.clients, client)
     }
 
+    /// The clients behind the name `after`, in order of their names, up to `count`: nothing else is
+    /// looked at but for the place of the first.
+    pub fn shown(
+        &self,
+        alloc: Global,
+        after: &Option<Text>,
+        count: u64,
+    ) -> Result<Rows<ClientShown>, AllocError>
+        ensures { IfOk result (λ rows. rows ≡ clients_shown after.now count self.now.clients) }
+    {
+        first_shown(alloc, &self.clients, after, count)
+    }
+
     /// Keeps a call and its reply in the place of the client's last. A slot that was promised is
     /// taken, whether or not the client is new.
     pub fn keep(&mut self, kept: Kept)
@@ -107,6 +121,14 @@ impl Clients {
     {
         keep_row(&mut self.clients, kept);
         self.spare -= 1;
+    }
+
+    /// Forgets what is kept of a client, if anything is; as many slots stay promised.
+    pub fn forget(&mut self, client: &str)
+        ensures clients { self.new.clients ≡ without_client client.now self.old.clients }
+        ensures spare { self.new.spare ≡ self.old.spare }
+    {
+        forget_row(&mut self.clients, client);
     }
 }
 
@@ -180,5 +202,29 @@ fn keep_row(rows: &mut Vec<Kept>, kept: Kept)
         replace_at(rows, place, kept);
     } else {
         insert_at(rows, place, kept);
+    }
+}
+
+fn remove_at(rows: &mut Vec<Kept>, place: usize)
+    requires { place < length rows.old.items }
+    ensures rows { rows.new.items ≡ remove rows.old.items place }
+    ensures len { vec_len rows.new ≤ vec_len rows.old }
+    ensures capacity { vec_capacity rows.new ≡ vec_capacity rows.old }
+{
+    let old = rows.remove(place);
+    drop(old);
+}
+
+#[tactic(auto, using(crate::proofs::Keeping::forget_known, crate::proofs::Keeping::forget_none, crate::proofs::Keeping::sorted_forgotten))]
+fn forget_row(rows: &mut Vec<Kept>, client: &str)
+    requires order { IsSorted is_first rows.old.items }
+    ensures rows { rows.new.items ≡ without_client client.now rows.old.items }
+    ensures order { IsSorted is_first rows.new.items }
+    ensures len { vec_len rows.new ≤ vec_len rows.old }
+    ensures capacity { vec_capacity rows.new ≡ vec_capacity rows.old }
+{
+    let place = entry_of(rows, client);
+    if is_there(rows, place, client) {
+        remove_at(rows, place);
     }
 }

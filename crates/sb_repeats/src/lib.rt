@@ -4,9 +4,10 @@
 //! It stands on the model and on `sb_index`. Contracts see a [`Window`] as the list of its ids,
 //! [`Clients`] as the list of what is kept, each with a number of slots that are promised. To note an
 //! id is the model's `noted`, to keep a call its `with_kept`, and both take a slot that was promised
-//! before, and so can't fail. Whether an id is known, and what is kept of a client, is found in the
-//! logarithm of their number. [`is_same_act`] is the model's test whether two acts are equal in all
-//! their fields.
+//! before, and so can't fail; to forget a client is its `without_client`, and needs none. Whether an id
+//! is known, and what is kept of a client, is found in the logarithm of their number, and so is the
+//! first client behind a name, from which on they are shown. [`is_same_act`] is the model's test
+//! whether two acts are equal in all their fields.
 //!
 //! ```text
 //! let mut window = Window::new(alloc);
@@ -22,6 +23,8 @@ mod known;
 mod noting;
 mod same;
 mod same_act;
+mod same_step;
+mod shown;
 mod window;
 
 pub use clients::Clients;

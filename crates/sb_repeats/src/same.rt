@@ -320,6 +320,18 @@ fn is_transactions(other: &Look) -> bool
     }
 }
 
+fn is_same_clients(other: &Look, after: &Option<Text>, count: u64) -> bool
+    ensures { result ≡ spec.same_look (look.Clients after.now count) other.now }
+{
+    match other {
+        Look::Clients {
+            after: own_after,
+            count: own_count,
+        } => is_same_text_option(after, own_after) && count == *own_count,
+        _ => false,
+    }
+}
+
 pub fn is_same_look(a: &Look, b: &Look) -> bool
     ensures { result ≡ spec.same_look a.now b.now }
 {
@@ -332,5 +344,6 @@ pub fn is_same_look(a: &Look, b: &Look) -> bool
         Look::Entity { path } => is_same_entity_look(b, path),
         Look::Sessions { path, after, count } => is_same_sessions(b, path, after, *count),
         Look::Transactions => is_transactions(b),
+        Look::Clients { after, count } => is_same_clients(b, after, *count),
     }
 }

@@ -1,14 +1,15 @@
 // Whether two acts are equal, in all their fields: one test for each kind of act.
 ghost use Rattle.std.specs.Prelude.{◌≡◌, ◌==◌, ◌&&◌};
 ghost use Rattle.sb_machine.specs.Same.{same_act};
-ghost use Rattle.sb_machine.specs.declared.call.Act.TheVariants.{CreateQueue, CreateTopic, CreateSubscription, CreateRule, Delete, DeleteRule, Send, Cancel, Receive, ReceiveDeferred, Settle, Renew, Accept, SessionRenew, SessionClose, SessionSet, SessionState, Begin, Commit, Rollback, Peek, Counts, Look as LooksAt};
+ghost use Rattle.sb_machine.specs.declared.call.Act.TheVariants.{CreateQueue, CreateTopic, CreateSubscription, CreateRule, Delete, DeleteRule, Send, Cancel, Receive, ReceiveDeferred, Settle, Renew, Accept, SessionRenew, SessionClose, SessionSet, SessionState, Begin, Commit, Rollback, Together, ForgetClient, Peek, Counts, Look as LooksAt};
 
 use crate::same::{
     are_same_messages, is_same_bytes_option, is_same_description, is_same_filter, is_same_how,
     is_same_look, is_same_mode, is_same_number_option, is_same_path, is_same_text,
     is_same_text_option, is_same_token, is_same_token_option, is_same_which,
 };
-use sb_machine::{Act, Description, FilterText, How, Look, Mode, Path, Token, Which};
+use crate::same_step::are_same_steps;
+use sb_machine::{Act, Description, FilterText, How, Look, Mode, Path, Step, Token, Which};
 use sb_model::{Message, Rows, Text};
 
 /// Whether these acts are equal in all their fields, so that one repeats the other.
@@ -70,6 +71,8 @@ pub fn is_same_act(a: &Act, b: &Act) -> bool
         Act::Begin { entity } => is_begin(b, entity),
         Act::Commit { txn } => is_commit(b, *txn),
         Act::Rollback { txn } => is_rollback(b, *txn),
+        Act::Together { entity, steps } => is_together(b, entity, steps),
+        Act::ForgetClient { client } => is_forget_client(b, client),
         Act::Peek { from, start, count } => is_peek(b, from, *start, *count),
         Act::Counts { entity } => is_counts(b, entity),
         Act::Look { what } => is_look(b, what),
@@ -360,6 +363,27 @@ fn is_rollback(other: &Act, txn: u64) -> bool
 {
     match other {
         Act::Rollback { txn: own_txn } => txn == *own_txn,
+        _ => false,
+    }
+}
+
+fn is_together(other: &Act, entity: &Path, steps: &Rows<Step>) -> bool
+    ensures { result ≡ same_act (Together entity.now steps.now) other.now }
+{
+    match other {
+        Act::Together {
+            entity: own_entity,
+            steps: own_steps,
+        } => is_same_path(entity, own_entity) && are_same_steps(steps, own_steps),
+        _ => false,
+    }
+}
+
+fn is_forget_client(other: &Act, client: &Text) -> bool
+    ensures { result ≡ same_act (ForgetClient client.now) other.now }
+{
+    match other {
+        Act::ForgetClient { client: own_client } => is_same_text(client, own_client),
         _ => false,
     }
 }

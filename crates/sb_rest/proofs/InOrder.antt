@@ -18,9 +18,10 @@ use Rattle.sb_http.specs.Fields.{Field, same_word}
 use Rattle.sb_http.specs.Messages.{RequestMessage}
 use Rattle.sb_lines.specs.declared.texts.Nulls.TheVariants.{Absent}
 use Rattle.sb_lines.specs.Faults.{or_key, then_by}
+use Rattle.sb_lines.specs.Lines.{together_of}
 use Rattle.sb_lines.specs.Messages as msg
 use Rattle.sb_lines.proofs.InOrder.{Holds, then_holds, known_holds, made_holds, UpTo, text_added, property_set}
-use Rattle.sb_lines.proofs.OrderedLines.{broker_holds, before_holds}
+use Rattle.sb_lines.proofs.OrderedLines.{broker_holds, before_holds, alone_holds}
 use Rattle.sb_routes.specs.declared.routes.Address.{Address}
 use Rattle.sb_routes.specs.declared.routes.Route.{Route}
 use Rattle.sb_routes.specs.declared.routes.Route.TheVariants as route
@@ -154,7 +155,7 @@ message_holds d =
 messages_hold : (ds : Items) → Holds (Each IsInOrder) (batches.messages_of ds)
 messages_hold no_items = tt
 messages_hold (item d ds) =
-    then_holds IsInOrder (Each IsInOrder) (batches.message_of d) (λ m. msg.before_those (m ∷ []) (batches.messages_of ds)) (message_holds d) (λ m is. before_holds m (batches.messages_of ds) is (messages_hold ds))
+    then_holds IsInOrder (Each IsInOrder) (batches.message_of d) (λ m. msg.before_those (m ∷ []) (batches.messages_of ds)) (message_holds d) (λ m is. before_holds IsInOrder m (batches.messages_of ds) is (messages_hold ds))
 
 -- ---- calls
 
@@ -203,12 +204,22 @@ put_holds a s path query fields =
     known_holds IsWantedInOrder (by_of fields) _ (λ by.
     known_holds IsWantedInOrder (how_of disposition fields) (λ how. Ok (calls.in_time by (calls.settled how l) timeout)) (λ how. tt)))))
 
+together_in_holds : (body : List ℕ) → Holds IsActInOrder (calls.together_in body)
+together_in_holds body = known_holds IsActInOrder (or_key (codes "Body") (brokers.object_in body)) together_of alone_holds
+
+together_holds : (query : List ℕ) (fields : List Field) (body : List ℕ) → Holds IsWantedInOrder (calls.together query fields body)
+unfolding calls.together
+together_holds query fields body =
+    known_holds IsWantedInOrder (calls.beside query fields) _ (λ b.
+    then_holds IsActInOrder IsWantedInOrder (calls.together_in body) (λ act. Ok (calls.in_time b.1 act b.0)) (together_in_holds body) (λ act is. is))
+
 wanted_holds : (a : Asked) (path query : List ℕ) (fields : List Field) (body : List ℕ) → Holds IsWantedInOrder (calls.wanted_by a path query fields body)
 unfolding calls.wanted_by
 wanted_holds asked.Send path query fields body = sent_holds path query fields body
 wanted_holds (asked.Put a s) path query fields body = put_holds a s path query fields
 wanted_holds (asked.Remember a) path query fields body = asked_holds_with query fields (calls.remembered a path body) (state_holds a path body)
 wanted_holds (asked.Do a) path query fields body = asked_holds_with query fields (calls.act_in a path) (act_holds a path)
+wanted_holds asked.Together path query fields body = together_holds query fields body
 wanted_holds asked.Health path query fields body = tt
 wanted_holds (asked.List s) path query fields body = known_holds IsWantedInOrder (entities_in query) (λ what. Ok (calls.seen s what)) (λ what. tt)
 wanted_holds asked.Peek path query fields body = known_holds IsWantedInOrder (peek_in query) (λ x. Ok (calls.peeked x)) (λ x. tt)
@@ -249,6 +260,7 @@ route_holds (Some (route.SessionState a)) m = asked_holds (route.SessionState a)
 route_holds (Some (route.SessionHead a)) m = asked_holds (route.SessionHead a) (calls.asked_at (route.SessionHead a) m.head.method) m
 route_holds (Some (route.SessionDeferred a)) m = asked_holds (route.SessionDeferred a) (calls.asked_at (route.SessionDeferred a) m.head.method) m
 route_holds (Some (route.SessionLocked a)) m = asked_holds (route.SessionLocked a) (calls.asked_at (route.SessionLocked a) m.head.method) m
+route_holds (Some route.Together) m = asked_holds route.Together (calls.asked_at route.Together m.head.method) m
 route_holds (Some route.Health) m = asked_holds route.Health (calls.asked_at route.Health m.head.method) m
 route_holds (Some route.Status) m = asked_holds route.Status (calls.asked_at route.Status m.head.method) m
 route_holds (Some route.Metrics) m = asked_holds route.Metrics (calls.asked_at route.Metrics m.head.method) m

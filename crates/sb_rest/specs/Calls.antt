@@ -21,6 +21,7 @@ use Rattle.sb_model.specs.declared.message.Message.{Message}
 use Rattle.sb_http.specs.Fields.{Field}
 use Rattle.sb_http.specs.Messages.{RequestMessage}
 use Rattle.sb_lines.specs.Faults.{or_key, then_by}
+use Rattle.sb_lines.specs.Lines.{together_of}
 use Rattle.sb_lines.specs.Tokens.{token_in}
 use Rattle.sb_routes.specs.declared.routes.Address.{Address}
 use Rattle.sb_routes.specs.declared.routes.Address.TheVariants.{Entity, Subscription}
@@ -42,6 +43,7 @@ use Rattle.sb_rest.specs.declared.call.Wanted.{Wanted}
 use Rattle.sb_rest.specs.declared.access.Access.{Access}
 use Rattle.sb_rest.specs.Callers.{is_foreign, has_key}
 use Rattle.sb_rest.specs.Batches as batches
+use Rattle.sb_rest.specs.Brokers.{object_in}
 use Rattle.sb_rest.specs.Entities.{entities_in}
 use Rattle.sb_rest.specs.Dispositions.{disposition_in, how_of, unless_empty}
 use Rattle.sb_rest.specs.Headers.{message_in}
@@ -106,6 +108,7 @@ methods_of (route.SessionHead a) = codes "DELETE" ∷ codes "POST" ∷ []
 methods_of (route.SessionDeferred a) = codes "DELETE" ∷ codes "POST" ∷ []
 methods_of (route.SessionLocked a) = codes "DELETE" ∷ codes "PUT" ∷ []
 methods_of route.Script = codes "POST" ∷ []
+methods_of route.Together = codes "POST" ∷ []
 methods_of route.Health = codes "GET" ∷ []
 methods_of route.Status = codes "GET" ∷ []
 methods_of route.Metrics = codes "GET" ∷ []
@@ -127,6 +130,7 @@ asked_at (route.SessionHead a) method = at_head a scope.Session method
 asked_at (route.SessionDeferred a) method = at_deferred a scope.Session method
 asked_at (route.SessionLocked a) method = at_session_locked a method
 asked_at route.Script method = None
+asked_at route.Together method = if_post method asked.Together
 asked_at route.Health method = if_get method asked.Health
 asked_at route.Status method = if_get method (asked.List sight.Status)
 asked_at route.Metrics method = if_get method (asked.List sight.Metrics)
@@ -299,6 +303,14 @@ sent path query fields body =
     then_by (messages_in fields body) (λ messages.
     Ok (in_time b.1 (Send (record { name = name; subscription = None; part = Main }) messages None) b.0))))
 
+-- the operations that act together by a body: the object of a line that has nothing beside its act
+abbrev pub together_in : List ℕ → Result Act (List ℕ)
+together_in body = then_by (or_key (codes "Body") (object_in body)) together_of
+
+-- they are judged behind these
+unfoldable pub together : List ℕ → List Field → List ℕ → Result Wanted (List ℕ)
+together query fields body = then_by (beside query fields) (λ b. then_by (together_in body) (λ act. Ok (in_time b.1 act b.0)))
+
 -- ---- the call
 
 -- what is wanted, or the key at fault
@@ -312,6 +324,7 @@ wanted_by asked.Send path query fields body = sent path query fields body
 wanted_by (asked.Put a s) path query fields body = put a s path query fields
 wanted_by (asked.Remember a) path query fields body = asked_with query fields (remembered a path body)
 wanted_by (asked.Do a) path query fields body = asked_with query fields (act_in a path)
+wanted_by asked.Together path query fields body = together query fields body
 wanted_by asked.Health path query fields body = Ok (seen sight.Health Transactions)
 wanted_by (asked.List s) path query fields body = then_by (entities_in query) (λ what. Ok (seen s what))
 wanted_by asked.Peek path query fields body = then_by (peek_in query) (λ x. Ok (peeked x))

@@ -3,7 +3,7 @@ use Rattle.std.specs.Prelude.{◌≡◌, ℕ, Bool, true, false, not, ◌&&◌, 
 use Rattle.std.specs.Fmt.{decimal}
 use Rattle.serde_json.specs.Written.{compact_text}
 use Rattle.sb_machine.specs.declared.call.Act.{Act}
-use Rattle.sb_machine.specs.declared.call.Act.TheVariants.{Send, Cancel, Receive, ReceiveDeferred, Settle, Renew, Accept, SessionRenew, SessionClose, SessionSet, SessionState}
+use Rattle.sb_machine.specs.declared.call.Act.TheVariants.{Send, Cancel, Receive, ReceiveDeferred, Settle, Renew, Accept, SessionRenew, SessionClose, SessionSet, SessionState, Together}
 use Rattle.sb_machine.specs.declared.call.Mode.{Mode}
 use Rattle.sb_machine.specs.declared.call.Mode.TheVariants.{Lock, Delete}
 use Rattle.sb_machine.specs.declared.call.Path.{Path}
@@ -16,13 +16,15 @@ use Rattle.sb_machine.specs.declared.reply.Receipt.TheVariants.{Number, Duplicat
 use Rattle.sb_machine.specs.declared.reply.Refusal.{Refusal}
 use Rattle.sb_machine.specs.declared.reply.Refusal.TheVariants as refusal
 use Rattle.sb_machine.specs.declared.reply.Reply.{Reply}
-use Rattle.sb_machine.specs.declared.reply.Reply.TheVariants.{Done, Sent, Message, Empty, Expired, Renewed, Session, State}
+use Rattle.sb_machine.specs.declared.reply.Reply.TheVariants.{Done, Sent, Message, Empty, Expired, Renewed, Session, State, Together as Told}
 use Rattle.sb_model.specs.declared.message.Message as message
 use Rattle.sb_http.specs.declared.response.Status.{Status}
 use Rattle.sb_http.specs.declared.response.Status.TheVariants as status
 use Rattle.sb_http.specs.Fields.{Field, same_word}
 use Rattle.sb_http.specs.Responses.{ResponseMessage}
+use Rattle.sb_lines.specs.declared.form.Form.TheVariants.{Plain}
 use Rattle.sb_lines.specs.Refusals.{plain, refusal_data}
+use Rattle.sb_lines.specs.Replies.{reply_text}
 use Rattle.sb_lines.specs.Shown.{message_text}
 use Rattle.sb_routes.specs.declared.routes.Route.{Route}
 use Rattle.sb_rest.specs.declared.call.RestFault.{RestFault}
@@ -47,18 +49,22 @@ refusal_status refusal.BadName = status.BadRequest
 refusal_status refusal.WrongKind = status.BadRequest
 refusal_status refusal.SessionRequired = status.BadRequest
 refusal_status refusal.SessionNotAllowed = status.BadRequest
+refusal_status refusal.TxnScope = status.BadRequest
 refusal_status refusal.EntityNotFound = status.Gone
 refusal_status (refusal.TooLarge size) = status.Forbidden
 refusal_status (refusal.QuotaExceeded copies adds) = status.Forbidden
+refusal_status refusal.TxnFull = status.Forbidden
 refusal_status refusal.LockLost = status.NotFound
 refusal_status refusal.SessionLost = status.NotFound
 refusal_status refusal.NotDeferred = status.NotFound
 refusal_status refusal.NotScheduled = status.NotFound
+refusal_status refusal.ClientNotFound = status.NotFound
 refusal_status (refusal.SessionHeld until) = status.Conflict
 refusal_status (refusal.TxnPending txn) = status.Conflict
 refusal_status (refusal.StaleNumber kept) = status.Conflict
 refusal_status refusal.NumberReused = status.Conflict
 refusal_status refusal.ClientsFull = status.Conflict
+refusal_status refusal.TxnsFull = status.Conflict
 refusal_status refusal.OutOfMemory = status.ServiceUnavailable
 refusal_status _ = status.InternalServerError
 
@@ -221,6 +227,15 @@ state_response (State None) = bare status.NoContent
 state_response (State (Some bytes)) = bytes_response bytes
 state_response _ = bare status.InternalServerError
 
+-- a reply as the line of a script has it
+abbrev pub told_response : Reply → ResponseMessage
+told_response reply = record { status = status.Ok; fields = (codes "Content-Type", codes "application/json") ∷ []; body = reply_text Plain reply; ends = false }
+
+-- what became of operations that acted together
+abbrev pub together_response : Reply → ResponseMessage
+together_response (Told replies) = told_response (Told replies)
+together_response _ = bare status.InternalServerError
+
 -- this is the response to a call that was accepted
 abbrev pub GivesReply : Act → List ℕ → Bool → Reply → ResponseMessage → Type 0
 GivesReply (Send to messages txn) host json reply r = r ≡ sent_response messages reply
@@ -234,6 +249,7 @@ GivesReply (SessionRenew from session) host json reply r = r ≡ bare (renewed_s
 GivesReply (SessionClose from session) host json reply r = r ≡ bare (settled_status reply)
 GivesReply (SessionSet from session state) host json reply r = r ≡ bare (settled_status reply)
 GivesReply (SessionState from session) host json reply r = r ≡ state_response reply
+GivesReply (Together entity steps) host json reply r = r ≡ together_response reply
 GivesReply _ host json reply r = r ≡ bare status.InternalServerError
 
 -- ---- answers

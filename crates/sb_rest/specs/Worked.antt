@@ -2,12 +2,13 @@
 use Rattle.std.specs.Prelude.{ℕ, Vec, List, [], ◌∷◌, ◌++◌, codes, Some, None, Result, Ok}
 use Rattle.std.specs.declared.alloc.Global.{Global}
 use Rattle.sb_machine.specs.declared.call.Act.{Act}
-use Rattle.sb_machine.specs.declared.call.Act.TheVariants.{Cancel, Receive, ReceiveDeferred, Send, Settle}
+use Rattle.sb_machine.specs.declared.call.Act.TheVariants.{Cancel, Receive, ReceiveDeferred, Send, Settle, Together}
 use Rattle.sb_machine.specs.declared.call.How.{How}
 use Rattle.sb_machine.specs.declared.call.Mode.{Mode}
 use Rattle.sb_machine.specs.declared.call.Mode.TheVariants.{Lock}
 use Rattle.sb_machine.specs.declared.call.Part.TheVariants.{Main}
 use Rattle.sb_machine.specs.declared.call.Path.{Path}
+use Rattle.sb_machine.specs.declared.call.Step.TheVariants as step
 use Rattle.sb_machine.specs.declared.call.Token.{Token}
 use Rattle.sb_machine.specs.declared.call.Which.TheVariants.{Id}
 use Rattle.sb_machine.specs.declared.reply.CopyShown.{CopyShown}
@@ -113,6 +114,16 @@ on r method target body = on_route (Some r) (request method target [] body)
 -- this call, which may wait 60 s
 abbrev pub makes : Act → Result Wanted RestFault
 makes act = Ok (in_time None act 60)
+
+-- ---- operations that act together
+
+-- a body by which two sends of no messages act together on q
+abbrev pub sends_nothing : List ℕ
+sends_nothing = codes "{\"do\":\"together\",\"entity\":\"Q\",\"operations\":[{\"do\":\"send\",\"to\":\"q\",\"messages\":[]},{\"do\":\"send\",\"to\":\"q\",\"messages\":[]}]}"
+
+-- they do
+abbrev pub acts_together : Act
+acts_together = Together q (step.Send q [] ∷ step.Send q [] ∷ [])
 
 -- ---- who may call
 

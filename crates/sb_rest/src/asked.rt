@@ -14,6 +14,8 @@ pub enum Asked {
     /// That a session remembers the body.
     Remember(Address),
     Do(PathAct),
+    /// That the operations of the body act together.
+    Together,
     /// Whether the namespace acts.
     Health,
     /// How many messages stand how, told so.
@@ -91,6 +93,7 @@ pub(crate) fn asked_at(route: Route, method: &[u8]) -> Option<Asked>
         Route::SessionHead(address) => at_head(address, Scope::Session, method),
         Route::SessionDeferred(address) => at_deferred(address, Scope::Session, method),
         Route::SessionLocked(address) => at_session_locked(address, method),
+        Route::Together => if_post(method, Asked::Together),
         Route::Health => if_get(method, Asked::Health),
         Route::Status => if_get(method, Asked::List(Sight::Status)),
         Route::Metrics => if_get(method, Asked::List(Sight::Metrics)),

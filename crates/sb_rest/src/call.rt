@@ -13,6 +13,7 @@ use crate::access::{Access, has_key, is_foreign};
 use crate::act::{act_in, locked_in, remembered, settled};
 use crate::asked::{Asked, PathAct, Scope, Sight, asked_at, is};
 use crate::batch::{is_batch, messages_in as batch_in};
+use crate::broker::object_in;
 use crate::disposition::{disposition_in, how_of};
 use crate::entities::entities_in;
 use crate::header::message_in;
@@ -22,7 +23,7 @@ use crate::repeat::by_in;
 use crate::timeout::timeout_in;
 use httparse::spans::HeaderSpan;
 use sb_http::Request;
-use sb_lines::LineFault;
+use sb_lines::{LineFault, bad, together_of};
 use sb_machine::{Act, By, Call, Look, Part, Path};
 use sb_model::{Message, Rows, Text};
 use sb_routes::{Address, Route, Routes, cut};
@@ -132,6 +133,32 @@ fn sent(
         messages,
         txn: None,
     };
+    Ok(in_time(by, act, timeout))
+}
+
+// The operations that a body spells.
+fn together_in(alloc: Global, body: &[u8]) -> Result<Act, LineFault>
+    ensures { Answers result (calls.together_in body.now) }
+{
+    let Some(object) = object_in(alloc, body)? else {
+        return bad(alloc, "Body");
+    };
+    together_of(alloc, &object)
+}
+
+#[tactic(auto, unfolding(crate::specs::Calls::together))]
+fn together(
+    alloc: Global,
+    query: &[u8],
+    text: &[u8],
+    lines: &[HeaderSpan],
+    body: &[u8],
+) -> Result<Wanted, LineFault>
+    requires { All (IsHeaderWithin (length text.now)) lines.now }
+    ensures { Answers result (calls.together query.now (map (header_bytes text.now) lines.now) body.now) }
+{
+    let (timeout, by) = beside(alloc, query, text, lines)?;
+    let act = together_in(alloc, body)?;
     Ok(in_time(by, act, timeout))
 }
 
@@ -251,6 +278,7 @@ fn wanted_by(
             remember(alloc, address, path, query, text, lines, request.body)
         }
         Asked::Do(act) => done(alloc, act, path, query, text, lines),
+        Asked::Together => together(alloc, query, text, lines, request.body),
         Asked::Health => Ok(seen(Sight::Health, Look::Transactions)),
         Asked::List(sight) => listed(alloc, sight, query),
         Asked::Peek => peeked(alloc, query),

@@ -70,4 +70,5 @@ pub use sight::{response_of, shows_numbers};
 pub use worked::{
     worked_callers, worked_calls, worked_dispositions, worked_forms, worked_numbers, worked_parts,
     worked_responses, worked_server_numbers, worked_session_responses, worked_sessions,
+    worked_together,
 };

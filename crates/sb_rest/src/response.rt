@@ -18,7 +18,7 @@ use crate::session::accepted_fields;
 use crate::shown::json_line;
 use httparse::spans::HeaderSpan;
 use sb_http::{Header, Request, Response, Status, is_word};
-use sb_lines::{message_text, refusal_value};
+use sb_lines::{Form, message_text, refusal_value, reply_text};
 use sb_machine::{Act, Answer, Answered, CopyShown, Mode, Path, Receipt, Refusal, Reply, Token};
 use sb_model::Message;
 use sb_routes::Route;
@@ -46,16 +46,23 @@ fn refusal_status(refusal: &Refusal) -> Status
         | Refusal::BadName
         | Refusal::WrongKind
         | Refusal::SessionRequired
-        | Refusal::SessionNotAllowed => Status::BadRequest,
+        | Refusal::SessionNotAllowed
+        | Refusal::TxnScope => Status::BadRequest,
         Refusal::EntityNotFound => Status::Gone,
-        Refusal::TooLarge { .. } | Refusal::QuotaExceeded { .. } => Status::Forbidden,
-        Refusal::LockLost | Refusal::SessionLost | Refusal::NotDeferred | Refusal::NotScheduled =>
-            Status::NotFound,
+        Refusal::TooLarge { .. } | Refusal::QuotaExceeded { .. } | Refusal::TxnFull => {
+            Status::Forbidden
+        }
+        Refusal::LockLost
+        | Refusal::SessionLost
+        | Refusal::NotDeferred
+        | Refusal::NotScheduled
+        | Refusal::ClientNotFound => Status::NotFound,
         Refusal::SessionHeld { .. }
         | Refusal::TxnPending { .. }
         | Refusal::StaleNumber { .. }
         | Refusal::NumberReused
-        | Refusal::ClientsFull => Status::Conflict,
+        | Refusal::ClientsFull
+        | Refusal::TxnsFull => Status::Conflict,
         Refusal::OutOfMemory => Status::ServiceUnavailable,
         _ => Status::InternalServerError,
     }
@@ -156,7 +163,7 @@ fn allowed(route: Route) -> &'static [u8]
         Route::SessionState(_) => b"GET, PUT",
         Route::SessionHead(_) | Route::SessionDeferred(_) => b"DELETE, POST",
         Route::SessionLocked(_) => b"DELETE, PUT",
-        Route::Script => b"POST",
+        Route::Script | Route::Together => b"POST",
         Route::Health | Route::Status | Route::Metrics | Route::Peek | Route::Page => b"GET",
     }
 }
@@ -496,6 +503,32 @@ fn state_response(alloc: Global, reply: &Reply) -> Result<Response, AllocError>
     }
 }
 
+// ---- operations that acted together
+
+// A reply as the line of a script has it.
+fn told_response(alloc: Global, reply: &Reply) -> Result<Response, AllocError>
+    ensures { IfOk result (λ r. said_in r ≡ responses.told_response reply.now) }
+{
+    let text = reply_text(alloc, Form::Plain, reply)?;
+    let mut headers = Vec::new(alloc);
+    push_field(alloc, &mut headers, b"Content-Type", b"application/json")?;
+    Ok(Response {
+        status: Status::Ok,
+        headers,
+        body: text.into_bytes(),
+        closes: false,
+    })
+}
+
+fn together_response(alloc: Global, reply: &Reply) -> Result<Response, AllocError>
+    ensures { IfOk result (λ r. said_in r ≡ responses.together_response reply.now) }
+{
+    match reply {
+        Reply::Together(_) => told_response(alloc, reply),
+        _ => Ok(bare(alloc, Status::InternalServerError)),
+    }
+}
+
 // ---- acts
 
 fn reply_response(
@@ -527,6 +560,7 @@ fn reply_response(
         Act::Renew { .. } | Act::SessionRenew { .. } => Ok(bare(alloc, renewed_status(reply))),
         Act::Accept { from, .. } => accepted_response(alloc, from, host, reply),
         Act::SessionState { .. } => state_response(alloc, reply),
+        Act::Together { .. } => together_response(alloc, reply),
         _ => Ok(bare(alloc, Status::InternalServerError)),
     }
 }

@@ -286,7 +286,7 @@ fn push_bytes_text(alloc: Global, out: &mut String, n: u64) -> Result<(), AllocE
         out,
         "zolmutarn_journal_bytes",
         "gauge",
-        "Bytes of the journal's file.",
+        "Bytes of the journal, up to its end.",
         n,
     )
 }

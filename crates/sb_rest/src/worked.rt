@@ -3,7 +3,7 @@ ghost use Rattle.std.specs.Prelude.{◌≡◌, ◌∷◌, [], codes, true, false
 ghost use Rattle.std.specs.declared.alloc.Global.{Global};
 ghost use Rattle.serde_json.specs.Data.{string};
 ghost use Rattle.serde_json.specs.Read.{read};
-ghost use Rattle.sb_machine.specs.declared.reply.Refusal.TheVariants.{BadCall, NotDeferred, NotScheduled, SessionLost, SessionNotAllowed, Stopped};
+ghost use Rattle.sb_machine.specs.declared.reply.Refusal.TheVariants.{BadCall, ClientNotFound, NotDeferred, NotScheduled, SessionLost, SessionNotAllowed, Stopped, TxnFull, TxnScope, TxnsFull};
 ghost use Rattle.sb_model.specs.declared.message.PropertyValue.TheVariants.{Int, Text};
 ghost use Rattle.sb_machine.specs.declared.call.Act.TheVariants as act;
 ghost use Rattle.sb_machine.specs.declared.call.How.TheVariants as how;
@@ -11,19 +11,20 @@ ghost use Rattle.sb_machine.specs.declared.call.Mode.TheVariants as mode;
 ghost use Rattle.sb_machine.specs.declared.call.Part.TheVariants.{Main};
 ghost use Rattle.sb_machine.specs.declared.call.Which.TheVariants.{Id};
 ghost use Rattle.sb_machine.specs.declared.reply.Receipt.TheVariants.{Number, Duplicate};
-ghost use Rattle.sb_machine.specs.declared.reply.Reply.TheVariants.{Sent, State};
+ghost use Rattle.sb_machine.specs.declared.reply.Reply.TheVariants.{Done as WasDone, Sent, State, Together as Told};
+ghost use Rattle.sb_machine.specs.declared.reply.StepReply.TheVariants as step_reply;
 ghost use Rattle.sb_numbers.specs.declared.kind.Kind.TheVariants as kind;
 ghost use Rattle.sb_numbers.specs.declared.kind.Outcome.TheVariants as outcome;
 ghost use Rattle.sb_numbers.specs.declared.numbers.Bucket.{Bucket};
 ghost use Rattle.sb_numbers.specs.declared.numbers.Counted.{Counted};
 ghost use Rattle.sb_routes.specs.declared.routes.Address.TheVariants.{Entity};
-ghost use Rattle.sb_routes.specs.declared.routes.Route.TheVariants.{Messages, Deferred, Locked, Scheduled};
+ghost use Rattle.sb_routes.specs.declared.routes.Route.TheVariants.{Messages, Deferred, Locked, Scheduled, Together};
 ghost use Rattle.sb_routes.specs.declared.routes.Route.TheVariants.{NamedSession, HeldSession, SessionState, SessionHead, SessionDeferred, SessionLocked};
 ghost use Rattle.sb_http.specs.declared.response.Status.TheVariants as status;
 ghost use Rattle.sb_rest.specs.declared.call.RestFault.TheVariants.{Foreign, NoKey, NoRoute, BadMethod, Bad, Script};
 ghost use Rattle.sb_rest.specs.Batches as batches;
 ghost use Rattle.sb_rest.specs.Brokers.{broker_in};
-ghost use Rattle.sb_rest.specs.Calls.{call_of, at_locked, number_at};
+ghost use Rattle.sb_rest.specs.Calls.{call_of, at_locked, number_at, together_in};
 ghost use Rattle.sb_rest.specs.Callers.{is_foreign, has_key, is_known, shows};
 ghost use Rattle.sb_rest.specs.declared.asked.Asked.TheVariants.{Put};
 ghost use Rattle.sb_rest.specs.declared.asked.Scope.TheVariants as scope;
@@ -34,11 +35,11 @@ ghost use Rattle.sb_rest.specs.Forms.{fits_head, is_json_asked, lists_json, unas
 ghost use Rattle.sb_rest.specs.Lifetimes.{span_in};
 ghost use Rattle.sb_rest.specs.Values.{header_value};
 ghost use Rattle.sb_rest.specs.Repeats as repeats;
-ghost use Rattle.sb_rest.specs.Responses.{refusal_status, refusal_text, method_response, key_response, sent_response, accepted_response, held_response, state_response};
+ghost use Rattle.sb_rest.specs.Responses.{refusal_status, refusal_text, method_response, key_response, sent_response, accepted_response, held_response, state_response, together_response};
 ghost use Rattle.sb_rest.specs.ServerNumbers.{server_text, calls_text, bucket_of, journal_text};
 ghost use Rattle.sb_rest.specs.Shown.{broker_text, location_text, place_of, property_fields};
 ghost use Rattle.sb_rest.specs.Worked.{request, sends, takes, takes_as, living, text_alone, q, unlocked, hosted, keyed, showing, waiting, takes_deferred, cancels, puts, settles, why, first_token, first_copy, with_umlaut, smile};
-ghost use Rattle.sb_rest.specs.Worked.{held, makes, of_session, on, one_record, young};
+ghost use Rattle.sb_rest.specs.Worked.{held, makes, of_session, on, one_record, young, sends_nothing, acts_together};
 
 /// The definitions say of these requests what was worked out by hand.
 pub fn worked_calls()
@@ -167,6 +168,7 @@ pub fn worked_responses()
     ensures sent_two { (sent_response (waiting ∷ waiting ∷ []) (Sent (Number 7 ∷ Number 8 ∷ []))).fields ≡ [] }
     ensures not_deferred { refusal_status NotDeferred ≡ status.NotFound }
     ensures not_scheduled { refusal_status NotScheduled ≡ status.NotFound }
+    ensures unknown_client { refusal_status ClientNotFound ≡ status.NotFound }
     ensures umlaut { ascii_json with_umlaut ≡ codes "f\\u00fcr" }
     ensures pair { ascii_json smile ≡ codes "\\ud83d\\ude00" }
     ensures delete { ascii_json (126 ∷ 127 ∷ []) ≡ codes "~\\u007f" }
@@ -232,6 +234,31 @@ pub fn worked_session_responses()
     ensures allow_locked { (method_response (SessionLocked (Entity Main))).fields ≡ (codes "Allow", codes "DELETE, PUT") ∷ [] }
 {}
 
+/// The same of operations that act together.
+pub fn worked_together()
+    ensures call { call_of unlocked (request (codes "POST") (codes "/$together") [] sends_nothing) ≡ makes acts_together }
+    ensures behind_number { call_of unlocked (request (codes "POST") (codes "/$together") ((codes "Repeat-Number", codes "1") ∷ []) (codes "7")) ≡ Err (Bad (codes "Repeat-Number")) }
+    ensures no_object { on Together (codes "POST") (codes "/$together") (codes "[]") ≡ Err (Bad (codes "Body")) }
+    ensures empty { on Together (codes "POST") (codes "/$together") [] ≡ Err (Bad (codes "Body")) }
+    ensures method { on Together (codes "GET") (codes "/$together") [] ≡ Err (BadMethod Together) }
+    ensures other_act { together_in (codes "{\"do\":\"receive\",\"from\":\"q\"}") ≡ Err (codes "do") }
+    ensures wordless { together_in (codes "{\"entity\":\"q\",\"operations\":[]}") ≡ Err (codes "do") }
+    ensures numbered { together_in (codes "{\"do\":\"together\",\"client\":\"c\",\"number\":1}") ≡ Err (codes "client") }
+    ensures timed { together_in (codes "{\"at\":1,\"do\":\"together\"}") ≡ Err (codes "at") }
+    ensures operations { together_in (codes "{\"do\":\"together\",\"entity\":\"q\",\"operations\":[7]}") ≡ Err (codes "operations") }
+    ensures allow { (method_response Together).fields ≡ (codes "Allow", codes "POST") ∷ [] }
+    ensures told { together_response (Told (step_reply.Done ∷ step_reply.Sent (Number 7 ∷ Duplicate ∷ []) ∷ [])) ≡ record {
+      status = status.Ok;
+      fields = (codes "Content-Type", codes "application/json") ∷ [];
+      body = codes "{\"ok\":\"together\",\"replies\":[{\"ok\":\"done\"},{\"numbers\":[7,null],\"ok\":\"sent\"}]}";
+      ends = false;
+    } }
+    ensures another_reply { (together_response WasDone).status ≡ status.InternalServerError }
+    ensures scope { refusal_status TxnScope ≡ status.BadRequest }
+    ensures full { refusal_status TxnFull ≡ status.Forbidden }
+    ensures all_full { refusal_status TxnsFull ≡ status.Conflict }
+{}
+
 /// The same of the numbers of a server.
 pub fn worked_server_numbers()
     ensures server { (calls : Vec Counted Global) → (spent : Vec Bucket Global) → server_text (young calls spent)
@@ -240,5 +267,5 @@ pub fn worked_server_numbers()
         ≡ codes "# HELP zolmutarn_calls_total Calls since the server began, by what they ask for and how they were answered.\n# TYPE zolmutarn_calls_total counter\nzolmutarn_calls_total{act=\"create-queue\",answer=\"refused\"} 10\n" }
     ensures bucket { bucket_of (record { most = 250; count = 1 }) ≡ codes "zolmutarn_call_microseconds_bucket{le=\"250\"} 1\n" }
     ensures journal { journal_text one_record
-        ≡ codes "# HELP zolmutarn_syncs_total Syncs of the journal's records since the server began, two for each record.\n# TYPE zolmutarn_syncs_total counter\nzolmutarn_syncs_total 2\n# HELP zolmutarn_journal_records_total Records of the journal since the namespace began.\n# TYPE zolmutarn_journal_records_total counter\nzolmutarn_journal_records_total 1\n# HELP zolmutarn_journal_bytes Bytes of the journal's file.\n# TYPE zolmutarn_journal_bytes gauge\nzolmutarn_journal_bytes 43\n" }
+        ≡ codes "# HELP zolmutarn_syncs_total Syncs of the journal's records since the server began, two for each record.\n# TYPE zolmutarn_syncs_total counter\nzolmutarn_syncs_total 2\n# HELP zolmutarn_journal_records_total Records of the journal since the namespace began.\n# TYPE zolmutarn_journal_records_total counter\nzolmutarn_journal_records_total 1\n# HELP zolmutarn_journal_bytes Bytes of the journal, up to its end.\n# TYPE zolmutarn_journal_bytes gauge\nzolmutarn_journal_bytes 43\n" }
 {}

@@ -10,7 +10,7 @@ use Rattle.sb_machine.specs.declared.call.Part.TheVariants.{Main, Dead, Transfer
 use Rattle.sb_routes.specs.declared.routes.Address.{Address}
 use Rattle.sb_routes.specs.declared.routes.Address.TheVariants.{Entity, Subscription}
 use Rattle.sb_routes.specs.declared.routes.Route.{Route}
-use Rattle.sb_routes.specs.declared.routes.Route.TheVariants.{Messages, Head, Deferred, Locked, Scheduled, Script}
+use Rattle.sb_routes.specs.declared.routes.Route.TheVariants.{Messages, Head, Deferred, Locked, Scheduled, Script, Together}
 use Rattle.sb_routes.specs.declared.routes.Route.TheVariants.{NextSession, NamedSession, HeldSession, SessionState, SessionHead, SessionDeferred, SessionLocked}
 use Rattle.sb_routes.specs.declared.routes.Route.TheVariants.{Health, Status, Metrics, Peek, Page}
 use Rattle.sb_routes.specs.Paths.{looked_up, as_text}
@@ -57,9 +57,9 @@ addresses =
 unfoldable pub sights : List (List ℕ × Route)
 sights = (codes "/$health", Health) ∷ (codes "/$status", Status) ∷ (codes "/$metrics", Metrics) ∷ (codes "/$peek", Peek) ∷ (codes "/$page", Page) ∷ []
 
--- where is sent to; of script lines: a shell takes a dollar sign for itself; and for an operator
+-- where is sent to; of script lines: a shell takes a dollar sign for itself; of operations that act together; and for an operator
 unfoldable pub others : List (List ℕ × Route)
-others = (codes "/{name}/messages", Messages) ∷ (codes "/$script", Script) ∷ (codes "/script", Script) ∷ sights
+others = (codes "/{name}/messages", Messages) ∷ (codes "/$script", Script) ∷ (codes "/script", Script) ∷ (codes "/$together", Together) ∷ sights
 
 -- ---- a router
 

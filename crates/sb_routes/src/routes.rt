@@ -46,6 +46,8 @@ pub enum Route {
     SessionLocked(Address),
     /// Where script lines go.
     Script,
+    /// Where operations go that act together.
+    Together,
     /// Whether the namespace acts.
     Health,
     /// How many messages stand how, as a reply has it.
@@ -220,7 +222,7 @@ fn add_sights(router: &mut Router<Route>) -> Result<(), AllocError>
     Ok(())
 }
 
-// The routes of sends, of script lines, and of what an operator asks for.
+// The routes of sends, of script lines, of operations that act together, and of what an operator asks for.
 #[tactic(auto, unfolding(crate::specs::Routes::others))]
 fn add_others(router: &mut Router<Route>) -> Result<(), AllocError>
     ensures { OnOk result (router.new ≡ with_rows others router.old) }
@@ -228,6 +230,7 @@ fn add_others(router: &mut Router<Route>) -> Result<(), AllocError>
     add(router, "/{name}/messages", Route::Messages)?;
     add(router, "/$script", Route::Script)?;
     add(router, "/script", Route::Script)?;
+    add(router, "/$together", Route::Together)?;
     add_sights(router)?;
     Ok(())
 }

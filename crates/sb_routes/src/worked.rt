@@ -2,7 +2,7 @@
 ghost use Rattle.std.specs.Prelude.{◌≡◌, codes, Some, None};
 ghost use Rattle.sb_machine.specs.declared.call.Part.TheVariants.{Main, Dead};
 ghost use Rattle.sb_routes.specs.declared.routes.Address.TheVariants.{Entity, Subscription};
-ghost use Rattle.sb_routes.specs.declared.routes.Route.TheVariants.{Messages, Head, Deferred, Locked, Scheduled, Script};
+ghost use Rattle.sb_routes.specs.declared.routes.Route.TheVariants.{Messages, Head, Deferred, Locked, Scheduled, Script, Together};
 ghost use Rattle.sb_routes.specs.declared.routes.Route.TheVariants.{NextSession, NamedSession, HeldSession, SessionState, SessionHead, SessionDeferred, SessionLocked};
 ghost use Rattle.sb_routes.specs.declared.routes.Route.TheVariants.{Health, Status, Metrics, Peek, Page};
 ghost use Rattle.sb_routes.specs.Routes.{route_of};
@@ -25,6 +25,7 @@ pub fn worked_routes()
     ensures session_locked { route_of (codes "/q/sessions/a/x/messages/7/y") ≡ Some (SessionLocked (Entity Main)) }
     ensures script { route_of (codes "/$script") ≡ Some Script }
     ensures plain_script { route_of (codes "/Script") ≡ Some Script }
+    ensures together { route_of (codes "/$Together") ≡ Some Together }
     ensures health { route_of (codes "/$Health") ≡ Some Health }
     ensures status { route_of (codes "/%24status") ≡ Some Status }
     ensures metrics { route_of (codes "/$metrics") ≡ Some Metrics }

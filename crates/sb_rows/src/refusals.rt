@@ -39,7 +39,7 @@ fn receive(alloc: Global) -> Result<Call, AllocError> {
     })
 }
 
-// Each refusal that a call of the routes may get.
+// Each refusal that a call of the routes may get, and that of an unknown client.
 fn refusal_named(alloc: Global, name: &str) -> Result<Refusal> {
     Ok(match name {
         "BadCall" => Refusal::BadCall {
@@ -60,7 +60,11 @@ fn refusal_named(alloc: Global, name: &str) -> Result<Refusal> {
         "LockLost" => Refusal::LockLost,
         "NotDeferred" => Refusal::NotDeferred,
         "NotScheduled" => Refusal::NotScheduled,
+        "ClientNotFound" => Refusal::ClientNotFound,
         "TxnPending" => Refusal::TxnPending { txn: 7 },
+        "TxnScope" => Refusal::TxnScope,
+        "TxnFull" => Refusal::TxnFull,
+        "TxnsFull" => Refusal::TxnsFull,
         "Exhausted" => Refusal::Exhausted,
         "DiskFault" => Refusal::DiskFault,
         "Stopped" => Refusal::Stopped { faults: 3 },

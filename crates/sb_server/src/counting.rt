@@ -26,6 +26,8 @@ pub(crate) fn kind_of(act: &Act) -> Kind {
         Act::Begin { .. } => Kind::Begin,
         Act::Commit { .. } => Kind::Commit,
         Act::Rollback { .. } => Kind::Rollback,
+        Act::Together { .. } => Kind::Together,
+        Act::ForgetClient { .. } => Kind::ForgetClient,
         Act::Peek { .. } => Kind::Peek,
         Act::Counts { .. } => Kind::Counts,
         Act::Look { what } => kind_of_look(what),
@@ -75,5 +77,6 @@ fn kind_of_look(what: &Look) -> Kind {
         Look::Entity { .. } => Kind::Describe,
         Look::Sessions { .. } => Kind::Sessions,
         Look::Transactions => Kind::Transactions,
+        Look::Clients { .. } => Kind::Clients,
     }
 }

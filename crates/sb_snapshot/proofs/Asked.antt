@@ -8,7 +8,7 @@ use Rattle.std.proofs.lemmas.List.Sums.{sum_by-cons}
 use Rattle.std.proofs.lemmas.Slice.Eq.{bytes_eq-Decides}
 use Rattle.std.proofs.lemmas.Str.{IsUtf8-from_is_utf8}
 use Rattle.sb_machine.specs.Changes.{is_earlier}
-use Rattle.sb_machine.specs.Consistent.{IsOperation, IsTransaction, IsHandedOut, IsGiven, IsReply, IsKept, kept_call, IsConsistent}
+use Rattle.sb_machine.specs.Consistent.{IsOperation, IsTransaction, IsHandedOut, IsGiven, IsStepReply, IsReply, IsKept, kept_call, IsConsistent}
 use Rattle.sb_machine.specs.Each.{Each, Pairs}
 use Rattle.sb_machine.specs.Delivery.{max_count}
 use Rattle.sb_machine.specs.Fields.{bad_in_how, is_id, is_short, max_messages}
@@ -29,6 +29,8 @@ use Rattle.sb_machine.specs.declared.reply.Receipt.{Receipt}
 use Rattle.sb_machine.specs.declared.reply.Receipt.TheVariants.{Number, Duplicate}
 use Rattle.sb_machine.specs.declared.reply.Reply.{Reply}
 use Rattle.sb_machine.specs.declared.reply.Reply.TheVariants as reply
+use Rattle.sb_machine.specs.declared.reply.StepReply.{StepReply}
+use Rattle.sb_machine.specs.declared.reply.StepReply.TheVariants as told
 use Rattle.sb_machine.specs.declared.reply.CopyShown.{CopyShown}
 use Rattle.sb_machine.specs.declared.reply.Showing.{Showing}
 use Rattle.sb_machine.specs.declared.reply.Showing.TheVariants.{Removed, Locked, Browsed}
@@ -64,7 +66,7 @@ use Rattle.sb_machine.proofs.Passed.{first_none, unless_none, between_most}
 use Rattle.sb_snapshot.specs.Base.{head_of, leaves_in, placed_sessions, sessions_in, parts, IsSpellable}
 use Rattle.sb_snapshot.specs.Copies.{hold, standing, copy, is_next_copy}
 use Rattle.sb_snapshot.specs.Entities.{filter, action_words, rule, is_next_rule, accepted, is_next_id, about, head, is_next_head}
-use Rattle.sb_snapshot.specs.Replies.{receipt, showing, delivery, shown, answer, kept, is_next_kept}
+use Rattle.sb_snapshot.specs.Replies.{receipt, showing, delivery, shown, step_reply, answer, kept, is_next_kept}
 use Rattle.sb_snapshot.specs.Sessions.{key, is_same_key, is_before_key, leaf, holder, in_part, session, is_next_session}
 use Rattle.sb_snapshot.specs.Transactions.{operation, transaction, is_next_transaction}
 use Rattle.sb_snapshot.specs.declared.parts.EntityHead.{EntityHead}
@@ -340,6 +342,11 @@ shown_asked : (x : CopyShown) → IsGiven x → shown.Asks x
 unfolding shown
 shown_asked x is = (tt, (tt, (tt, (delivery_asked x.delivery is.once is.count, (showing_asked x.showing is.showing, message_asked x.message is.message)))))
 
+step_reply_asked : (r : StepReply) → IsStepReply r → step_reply.Asks r
+unfolding step_reply
+step_reply_asked told.Done is = tt
+step_reply_asked (told.Sent receipts) is = (omega (arith, is), follow_each receipt.Asks None receipts (receipts_asked receipts))
+
 answer_asked : (r : Reply) → IsReply r → answer.Asks r
 unfolding answer
 answer_asked reply.Done is = tt
@@ -353,6 +360,9 @@ answer_asked (reply.Begun n) is = tt
 answer_asked reply.Queued is = tt
 answer_asked reply.Committed is = tt
 answer_asked (reply.Aborted p n) is = (tt, tt)
+answer_asked (reply.Together replies) is =
+    let few = is.0 in
+    (omega (arith, few), follow_each step_reply.Asks None replies (each_more IsStepReply step_reply.Asks step_reply_asked replies is.1))
 answer_asked (reply.Copies copies) is = absurd is
 answer_asked (reply.State state) is = absurd is
 answer_asked (reply.Counts main dead transfer) is = absurd is

@@ -36,7 +36,7 @@ each_text (s ∷ ss) le = let sum = sum_by-cons text_size s ss in (omega (arith,
 
 system_asked : (s : SystemText) → length s.text ≤ 65536 → system.Asks s
 unfolding system
-system_asked s le = (tt, short_text s.text le)
+system_asked s le = (tt, short_text s.text (omega (arith, le)))
 
 pub systems_asked : (m : Message) → IsMessage m → sum_by text_size m.sys ≤ 65536 → systems.Asks m.sys
 systems_asked m is le =
@@ -159,12 +159,12 @@ each_small (p ∷ ps) own le = by_test (is_set_aside p) refl (each_small ps own.
 value_asked : (v : PropertyValue) → value_size v ≤ 65536 → value.Asks v
 unfolding value signed64
 value_asked (Int z) le = tt
-value_asked (Text t) le = short_text t le
+value_asked (Text t) le = short_text t (omega (arith, le))
 value_asked (Truth b) le = tt
 
 property_asked : (p : Property) → IsSmall p → property.Asks p
 unfolding property
-property_asked p small = (short_text p.name small.0, value_asked p.value small.1)
+property_asked p small = let name = small.0 in (short_text p.name (omega (arith, name)), value_asked p.value small.1)
 
 pub properties_asked : (m : Message) → IsMessage m → sum_by property_size (without_own m).props ≤ 65536 → properties.Asks m.props
 properties_asked m is le =

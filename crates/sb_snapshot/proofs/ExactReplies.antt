@@ -8,13 +8,15 @@ use Rattle.sb_machine.specs.declared.reply.Reply.{Reply}
 use Rattle.sb_machine.specs.declared.reply.Reply.TheVariants as reply
 use Rattle.sb_machine.specs.declared.reply.Showing.{Showing}
 use Rattle.sb_machine.specs.declared.reply.Showing.TheVariants.{Removed, Locked, Browsed}
+use Rattle.sb_machine.specs.declared.reply.StepReply.{StepReply}
+use Rattle.sb_machine.specs.declared.reply.StepReply.TheVariants as told
 use Rattle.sb_codec.specs.Messages.{any_next}
 use Rattle.sb_codec.proofs.Exact.{some_is}
 use Rattle.sb_codec.proofs.Forms.{IsForm, number32_is, number64_is, text_is, nothing_is, empty_is, ◌then_is◌, shaped_is, optional_is, listed_is, Chooses, no_row_chooses, row_chooses, IsCase, is_case, variants_is}
 use Rattle.sb_codec.proofs.ExactActs.{any_act_is}
 use Rattle.sb_codec.proofs.ExactMessages.{message_is}
 use Rattle.sb_codec.proofs.ExactPieces.{part_is, token_is}
-use Rattle.sb_snapshot.specs.Replies.{receipt_of, number_in, receipt, showing_of, lock_of, showing, delivery, shown, done, sent, given, nothing_there, expired, session_held, renewed, begun, queued, committed, aborted, no_reply, answer_case, answer_choice, answer, kept}
+use Rattle.sb_snapshot.specs.Replies.{receipt_of, number_in, receipt, showing_of, lock_of, showing, delivery, shown, step_done, step_sent, step_reply_case, step_reply_choice, step_reply, done, sent, given, nothing_there, expired, session_held, renewed, begun, queued, committed, aborted, together, no_reply, answer_case, answer_choice, answer, kept}
 use Rattle.sb_snapshot.proofs.Lists.{narrowed_is}
 
 -- ---- receipts
@@ -63,6 +65,22 @@ pub shown_is : IsForm shown
 unfolding shown
 shown_is = shaped_is _ _ (λ _. refl) (λ _. refl) (number64_is then_is number64_is then_is number64_is then_is delivery_is then_is showing_is then_is message_is)
 
+-- ---- replies to operations that acted together
+
+step_reply_chooses : Chooses step_reply_case step_reply_choice
+step_reply_chooses =
+    row_chooses step_reply_case step_done _ empty_is (λ _. refl) (λ _ f. f)
+    (row_chooses step_reply_case step_sent _ (listed_is any_next receipt_is) (λ _. refl) (λ _ f. f)
+    (no_row_chooses step_reply_case))
+
+step_reply_each : (v : StepReply) → IsCase step_reply_choice (step_reply_case v) v
+step_reply_each told.Done = is_case step_reply_choice step_done empty_is (λ _. refl) tt
+step_reply_each (told.Sent receipts) = is_case step_reply_choice step_sent (listed_is any_next receipt_is) (λ _. refl) receipts
+
+pub step_reply_is : IsForm step_reply
+unfolding step_reply
+step_reply_is = variants_is step_reply_case step_reply_choice step_reply_chooses step_reply_each
+
 -- ---- replies
 
 answer_chooses : Chooses answer_case answer_choice
@@ -78,7 +96,8 @@ answer_chooses =
     (row_chooses answer_case queued _ empty_is (λ _. refl) (λ _ f. f)
     (row_chooses answer_case committed _ empty_is (λ _. refl) (λ _ f. f)
     (row_chooses answer_case aborted _ (part_is then_is number64_is) (λ _. refl) (λ _ f. f)
-    (no_row_chooses answer_case)))))))))))
+    (row_chooses answer_case together _ (listed_is any_next step_reply_is) (λ _. refl) (λ _ f. f)
+    (no_row_chooses answer_case))))))))))))
 
 answer_each : (v : Reply) → IsCase answer_choice (answer_case v) v
 answer_each reply.Done = is_case answer_choice done empty_is (λ _. refl) tt
@@ -92,6 +111,7 @@ answer_each (reply.Begun n) = is_case answer_choice begun number64_is (λ _. ref
 answer_each reply.Queued = is_case answer_choice queued empty_is (λ _. refl) tt
 answer_each reply.Committed = is_case answer_choice committed empty_is (λ _. refl) tt
 answer_each (reply.Aborted p n) = is_case answer_choice aborted (part_is then_is number64_is) (λ _. refl) (p, n)
+answer_each (reply.Together replies) = is_case answer_choice together (listed_is any_next step_reply_is) (λ _. refl) replies
 answer_each (reply.Copies copies) = is_case answer_choice no_reply nothing_is (λ _. refl) (reply.Copies copies)
 answer_each (reply.State state) = is_case answer_choice no_reply nothing_is (λ _. refl) (reply.State state)
 answer_each (reply.Counts main dead transfer) = is_case answer_choice no_reply nothing_is (λ _. refl) (reply.Counts main dead transfer)

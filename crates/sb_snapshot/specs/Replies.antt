@@ -10,6 +10,8 @@ use Rattle.sb_machine.specs.declared.reply.Reply.{Reply}
 use Rattle.sb_machine.specs.declared.reply.Reply.TheVariants as reply
 use Rattle.sb_machine.specs.declared.reply.Showing.{Showing}
 use Rattle.sb_machine.specs.declared.reply.Showing.TheVariants.{Removed, Locked, Browsed}
+use Rattle.sb_machine.specs.declared.reply.StepReply.{StepReply}
+use Rattle.sb_machine.specs.declared.reply.StepReply.TheVariants as told
 use Rattle.sb_machine.specs.declared.state.Kept.{Kept}
 use Rattle.sb_codec.specs.Acts.{any_act}
 use Rattle.sb_codec.specs.Forms.{Form, number32, number64, text, ◌then◌, shaped, optional, listed, Row, row, Case, of, Choice, no_row, ◌or◌, variants, nothing, empty}
@@ -61,6 +63,27 @@ shown =
     (λ c. (c.number, (c.enqueued_seq, (c.enqueued, (c.delivery, (c.showing, c.message))))))
     (number64 then number64 then number64 then delivery then showing then message)
 
+-- ---- replies to operations that acted together
+
+abbrev pub step_done : Row StepReply
+step_done = row 0 empty (λ _. told.Done)
+
+abbrev pub step_sent : Row StepReply
+step_sent = row 1 (listed any_next receipt) (λ x. told.Sent x)
+
+-- the code and the bytes of each
+abbrev pub step_reply_case : StepReply → Case
+step_reply_case told.Done = of step_done tt
+step_reply_case (told.Sent receipts) = of step_sent receipts
+
+-- what is read behind each code of these
+abbrev pub step_reply_choice : Choice StepReply
+step_reply_choice = step_done or step_sent or no_row
+
+-- the form of the reply to one of them
+unfoldable pub step_reply : Form StepReply
+step_reply = variants step_reply_case step_reply_choice
+
 -- ---- replies
 
 abbrev pub done : Row Reply
@@ -96,6 +119,9 @@ committed = row 9 empty (λ _. reply.Committed)
 abbrev pub aborted : Row Reply
 aborted = row 10 (part then number64) (λ x. reply.Aborted x.0 x.1)
 
+abbrev pub together : Row Reply
+together = row 32 (listed any_next step_reply) (λ x. reply.Together x)
+
 -- a reply to a call that only looks, which is never remembered
 abbrev pub no_reply : Row Reply
 no_reply = row 11 nothing (λ r. r)
@@ -113,6 +139,7 @@ answer_case (reply.Begun n) = of begun n
 answer_case reply.Queued = of queued tt
 answer_case reply.Committed = of committed tt
 answer_case (reply.Aborted p n) = of aborted (p, n)
+answer_case (reply.Together replies) = of together replies
 answer_case (reply.Copies copies) = of no_reply (reply.Copies copies)
 answer_case (reply.State state) = of no_reply (reply.State state)
 answer_case (reply.Counts main dead transfer) = of no_reply (reply.Counts main dead transfer)
@@ -120,7 +147,7 @@ answer_case (reply.Seen view) = of no_reply (reply.Seen view)
 
 -- what is read behind each code
 abbrev pub answer_choice : Choice Reply
-answer_choice = done or sent or given or nothing_there or expired or session_held or renewed or begun or queued or committed or aborted or no_row
+answer_choice = done or sent or given or nothing_there or expired or session_held or renewed or begun or queued or committed or aborted or together or no_row
 
 -- the form of replies
 unfoldable pub answer : Form Reply

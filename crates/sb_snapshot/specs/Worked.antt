@@ -12,6 +12,7 @@ use Rattle.sb_machine.specs.declared.reply.Receipt.TheVariants.{Number, Duplicat
 use Rattle.sb_machine.specs.declared.reply.Reply.{Reply}
 use Rattle.sb_machine.specs.declared.reply.Reply.TheVariants as reply
 use Rattle.sb_machine.specs.declared.reply.Showing.TheVariants.{Removed, Locked}
+use Rattle.sb_machine.specs.declared.reply.StepReply.TheVariants as told
 use Rattle.sb_machine.specs.declared.rule.Rule.{Rule}
 use Rattle.sb_machine.specs.declared.rule.RuleFilter.TheVariants.{Sql, Correlation}
 use Rattle.sb_machine.specs.declared.state.Entity.{Entity}
@@ -120,6 +121,7 @@ replies =
     ∷ (reply.Queued, 8 ∷ [])
     ∷ (reply.Committed, 9 ∷ [])
     ∷ (reply.Aborted Dead 1, 10 ∷ 1 ∷ eight 1)
+    ∷ (reply.Together (told.Done ∷ told.Sent (Number 1 ∷ Duplicate ∷ []) ∷ []), 32 ∷ four 2 ++ 0 ∷ 1 ∷ four 2 ++ 1 ∷ eight 1 ++ 0 ∷ [])
     ∷ []
 
 -- ---- a small state

@@ -33,6 +33,7 @@ mod replies;
 mod rules;
 mod sessions;
 mod shown;
+mod step_replies;
 mod texts;
 mod transactions;
 mod worked;

@@ -6,6 +6,7 @@ ghost use Rattle.sb_snapshot.specs.Replies as replies;
 
 use crate::coded::{put_code, put_coded};
 use crate::shown::{ReceiptPiece, ShownPiece};
+use crate::step_replies::StepReplyPiece;
 use sb_codec::{
     Listed, Number64, PartPiece, Piece, TokenPiece, Unread, Words, put_fields, take_fields,
 };
@@ -92,6 +93,13 @@ fn take_aborted(alloc: Global, bytes: &[u8]) -> Result<(Reply, &[u8]), Unread>
     )
 }
 
+fn take_together(alloc: Global, bytes: &[u8]) -> Result<(Reply, &[u8]), Unread>
+    ensures { Gives (λ x. (x.0, x.1.now)) result (mapped replies.together.make replies.together.form.reads bytes.now) }
+{
+    let (steps, rest) = Listed::<StepReplyPiece>::take(alloc, bytes)?;
+    Ok((Reply::Together(steps), rest))
+}
+
 /// A reply that is remembered: none to a call that only looks.
 pub(crate) struct ReplyPiece;
 
@@ -114,6 +122,7 @@ impl Piece for ReplyPiece {
             Reply::Queued => put_code(8, out),
             Reply::Committed => put_code(9, out),
             Reply::Aborted { part, number } => put_aborted(part, number, out),
+            Reply::Together(steps) => put_coded::<Listed<StepReplyPiece>>(32, steps, out),
             // Of these none is asked for.
             Reply::Copies(_) | Reply::State(_) | Reply::Counts { .. } | Reply::Seen(_) => {
                 put_code(11, out)
@@ -138,6 +147,7 @@ impl Piece for ReplyPiece {
             8 => Ok((Reply::Queued, rest)),
             9 => Ok((Reply::Committed, rest)),
             10 => take_aborted(alloc, rest),
+            32 => take_together(alloc, rest),
             _ => Err(Unread::NoSpelling),
         }
     }

@@ -1,6 +1,5 @@
 // Committing a transaction: its operations act together or not at all.
 ghost use Rattle.std.specs.Prelude.{◌≡◌, ◌∷◌, [], find, Some};
-ghost use Rattle.std.specs.List.{list_all};
 ghost use Rattle.std.specs.Option.{option_map};
 ghost use Rattle.sb_machine.specs.Namespace.{entity_of};
 ghost use Rattle.sb_machine.specs.Rows.{answers, within_quota};
@@ -8,18 +7,14 @@ ghost use Rattle.sb_machine.specs.Transactions as spec;
 ghost use Rattle.sb_machine.specs.declared.change.Change.TheVariants.{Drops};
 ghost use Rattle.sb_machine.specs.declared.reply.Reply.TheVariants.{Committed};
 ghost use Rattle.sb_entities.specs.Stores.{entity_in, space_in};
-ghost use Rattle.sb_engine.specs.Commits as commits;
 ghost use Rattle.sb_engine.specs.Commits.{IsItself};
 ghost use Rattle.sb_engine.specs.Plans.{PlansRow};
 
-use crate::deliver::committing::act_all;
-use crate::deliver::sending::Sending;
+use crate::deliver::fulfilling::{Fulfilled, fulfil};
 use crate::find::leases::leased;
 use crate::plan::draft::Draft;
-use crate::plan::quota::judge_quota;
 use sb_entities::{EntityStore, SpaceStore};
 use sb_machine::{Change, Changes, Operation, Refusal, Reply, Which};
-use sb_names::goes_with;
 use sb_txn::OpenTransaction;
 use std::alloc::Global;
 
@@ -78,23 +73,7 @@ fn dropping(alloc: Global, txn: &OpenTransaction) -> Changes
     changes
 }
 
-fn goes_well(operation: &Operation) -> bool
-    ensures { result ≡ commits.goes_well operation.now }
-{
-    match operation {
-        Operation::Send { .. } => true,
-        Operation::Settle { from, how, .. } => goes_with(how, from.part),
-    }
-}
-
-fn all_go_well(operations: &[Operation]) -> bool
-    ensures { result ≡ list_all commits.goes_well operations.now }
-{
-    operations.iter().all(|o| goes_well(o))
-}
-
-// Its operations act. Memory is wanting where a settlement doesn't go with the part that it is on,
-// which is never queued.
+// Its operations act.
 fn acted(
     alloc: Global,
     space: &SpaceStore,
@@ -105,34 +84,16 @@ fn acted(
     requires { entity_of (entity_in entity.now).about.number (space_in space.now) ≡ Some (entity_in entity.now) }
     ensures { PlansRow result (within_quota moment (space_in space.now) (spec.commit_changes moment (entity_in entity.now) txn.now.transaction (space_in space.now)) (answers Committed (spec.commit_changes moment (entity_in entity.now) txn.now.transaction (space_in space.now)))) }
 {
-    if !all_go_well(txn.operations()) {
-        return Err(Refusal::OutOfMemory);
-    }
-    let mut sending = Sending::behind(alloc, dropping(alloc, txn));
-    let mut done = Vec::new(alloc);
-    let operations = txn.operations();
-    let Ok(()) = act_all(
-        alloc,
-        space,
-        &mut sending,
-        &mut done,
-        entity,
-        moment,
-        operations,
-    ) else {
-        drop(sending);
-        return Err(Refusal::OutOfMemory);
-    };
-    let Sending { changes, .. } = sending;
-    match judge_quota(space, moment, &changes) {
-        Ok(()) => Ok(Draft {
-            reply: Reply::Committed,
-            changes,
-        }),
-        Err(refusal) => {
-            drop(changes);
-            Err(refusal)
+    let front = dropping(alloc, txn);
+    match fulfil(alloc, space, moment, entity, front, txn.operations()) {
+        Ok(Fulfilled { changes, receipts }) => {
+            drop(receipts);
+            Ok(Draft {
+                reply: Reply::Committed,
+                changes,
+            })
         }
+        Err(refusal) => Err(refusal),
     }
 }
 

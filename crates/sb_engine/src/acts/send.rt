@@ -52,8 +52,8 @@ fn is_open(space: &SpaceStore, txn: Option<u64>) -> bool
     }
 }
 
-// The entity that is sent to; another one than the transaction's isn't asked for.
-fn target<'a>(space: &'a SpaceStore, to: &Path, via: bool) -> Option<&'a EntityStore>
+/// The entity that is sent to; another one than the transaction's isn't asked for.
+pub fn target<'a>(space: &'a SpaceStore, to: &Path, via: bool) -> Option<&'a EntityStore>
     ensures found { option_map (λ e. entity_in e.now) result ≡ (if via then None else namespace.entity_at to.now (space_in space.now)) }
     ensures there { IsThereIn (space_in space.now) (option_map (λ e. entity_in e.now) result) }
 {
@@ -63,7 +63,8 @@ fn target<'a>(space: &'a SpaceStore, to: &Path, via: bool) -> Option<&'a EntityS
     space.at(to)
 }
 
-fn is_destination(to: &Path) -> bool
+/// Whether it names a queue or a topic by its own address.
+pub fn is_destination(to: &Path) -> bool
     ensures { result ≡ spec.is_destination to.now }
 {
     to.subscription.is_none() && is_main(to.part)
@@ -77,7 +78,8 @@ fn all_have_sessions(messages: &[Message]) -> bool
     messages.iter().all(|m| has_session(m))
 }
 
-fn have_sessions_at(entity: Option<&EntityStore>, messages: &[Message]) -> bool
+/// Whether these messages have the sessions that the entity asks for, where there is one.
+pub fn have_sessions_at(entity: Option<&EntityStore>, messages: &[Message]) -> bool
     ensures { result ≡ spec.have_sessions_at (option_map (λ e. entity_in e.now) entity.entry) messages.now }
 {
     match entity {
@@ -88,7 +90,8 @@ fn have_sessions_at(entity: Option<&EntityStore>, messages: &[Message]) -> bool
     }
 }
 
-fn judge_sizes(messages: &[Message]) -> Result<(), Refusal>
+/// Refuses messages that are too large.
+pub fn judge_sizes(messages: &[Message]) -> Result<(), Refusal>
     ensures { Judges result (refused_by (sends.too_large messages.now)) }
 {
     match large_size(messages) {
@@ -130,7 +133,8 @@ fn sent(
     })
 }
 
-fn send_of(to: &Path, messages: &Rows<Message>) -> Result<Operation, AllocError>
+/// A send as it is queued.
+pub fn send_of(to: &Path, messages: &Rows<Message>) -> Result<Operation, AllocError>
     ensures { IfOk result (λ o. o ≡ Send to.now messages.now) }
 {
     Ok(Operation::Send {

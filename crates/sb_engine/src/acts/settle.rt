@@ -1,5 +1,5 @@
 // Settling a copy that is held under a lock: at once, or queued in a transaction.
-ghost use Rattle.std.specs.Prelude.{◌≡◌, ◌≤◌, true, Some, None, IfErr, MatchResult};
+ghost use Rattle.std.specs.Prelude.{◌≡◌, ◌≤◌, true, Some, None, IfOk, IfErr, MatchResult};
 ghost use Rattle.std.specs.Result.{IsOk};
 ghost use Rattle.std.specs.Option.{option_map};
 ghost use Rattle.sb_machine.specs.Answers.{max_moment};
@@ -62,6 +62,25 @@ fn settled_now(
     })
 }
 
+/// A settlement as it is queued.
+pub fn settle_of(
+    from: &Path,
+    number: u64,
+    token: Token,
+    session: Option<Token>,
+    how: &How,
+) -> Result<Operation, AllocError>
+    ensures { IfOk result (λ o. o ≡ Settle from.now number token session how.now) }
+{
+    Ok(Operation::Settle {
+        from: from.clone()?,
+        number,
+        token,
+        session,
+        how: how.clone()?,
+    })
+}
+
 fn queued(
     alloc: Global,
     moment: u64,
@@ -75,13 +94,7 @@ fn queued(
     requires { moment ≤ max_moment }
     ensures { DraftsRow result (answers Queued (queueing.queueing moment txn.now.transaction (Settle from.now number token session how.now))) }
 {
-    let operation = Operation::Settle {
-        from: from.clone()?,
-        number,
-        token,
-        session,
-        how: how.clone()?,
-    };
+    let operation = settle_of(from, number, token, session, how)?;
     Ok(Draft::changing(alloc, Reply::Queued, queueing(moment, txn, operation)))
 }
 

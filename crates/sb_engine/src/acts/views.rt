@@ -1,7 +1,9 @@
 // What an operator looks at: entities, one of them, its sessions, the open transactions.
-ghost use Rattle.std.specs.Prelude.{◌≡◌, map, IfOk};
+ghost use Rattle.std.specs.Prelude.{◌≡◌, [], map, IfOk};
 ghost use Rattle.sb_entities.specs.Stores.{space_in, entity_in};
 ghost use Rattle.sb_machine.specs.Looks as looks;
+ghost use Rattle.sb_machine.specs.declared.look.View.TheVariants as view_of;
+ghost use Rattle.sb_machine.specs.declared.reply.Reply.TheVariants.{Seen};
 ghost use Rattle.sb_engine.specs.Plans.{PlansRow};
 
 use crate::Draft;
@@ -28,6 +30,7 @@ pub fn plan_look(alloc: Global, space: &SpaceStore, what: &Look) -> Result<Draft
         Look::Entity { path } => plan_entity(alloc, space, path),
         Look::Sessions { path, after, count } => plan_sessions(alloc, space, path, after, *count),
         Look::Transactions => plan_transactions(alloc, space),
+        Look::Clients { .. } => Ok(none_shown(alloc)),
     }
 }
 
@@ -187,4 +190,14 @@ fn plan_transactions(alloc: Global, space: &SpaceStore) -> Result<Draft, Refusal
         Ok(shown) => Ok(Draft::unchanging(alloc, Reply::Seen(View::Transactions(shown)))),
         Err(_) => Err(Refusal::OutOfMemory),
     }
+}
+
+// ---- clients
+
+// They are remembered beside the namespace: `plan::clients` shows them.
+fn none_shown(alloc: Global) -> Draft
+    ensures reply { result.reply ≡ Seen (view_of.Clients []) }
+    ensures changes { result.changes ≡ [] }
+{
+    Draft::unchanging(alloc, Reply::Seen(View::Clients(Rows::new(alloc))))
 }

@@ -1,13 +1,15 @@
 // What the queued operations of a transaction do as they act, one after another.
-ghost use Rattle.std.specs.Prelude.{◌≡◌, OnOk};
+ghost use Rattle.std.specs.Prelude.{◌≡◌, ◌++◌, ◌∷◌, [], OnOk};
 ghost use Rattle.sb_entities.specs.Stores.{entity_in, space_in};
 ghost use Rattle.sb_machine.specs.Changes.{in_turn};
 ghost use Rattle.sb_machine.specs.Names as names;
-ghost use Rattle.sb_machine.specs.Sending.{send_changes};
+ghost use Rattle.sb_machine.specs.Namespace.{listed};
+ghost use Rattle.sb_machine.specs.Sending.{receipts, send_changes};
+ghost use Rattle.sb_machine.specs.Together as together;
 ghost use Rattle.sb_machine.specs.Transactions as spec;
 ghost use Rattle.sb_machine.specs.declared.state.Operation.TheVariants.{Send, Settle};
 ghost use Rattle.sb_engine.specs.Commits as commits;
-ghost use Rattle.sb_engine.specs.Commits.{Acts, AsFound};
+ghost use Rattle.sb_engine.specs.Commits.{Acts, ActsTelling, AsFound};
 ghost use Rattle.sb_engine.specs.Sendings.{IsUnderWay, space_at, told};
 
 use crate::deliver::sending::{Sending, copy_of, send_all};
@@ -15,10 +17,29 @@ use crate::deliver::settling::settled;
 use crate::find::leases::leased;
 use sb_entities::{EntityStore, SpaceStore};
 use sb_fanout::hand_on;
-use sb_machine::{How, Operation, Part, Path, Token, Which};
-use sb_model::Message;
+use sb_machine::{Directory, How, LeafKey, Operation, Part, Path, Receipt, Token, Which};
+use sb_model::{Message, Rows};
 use sb_names::{goes_with, is_same_entity};
 use std::alloc::{AllocError, Global};
+use std::collections::VecDeque;
+use std::mem;
+
+// The part to which a message comes first that is handed on: where it goes, or where it stays if
+// that isn't there.
+fn first_key(space: &SpaceStore, entity: &EntityStore, to: &str) -> LeafKey
+    ensures { result ≡ commits.first_key (listed (space_in space.now)) (entity_in entity.now).about to.now }
+{
+    match space.destination(to) {
+        Some(target) => LeafKey {
+            entity: target.number,
+            part: Part::Main,
+        },
+        None => LeafKey {
+            entity: entity.about().number,
+            part: Part::Transfer,
+        },
+    }
+}
 
 // A message is handed on from the transaction's entity.
 fn hand_one(
@@ -31,8 +52,10 @@ fn hand_one(
     message: &Message,
 ) -> Result<(), AllocError>
     requires { IsUnderWay moment (space_in space.now) (entity_in entity.now).about.number (told sending.old) }
-    ensures { OnOk result (Acts moment (space_in space.now) (entity_in entity.now).about.number (spec.handed_on (entity_in entity.now) to.now message.now) (told sending.old) (told sending.new)) }
+    ensures { OnOk result (ActsTelling moment (space_in space.now) (entity_in entity.now).about.number (spec.handed_on (entity_in entity.now) to.now message.now) (commits.handed_receipt (entity_in entity.now) to.now message.now) (told sending.old) (told sending.new)) }
 {
+    let number = sending.lasts.next(space, first_key(space, entity, to))?;
+    sending.receipts.push(Receipt::Number(number))?;
     let copy = copy_of(message)?;
     hand_on(
         alloc,
@@ -55,7 +78,7 @@ fn hand_all(
     messages: &[Message],
 ) -> Result<(), AllocError>
     requires { IsUnderWay moment (space_in space.now) (entity_in entity.now).about.number (told sending.old) }
-    ensures { OnOk result (Acts moment (space_in space.now) (entity_in entity.now).about.number (in_turn (spec.handed_on (entity_in entity.now) to.now) moment messages.now) (told sending.old) (told sending.new)) }
+    ensures { OnOk result (ActsTelling moment (space_in space.now) (entity_in entity.now).about.number (in_turn (spec.handed_on (entity_in entity.now) to.now) moment messages.now) (together.handed_receipts moment (entity_in entity.now) to.now messages.now) (told sending.old) (told sending.new)) }
 {
     for message in messages {
         hand_one(alloc, space, sending, entity, moment, to, message)?;
@@ -72,7 +95,7 @@ fn send_own(
     messages: &[Message],
 ) -> Result<(), AllocError>
     requires { IsUnderWay moment (space_in space.now) (entity_in entity.now).about.number (told sending.old) }
-    ensures { OnOk result (Acts moment (space_in space.now) (entity_in entity.now).about.number (send_changes moment (entity_in entity.now) messages.now) (told sending.old) (told sending.new)) }
+    ensures { OnOk result (ActsTelling moment (space_in space.now) (entity_in entity.now).about.number (send_changes moment (entity_in entity.now) messages.now) (receipts moment (entity_in entity.now) messages.now) (told sending.old) (told sending.new)) }
 {
     send_all(alloc, space, sending, entity, moment, messages)
 }
@@ -87,7 +110,7 @@ fn send_queued(
     messages: &[Message],
 ) -> Result<(), AllocError>
     requires { IsUnderWay moment (space_in space.now) (entity_in entity.now).about.number (told sending.old) }
-    ensures { OnOk result (Acts moment (space_in space.now) (entity_in entity.now).about.number (spec.operation_changes moment (entity_in entity.now) (Send to.now messages.now)) (told sending.old) (told sending.new)) }
+    ensures { OnOk result (ActsTelling moment (space_in space.now) (entity_in entity.now).about.number (spec.operation_changes moment (entity_in entity.now) (Send to.now messages.now)) (together.sent_receipts moment (entity_in entity.now) to.now messages.now) (told sending.old) (told sending.new)) }
 {
     if is_same_entity(to, &entity.about().path) {
         return send_own(alloc, space, sending, entity, moment, messages);
@@ -101,6 +124,29 @@ fn send_queued(
         to.name.as_str(),
         messages,
     )
+}
+
+// A queued send acts, and its receipts go behind those of the sends before it.
+fn send_told(
+    alloc: Global,
+    space: &SpaceStore,
+    sending: &mut Sending,
+    sent: &mut VecDeque<Rows<Receipt>>,
+    entity: &EntityStore,
+    moment: u64,
+    to: &Path,
+    messages: &[Message],
+) -> Result<(), AllocError>
+    requires under_way { IsUnderWay moment (space_in space.now) (entity_in entity.now).about.number (told sending.old) }
+    requires none { sending.old.receipts.items ≡ [] }
+    ensures acts { OnOk result (Acts moment (space_in space.now) (entity_in entity.now).about.number (spec.operation_changes moment (entity_in entity.now) (Send to.now messages.now)) (told sending.old) (told sending.new)) }
+    ensures none { OnOk result (sending.new.receipts.items ≡ []) }
+    ensures sent { OnOk result (sent.new.items ≡ sent.old.items ++ together.sent_receipts moment (entity_in entity.now) to.now messages.now (space_at moment (space_in space.now) (told sending.old)) ∷ []) }
+{
+    send_queued(alloc, space, sending, entity, moment, to, messages)?;
+    let receipts = mem::replace(&mut sending.receipts, Vec::new(alloc));
+    sent.push_back(Rows::from_vec(receipts))?;
+    Ok(())
 }
 
 // ---- settlements
@@ -150,6 +196,7 @@ fn settle_queued(
     requires found { AsFound moment (space_in space.now) (entity_in entity.now) done.old.items (space_at moment (space_in space.now) (told sending.old)) }
     ensures acts { OnOk result (Acts moment (space_in space.now) (entity_in entity.now).about.number (spec.operation_changes moment (entity_in entity.now) (Settle from.now number token session how.now)) (told sending.old) (told sending.new)) }
     ensures found { OnOk result (AsFound moment (space_in space.now) (entity_in entity.now) done.new.items (space_at moment (space_in space.now) (told sending.new))) }
+    ensures receipts { OnOk result (sending.new.receipts.items ≡ sending.old.receipts.items) }
 {
     if !goes_with(how, from.part) {
         return Err(AllocError);
@@ -186,20 +233,25 @@ fn act_one(
     space: &SpaceStore,
     sending: &mut Sending,
     done: &mut Vec<SettledCopy>,
+    sent: &mut VecDeque<Rows<Receipt>>,
     entity: &EntityStore,
     moment: u64,
     operation: &Operation,
 ) -> Result<(), AllocError>
     requires under_way { IsUnderWay moment (space_in space.now) (entity_in entity.now).about.number (told sending.old) }
     requires found { AsFound moment (space_in space.now) (entity_in entity.now) done.old.items (space_at moment (space_in space.now) (told sending.old)) }
+    requires none { sending.old.receipts.items ≡ [] }
     ensures acts { OnOk result (Acts moment (space_in space.now) (entity_in entity.now).about.number (spec.operation_changes moment (entity_in entity.now) operation.now) (told sending.old) (told sending.new)) }
     ensures found { OnOk result (AsFound moment (space_in space.now) (entity_in entity.now) done.new.items (space_at moment (space_in space.now) (told sending.new))) }
+    ensures none { OnOk result (sending.new.receipts.items ≡ []) }
+    ensures sent { OnOk result (sent.new.items ≡ sent.old.items ++ commits.told_by moment (entity_in entity.now) operation.now (space_at moment (space_in space.now) (told sending.old))) }
 {
     match operation {
-        Operation::Send { to, messages } => send_queued(
+        Operation::Send { to, messages } => send_told(
             alloc,
             space,
             sending,
+            sent,
             entity,
             moment,
             to,
@@ -218,22 +270,26 @@ fn act_one(
 }
 
 /// The operations of a transaction on an entity act at `moment`, in ms since 1970, one after
-/// another: changes behind those of a plan. Where memory is wanting, the plan is lost.
+/// another: changes behind those of a plan, and the receipts of each send. Where memory is wanting,
+/// the plan is lost.
 pub fn act_all(
     alloc: Global,
     space: &SpaceStore,
     sending: &mut Sending,
     done: &mut Vec<SettledCopy>,
+    sent: &mut VecDeque<Rows<Receipt>>,
     entity: &EntityStore,
     moment: u64,
     operations: &[Operation],
 ) -> Result<(), AllocError>
     requires under_way { IsUnderWay moment (space_in space.now) (entity_in entity.now).about.number (told sending.old) }
     requires found { AsFound moment (space_in space.now) (entity_in entity.now) done.old.items (space_at moment (space_in space.now) (told sending.old)) }
-    ensures { OnOk result (Acts moment (space_in space.now) (entity_in entity.now).about.number (in_turn (spec.operation_changes moment (entity_in entity.now)) moment operations.now) (told sending.old) (told sending.new)) }
+    requires none { sending.old.receipts.items ≡ [] }
+    ensures acts { OnOk result (Acts moment (space_in space.now) (entity_in entity.now).about.number (in_turn (spec.operation_changes moment (entity_in entity.now)) moment operations.now) (told sending.old) (told sending.new)) }
+    ensures sent { OnOk result (sent.new.items ≡ sent.old.items ++ together.all_receipts moment (entity_in entity.now) operations.now (space_at moment (space_in space.now) (told sending.old))) }
 {
     for operation in operations {
-        act_one(alloc, space, sending, done, entity, moment, operation)?;
+        act_one(alloc, space, sending, done, sent, entity, moment, operation)?;
     }
     Ok(())
 }

@@ -47,8 +47,8 @@ fn weight(operation: &Operation) -> usize
     }
 }
 
-// Whether these and so many more are at most so many.
-fn fits(operations: &[Operation], more: usize, most: usize) -> bool
+/// Whether these and so many more are at most so many.
+pub fn fits(operations: &[Operation], more: usize, most: usize) -> bool
     ensures { result ≡ nat_le (sum_by spec.weight operations.now + more) most }
 {
     let mut left = most;

@@ -7,6 +7,7 @@ use Rattle.sb_codec.specs.Forms.{chosen_at}
 use Rattle.sb_codec.specs.Messages.{system, signed64, value, property, conditions, message}
 use Rattle.sb_codec.specs.Pieces.{path, token, by, description}
 use Rattle.sb_codec.specs.Readers.{number_at}
+use Rattle.sb_codec.specs.Steps.{step}
 use Rattle.sb_codec.proofs.worked.worked_bytes.Goals as goal
 
 pub returns-clause-ticked : goal.returns-clause-ticked
@@ -28,6 +29,10 @@ returns-clause-copies c = refl
 pub returns-clause-sessions : goal.returns-clause-sessions
 unfolding event a_call any_act by path token sized
 returns-clause-sessions c = refl
+
+pub returns-clause-together : goal.returns-clause-together
+unfolding event a_call any_act step path token which how message sized
+returns-clause-together c = refl
 
 pub returns-clause-read : goal.returns-clause-read
 unfolding read_event event chosen_at number_at

@@ -6,9 +6,9 @@ pub returns-clause-entries : goal.returns-clause-entries
 unfolding chars
 returns-clause-entries c = refl
 
-pub returns-clause-acted : goal.returns-clause-acted
+pub returns-clause-uses : goal.returns-clause-uses
 unfolding chars
-returns-clause-acted c = refl
+returns-clause-uses c = refl
 
 pub returns-clause-ends : goal.returns-clause-ends
 unfolding chars

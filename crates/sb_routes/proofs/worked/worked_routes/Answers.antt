@@ -82,6 +82,10 @@ pub returns-clause-session_locked : goal.returns-clause-session_locked
 unfolding scan param_step sought undollared table with_route addresses of_messages of_sessions of_address sights others is_utf8 chars lib.Utf8.encode
 returns-clause-session_locked c = route_sought (codes "/q/sessions/a/x/messages/7/y") ∙ refl
 
+pub returns-clause-together : goal.returns-clause-together
+unfolding matchit_on_literals undollared table with_route addresses of_messages of_sessions of_address sights others is_utf8 chars lib.Utf8.encode
+returns-clause-together c = refl
+
 pub returns-clause-health : goal.returns-clause-health
 unfolding matchit_on_literals undollared table with_route addresses of_messages of_sessions of_address sights others is_utf8 chars lib.Utf8.encode
 returns-clause-health c = refl

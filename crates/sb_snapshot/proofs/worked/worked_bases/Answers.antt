@@ -11,7 +11,7 @@ use Rattle.sb_snapshot.specs.Base.{gathered, parts, state_of}
 use Rattle.sb_snapshot.specs.Copies.{hold, standing, copy}
 use Rattle.sb_snapshot.specs.Entities.{filter, rule, accepted, about, head}
 use Rattle.sb_snapshot.specs.Lists.{byte_at, listed64_at}
-use Rattle.sb_snapshot.specs.Replies.{receipt, showing, delivery, shown, answer, kept}
+use Rattle.sb_snapshot.specs.Replies.{receipt, showing, delivery, shown, step_reply, answer, kept}
 use Rattle.sb_snapshot.specs.Sessions.{key, leaf, holder, session}
 use Rattle.sb_snapshot.specs.Transactions.{operation, transaction}
 use Rattle.sb_snapshot.proofs.worked.worked_bases.Goals as goal
@@ -37,7 +37,7 @@ unfolding operation path token how message sized
 returns-clause-operations c = refl
 
 pub returns-clause-replies : goal.returns-clause-replies
-unfolding answer receipt shown delivery showing token message sized
+unfolding answer receipt step_reply shown delivery showing token message sized
 returns-clause-replies c = refl
 
 pub returns-clause-reads_empty : goal.returns-clause-reads_empty
