@@ -1,5 +1,5 @@
 // Whether a call is such as the machine accepts.
-ghost use Rattle.std.specs.Prelude.{◌≡◌, ℕ, ◌&&◌, IfOk, Some, false, is_none, nat_le, sum_by, bytes_eq};
+ghost use Rattle.std.specs.Prelude.{◌≡◌, ◌&&◌, IfOk, Some, false, is_none, nat_le, sum_by};
 ghost use Rattle.std.specs.List.{list_all};
 ghost use Rattle.sb_machine.specs.Administration as administration;
 ghost use Rattle.sb_machine.specs.Each.{is_read};
@@ -21,8 +21,8 @@ use sb_machine::{Act, Conditions, EntityKind, FilterText, Path, Step, Which};
 use sb_model::{Message, Name, Rows, Text};
 use sb_names::limits::{MAX_PROPERTY_BYTES, MAX_STATE};
 use sb_names::{
-    are_addressed, are_few, bad_field, conditions_size, is_address, is_client_name, is_id, is_name,
-    is_number, is_rule_name, is_short_name, large_size, large_steps, takes_number,
+    are_addressed, are_few, bad_field, conditions_size, forgets_itself, is_address, is_client_name,
+    is_id, is_name, is_number, is_rule_name, is_short_name, large_size, large_steps, takes_number,
 };
 use sb_sqltext::{ParseFault, parse_action, parse_filter, texts_are_read_exactly};
 use std::alloc::{AllocError, Global};
@@ -62,22 +62,6 @@ fn is_plain(act: &Act) -> bool
         && has_described(act)
         && has_short_id(act)
         && is_act_in_order(act)
-}
-
-fn is_same_client(client: &Text, other: &Text) -> bool
-    ensures { result ≡ bytes_eq client.now other.now }
-{
-    client.as_bytes() == other.as_bytes()
-}
-
-// Whether a call of this client, of any number, would forget the client itself.
-fn forgets_itself(act: &Act, client: &Text) -> bool
-    ensures { (number : ℕ) → result ≡ fields.forgets_itself act.now (record { client = client.now; number = number }) }
-{
-    match act {
-        Act::ForgetClient { client: name } => is_same_client(name, client),
-        _ => false,
-    }
 }
 
 fn is_client(act: &Act, client: &Text) -> bool

@@ -1,5 +1,5 @@
 // The first field of a call that is outside its range.
-ghost use Rattle.std.specs.Prelude.{◌≡◌, ◌∷◌, ◌&&◌, ◌||◌, not, length, bytes_eq, codes, is_none, option_map};
+ghost use Rattle.std.specs.Prelude.{◌≡◌, ℕ, ◌∷◌, ◌&&◌, ◌||◌, not, length, bytes_eq, codes, is_none, option_map};
 ghost use Rattle.std.specs.List.{list_all, list_any};
 ghost use Rattle.std.specs.Str.{chars};
 ghost use Rattle.sb_machine.specs.Fields as fields;
@@ -485,13 +485,20 @@ fn is_same_client(client: &Text, other: &Text) -> bool
     client.as_bytes() == other.as_bytes()
 }
 
-fn forgets_itself(act: &Act, by: &By) -> bool
-    ensures { result ≡ fields.forgets_itself act.now by.now }
+/// Whether a call of this client, of any number, would forget the client itself.
+pub fn forgets_itself(act: &Act, client: &Text) -> bool
+    ensures { (number : ℕ) → result ≡ fields.forgets_itself act.now (record { client = client.now; number = number }) }
 {
     match act {
-        Act::ForgetClient { client } => is_same_client(client, &by.client),
+        Act::ForgetClient { client: name } => is_same_client(name, client),
         _ => false,
     }
+}
+
+fn forgets_asker(act: &Act, by: &By) -> bool
+    ensures { result ≡ fields.forgets_itself act.now by.now }
+{
+    forgets_itself(act, &by.client)
 }
 
 fn is_client(act: &Act, client: &Text) -> bool
@@ -505,7 +512,7 @@ fn bad_in_by(act: &Act, by: &Option<By>) -> Option<&'static str>
 {
     match by {
         Some(by) => {
-            if forgets_itself(act, by) {
+            if forgets_asker(act, by) {
                 return Some("name");
             }
             if !is_client(act, &by.client) {

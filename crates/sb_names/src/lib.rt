@@ -28,7 +28,9 @@ mod worked;
 
 pub use address::{is_address, is_main, is_same_entity, read_address};
 pub use description::check_desc;
-pub use fields::{bad_field, bad_in_how, bad_in_messages, bad_in_texts, takes_number};
+pub use fields::{
+    bad_field, bad_in_how, bad_in_messages, bad_in_texts, forgets_itself, takes_number,
+};
 pub use name::{BadName, NameKind, check_name, fold_name, is_name, is_rule_name, is_short_name};
 pub use ranges::{is_between, is_between_or_none, is_client_name, is_id, is_number};
 pub use settlement::goes_with;
