@@ -27,7 +27,7 @@ use Rattle.sb_model.specs.declared.message.Message.{Message}
 use Rattle.sb_engine.specs.Commits.{Acts, ActsTelling, IsItself}
 use Rattle.sb_engine.specs.Fulfilments.{acted_behind}
 use Rattle.sb_engine.specs.Growing.{Stands}
-use Rattle.sb_engine.specs.Sendings.{SendsAll, StandsAt, StandsSeen, Told, View, seen_in, space_at}
+use Rattle.sb_engine.specs.Sendings.{SendsAll, StandsAt, StandsSeen, Told, View, seen_in}
 use Rattle.sb_engine.proofs.Growing.{after_both}
 use Rattle.sb_engine.proofs.SendIds.{seen_delivered}
 

@@ -29,7 +29,6 @@ use Rattle.sb_machine.specs.declared.call.Which.TheVariants.{Number}
 use Rattle.sb_machine.specs.declared.change.Cause.{Cause}
 use Rattle.sb_machine.specs.declared.change.Cause.TheVariants.{Completed, DeadLettered, Expired as ByTime}
 use Rattle.sb_machine.specs.declared.change.Change.{Change}
-use Rattle.sb_machine.specs.declared.change.Change.TheVariants.{Drops}
 use Rattle.sb_machine.specs.declared.change.LeafChange.TheVariants.{Ends, Stands}
 use Rattle.sb_machine.specs.declared.reason.DeadReason.TheVariants.{Expired, TooOften}
 use Rattle.sb_machine.specs.declared.state.Entity.{Entity}
@@ -40,11 +39,10 @@ use Rattle.sb_machine.specs.declared.state.Space.{Space}
 use Rattle.sb_machine.specs.declared.state.Standing.{Standing}
 use Rattle.sb_machine.specs.declared.state.Standing.TheVariants.{Deferred}
 use Rattle.sb_machine.specs.declared.state.StoredCopy.{StoredCopy}
-use Rattle.sb_machine.specs.declared.state.Transaction.{Transaction}
 use Rattle.sb_model.specs.declared.message.Message.{Message}
 use Rattle.sb_engine.specs.Commits.{goes_well}
-use Rattle.sb_engine.specs.Quotas.{AreCounted, copy_where}
-use Rattle.sb_engine.proofs.Counted.{Mild, IsThere, mild_append, mild_listed, mild_counted, listed_in_leaf, mild_carried, mild_delivered, mild_sends}
+use Rattle.sb_engine.specs.Quotas.{copy_where}
+use Rattle.sb_engine.proofs.Counted.{Mild, IsThere, mild_append, mild_listed, listed_in_leaf, mild_carried, mild_delivered, mild_sends}
 
 -- ---- a copy that is there
 

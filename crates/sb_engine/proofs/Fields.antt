@@ -2,7 +2,7 @@
 use Rattle.std.proofs.Common.{Bool, List, ℕ, None, Option, Some, refl, true, false, ◌≡◌}
 use Rattle.sb_fanout.proofs.There.{both}
 use Rattle.sb_machine.specs.Acts.{bad_call}
-use Rattle.sb_machine.specs.Fields.{Key, are_set_once, bad_field, bad_in_by, bad_in_entity, bad_in_steps, bad_in_together, first_some, is_between, max_steps, unless}
+use Rattle.sb_machine.specs.Fields.{Key, are_set_once, bad_field, bad_in_by, bad_in_entity, bad_in_steps, bad_in_together, first_some, unless}
 use Rattle.sb_machine.specs.declared.call.Act.{Act}
 use Rattle.sb_machine.specs.declared.call.Act.TheVariants.{CreateQueue, CreateTopic, CreateSubscription, CreateRule, Delete, DeleteRule, Send, Cancel, Receive, ReceiveDeferred, Settle, Renew, Accept, SessionRenew, SessionClose, SessionSet, SessionState, Begin, Commit, Rollback, Together, ForgetClient, Peek, Counts, Look}
 use Rattle.sb_machine.specs.declared.call.By.{By}

@@ -1,5 +1,5 @@
 -- Changes before operations act: a transaction begins or ends, or a session remembers.
-use Rattle.std.proofs.Common.{Bool, List, Option, Some, [], ap, false, refl, subst, sym, true, ℕ, ◌&&◌, ◌++◌, ◌∙◌, ◌∷◌, ◌≡◌}
+use Rattle.std.proofs.Common.{Bool, List, Option, Some, [], ap, refl, subst, sym, true, ℕ, ◌&&◌, ◌∙◌, ◌∷◌, ◌≡◌}
 use Rattle.std.specs.List.{list_all}
 use Rattle.sb_fanout.proofs.Keeping.{numbers_stand}
 use Rattle.sb_fanout.proofs.There.{both}

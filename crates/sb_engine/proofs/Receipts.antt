@@ -1,5 +1,5 @@
 -- The receipts of sends that were queued, as they act.
-use Rattle.std.proofs.Common.{List, None, Option, Some, [], ap, drop, get_or, length, refl, subst, suc, sym, true, Bool, false, ℕ, ◌+◌, ◌-◌, ◌++◌, ◌<◌, ◌≤◌, ◌∙◌, ◌∷◌, ◌≡◌}
+use Rattle.std.proofs.Common.{List, None, Option, Some, [], ap, drop, get_or, length, refl, suc, sym, true, Bool, false, ℕ, ◌+◌, ◌-◌, ◌++◌, ◌<◌, ◌≤◌, ◌∙◌, ◌∷◌, ◌≡◌}
 use Rattle.std.specs.Prelude.{◌&&◌, not, if◌then◌else◌}
 use Rattle.std.proofs.lemmas.List.{append_assoc, append-nil, drop_more, drop_all}
 use Rattle.sb_fanout.proofs.Deliveries.{found_there}

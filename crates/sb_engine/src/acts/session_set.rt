@@ -21,8 +21,7 @@ use sb_model::Rows;
 use sb_names::limits::MAX_STATE;
 use std::alloc::{AllocError, Global};
 
-/// How many bytes it has; none where there is no state.
-pub fn size_of(state: &Option<Rows<u8>>) -> usize
+fn size_of(state: &Option<Rows<u8>>) -> usize
     ensures { result ≡ spec.size_of state.now }
 {
     match state {

@@ -1,6 +1,0 @@
-use Rattle.std.proofs.Common.{◌≡◌, ◌+◌, drop, sum_by}
-use Rattle.sb_machine.specs.Together.{step_bytes}
-use Rattle.sb_engine.proofs.acts.fitting.size_of_steps.Given as goal
-
-abbrev pub invariant-steps : goal.invariant-steps
-invariant-steps l = l.size + sum_by step_bytes (drop l.step-index l.steps) ≡ sum_by step_bytes l.steps
