@@ -1,5 +1,5 @@
 -- The lists of a call that a line spells stand in their order.
-use Rattle.std.proofs.Common.{◌≡◌, ℕ, Bool, true, false, List, [], ◌∷◌, ◌++◌, Option, Some, None, refl, subst}
+use Rattle.std.proofs.Common.{◌≡◌, ℕ, Bool, true, false, List, [], ◌∷◌, Option, Some, None, refl, subst}
 use Rattle.std.specs.Prelude.{codes, bytes_eq, if◌then◌else◌, nat_lt, Result, Ok, Err}
 use Rattle.std.specs.Str.{str_to_ascii_lowercase}
 use Rattle.serde_json.specs.Data.{Data, Items, no_items, item, Members, no_members, member}
@@ -18,7 +18,6 @@ use Rattle.sb_machine.specs.Ordered.{IsActInOrder, IsFilterInOrder, IsStepInOrde
 use Rattle.sb_machine.specs.declared.call.Act.{Act}
 use Rattle.sb_machine.specs.declared.call.Act.TheVariants as act
 use Rattle.sb_machine.specs.declared.look.Look.TheVariants as look
-use Rattle.sb_machine.specs.declared.call.By.{By}
 use Rattle.sb_machine.specs.declared.call.FilterText.{FilterText}
 use Rattle.sb_machine.specs.declared.call.How.{How}
 use Rattle.sb_machine.specs.declared.call.How.TheVariants.{Complete, Abandon, Defer, DeadLetter}
@@ -27,7 +26,6 @@ use Rattle.sb_machine.specs.declared.call.Step.{Step}
 use Rattle.sb_machine.specs.declared.call.Step.TheVariants as step
 use Rattle.sb_machine.specs.declared.rule.Conditions.{Conditions}
 use Rattle.sb_lines.specs.declared.table.Either.{Either}
-use Rattle.sb_lines.specs.declared.table.Either.TheVariants.{First, Second}
 use Rattle.sb_lines.specs.declared.texts.Nulls.{Nulls}
 use Rattle.sb_lines.specs.declared.texts.Nulls.TheVariants.{Wrong}
 use Rattle.sb_model.specs.Effects.{with_user}

@@ -1,6 +1,5 @@
 -- What a writer of tokens leaves of a JSON value.
-use Rattle.std.proofs.Common.{◌≡◌, ℕ, ℤ, pos, List, [], ◌++◌, Bool, true, false, Some, None, Option, decimal, refl, sym, ap, ◌∙◌, subst}
-use Rattle.std.specs.Prelude.{◌^◌, nat_lt, if◌then◌else◌}
+use Rattle.std.proofs.Common.{◌≡◌, ℕ, ℤ, List, Some, None, decimal, ap, ◌∙◌}
 use Rattle.std.specs.Fmt.{signed_decimal}
 use Rattle.json.specs.Print.{print}
 use Rattle.json.specs.Token.{Token}

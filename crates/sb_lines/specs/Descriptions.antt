@@ -1,5 +1,5 @@
 -- The fields of a description: those that a kind has may stand, each with its default; the machine judges their ranges.
-use Rattle.std.specs.Prelude.{ℕ, List, Bool, true, false, codes, Option, None}
+use Rattle.std.specs.Prelude.{ℕ, List, true, false, codes, Option}
 use Rattle.sb_machine.specs.declared.call.Description.{Description}
 use Rattle.sb_machine.specs.Namespace.{default_description}
 use Rattle.sb_lines.specs.Tables.{Field, name, whole, whole_or, truth_or, ◌and◌, optional, made}

@@ -1,10 +1,10 @@
 -- The fields of an object: what stands at a key, and which keys may stand.
-use Rattle.std.specs.Prelude.{ℕ, List, Bool, codes, bytes_eq, nat_le, if◌then◌else◌, Option, Some, None, option_map, option_and_then, Result, Ok, Err}
+use Rattle.std.specs.Prelude.{ℕ, List, Bool, codes, bytes_eq, nat_le, if◌then◌else◌, Option, Some, None, option_map, option_and_then, Result, Ok}
 use Rattle.std.specs.Result.{result_ok}
 use Rattle.std.specs.Str.{str_to_ascii_lowercase}
 use Rattle.hex.specs.Hex.{decode_of}
 use Rattle.serde_json.specs.Data.{Data, Members, no_members, member}
-use Rattle.serde_json.specs.Find.{get, as_str, as_bool, as_number, as_u64, as_object}
+use Rattle.serde_json.specs.Find.{get, as_str, as_number, as_u64, as_object}
 use Rattle.sb_machine.specs.Fields.{is_number}
 use Rattle.sb_machine.specs.Names.{is_main}
 use Rattle.sb_machine.specs.declared.call.Mode.{Mode}
@@ -14,7 +14,7 @@ use Rattle.sb_machine.specs.declared.call.Token.{Token}
 use Rattle.sb_names.specs.Addresses.{address_of}
 use Rattle.sb_lines.specs.declared.form.Form.{Form}
 use Rattle.sb_lines.specs.declared.form.Form.TheVariants.{Amqp}
-use Rattle.sb_lines.specs.Faults.{or_key, then_by}
+use Rattle.sb_lines.specs.Faults.{or_key}
 use Rattle.sb_lines.specs.Tokens.{token_in}
 
 -- ---- values

@@ -7,7 +7,6 @@ use Rattle.serde_json.specs.Find.{of_integer}
 use Rattle.serde_json.specs.Written.{compact_text}
 use Rattle.sb_amqp.specs.Written.{written}
 use Rattle.sb_model.specs.SystemNames.{system_name}
-use Rattle.sb_model.specs.declared.message.Message.{Message}
 use Rattle.sb_model.specs.declared.message.Property.{Property}
 use Rattle.sb_model.specs.declared.message.PropertyValue.{PropertyValue}
 use Rattle.sb_model.specs.declared.message.PropertyValue.TheVariants.{Int, Text, Bool}

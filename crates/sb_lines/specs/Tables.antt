@@ -1,5 +1,5 @@
 -- A field of an object, or fields in their order: which keys they take, and what stands there, or the first key at fault.
-use Rattle.std.specs.Prelude.{ℕ, List, Bool, false, ◌||◌, bytes_eq, Option, Some, None, option_and_then, Result, Ok, Err}
+use Rattle.std.specs.Prelude.{ℕ, List, Bool, false, ◌||◌, bytes_eq, Option, Some, None, Result, Ok, Err}
 use Rattle.serde_json.specs.Data.{Data}
 use Rattle.serde_json.specs.Find.{get, as_bool}
 use Rattle.sb_machine.specs.declared.call.Mode.{Mode}

@@ -27,7 +27,7 @@ use Rattle.sb_machine.specs.Namespace.{default_description, entity_path, subscri
 use Rattle.sb_model.specs.declared.message.PropertyValue.TheVariants.{Int, Bool as Truth}
 use Rattle.sb_model.specs.declared.message.SystemName.TheVariants.{Label, To}
 use Rattle.sb_lines.specs.declared.form.Form.{Form}
-use Rattle.sb_lines.specs.declared.form.Form.TheVariants.{Plain, Amqp}
+use Rattle.sb_lines.specs.declared.form.Form.TheVariants.{Plain}
 use Rattle.sb_lines.specs.declared.line.Line.{Line}
 use Rattle.sb_lines.specs.Replies.{answer_line}
 
