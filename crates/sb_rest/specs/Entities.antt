@@ -1,5 +1,5 @@
 -- Which entities are shown, by a query.
-use Rattle.std.specs.Prelude.{ℕ, List, ◌&&◌, codes, Option, Some, None, option_map, Result, Ok, Err, if◌then◌else◌}
+use Rattle.std.specs.Prelude.{ℕ, List, ◌&&◌, codes, Option, Some, None, option_map, Result, Ok, if◌then◌else◌}
 use Rattle.std.specs.Str.{str_to_ascii_lowercase}
 use Rattle.sb_machine.specs.Fields.{is_between, max_listed}
 use Rattle.sb_machine.specs.Names.{is_main}

@@ -1,5 +1,5 @@
 -- The page for a browser.
-use Rattle.std.specs.Prelude.{ℕ, List, [], ◌∷◌, codes, false}
+use Rattle.std.specs.Prelude.{List, [], ◌∷◌, codes, false}
 use Rattle.sb_http.specs.declared.response.Status.TheVariants as status
 use Rattle.sb_http.specs.Fields.{Field}
 use Rattle.sb_http.specs.Responses.{ResponseMessage}

@@ -9,14 +9,9 @@ use sb_http::{is_word, number};
 use sb_lines::{LineFault, bad};
 use sb_machine::By;
 use sb_model::Text;
+use sb_names::limits::{MAX_CLIENT, MAX_NUMBER};
 use sb_routes::text_of;
 use std::alloc::Global;
-
-/// The most bytes of a client's name.
-const MAX_CLIENT: usize = 50;
-
-/// The greatest number of a call or a message, 2^63 - 1.
-const MAX_NUMBER: u64 = 9_223_372_036_854_775_807;
 
 /// The client and the number that a request gives its call, if it gives them; one without the other is
 /// the fault.
