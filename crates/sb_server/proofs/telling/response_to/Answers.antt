@@ -1,4 +1,4 @@
-use Rattle.std.proofs.Common.{rules, IfOk, sym, subst}
+use Rattle.std.proofs.Common.{IfOk, sym, subst}
 use Rattle.sb_server.specs.Doings.{Says}
 use Rattle.sb_server.specs.declared.telling.Said.{Said}
 use Rattle.sb_server.proofs.telling.response_to.Goals as goal
