@@ -1,7 +1,6 @@
--- A namespace in memory, in the order to read it: Names, Listings, Tables, Transactions, Numbers (what stands in memory); Views, Stores (the namespace
--- that it is); ByHash (how an entity is found by its address or its topic); Tallies (the counts that it keeps); Heads (which session is the next); EntityDues, Expiring, DueRows (when something
--- of an entity comes due); Places, Rooms, Stocks, Released (which memory is promised before a change is made, so that making it can't fail);
--- Whole (what is asked of a namespace that is to stand in memory at once).
+-- A namespace in memory, in the order to read it: Names, Listings, Tables, Transactions, Numbers (what stands in memory); Views, Stores (the namespace that it is); ByHash
+-- (an entity found by its address or its topic); Tallies (the counts that it keeps); Heads (the next session); EntityDues, Expiring, DueRows (when something comes due); Places,
+-- Rooms, Stocks, Released (memory promised before a change is made, so that making it can't fail); Whole (what is asked of a namespace that is to stand in memory at once).
 pub mod Asked
 pub mod ByHash
 pub mod DueRows
