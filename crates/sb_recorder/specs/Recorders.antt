@@ -1,5 +1,5 @@
 -- What contracts say of a recorder: its journal, and the base that it writes.
-use Rattle.std.specs.Prelude.{◌≡◌, ◌⊎◌, ◌≤◌, ℕ, ◌+◌, Bool, false, true, List, ◌++◌, length, Option, Some, None, is_some}
+use Rattle.std.specs.Prelude.{◌≡◌, ◌⊎◌, ◌≤◌, ℕ, ◌+◌, Bool, false, true, List, [], ◌∷◌, ◌++◌, length, Option, Some, None, is_some}
 use Rattle.sb_outside.specs.declared.disk.Disk.{Ghosts}
 use Rattle.sb_codec.specs.EventBytes.{read_event}
 use Rattle.sb_machine.specs.declared.call.Event.{Event}
@@ -11,7 +11,7 @@ use Rattle.sb_journal.specs.Text.{File, next_file, with_payload}
 use Rattle.sb_journal.specs.Opened.{FindsFile, FindsOldOrNext}
 use Rattle.sb_journal.specs.Choosing.{turned}
 use Rattle.sb_journal.specs.Disks.{on_side, EachPair, EachStretch, AreQuiet, OneFault, NoneFell, SameHonesty}
-use Rattle.sb_journal.specs.Journals.{journal_disks, journal_side, has_failed, fault_count, next_first, HoldsFile, HoldsNext}
+use Rattle.sb_journal.specs.Journals.{journal_disks, journal_side, has_failed, fault_count, next_first, HoldsFile, HoldsNext, HoldsStaged}
 use Rattle.sb_recorder.specs.declared.recorder.Recorder.{Recorder}
 
 -- the journal that a recorder writes
@@ -25,11 +25,17 @@ pub record IsLogged {D : Type 0} {B : Ghosts D} (j : Journal D B) (last : ℕ) (
   pub reads : read_event payload ≡ Some event
   pub number : last ≡ file.first + length file.payloads
 
+-- The journal has this event staged behind those payloads, in one record more: until they are sealed only the file counts.
+pub record HasStaged {D : Type 0} {B : Ghosts D} (j : Journal D B) (file : File) (staged : List (List ℕ)) (event : Event) : Type 0 where
+  pub payload : List ℕ
+  pub holds : HoldsStaged j file (staged ++ payload ∷ [])
+  pub reads : read_event payload ≡ Some event
+
 -- an opening finds the file, or it with this event more
 abbrev pub HasEventOrNot : File → Event → (a b : List ℕ) → Type 0
 HasEventOrNot file event a b = FindsFile file a b ⊎ ((payload : List ℕ) × FindsFile (with_payload file payload) a b × (read_event payload ≡ Some event))
 
--- an event wasn't journaled: memory was wanting and the journal is as before, or a disk failed
+-- an event wasn't journaled, or staged: memory was wanting and the journal is as before, or a disk failed
 abbrev pub IsUnwritten : {D : Type 0} {B : Ghosts D} → (was now : Journal D B) → Refusal → Type 0
 IsUnwritten was now OutOfMemory = now ≡ was
 IsUnwritten was now DiskFault = (has_failed now ≡ true) × OneFault (journal_disks was) (journal_disks now) (fault_count now)

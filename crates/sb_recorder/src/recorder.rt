@@ -54,10 +54,12 @@ fn add_bytes(buffer: &mut Vec<u8>, bytes: &[u8])
 
 impl<D: Disk> Recorder<D> {
     ghost use Rattle.sb_journal.specs.Text.{may_go_on, File};
-    ghost use Rattle.sb_journal.specs.Disks.{EachPair, AreQuiet, NoneFell, SameHonesty};
-    ghost use Rattle.sb_journal.specs.Journals.{fault_count, journal_aside, journal_disk_a, journal_disk_b, journal_disks, HoldsFile};
+    ghost use Rattle.sb_journal.specs.Text.{with_payloads};
+    ghost use Rattle.sb_journal.specs.Opened.{FindsFile, FindsNoneOrAll};
+    ghost use Rattle.sb_journal.specs.Disks.{EachPair, AreQuiet, OneFault, NoneFell, SameHonesty};
+    ghost use Rattle.sb_journal.specs.Journals.{fault_count, journal_aside, journal_disk_a, journal_disk_b, journal_disks, HoldsFile, HoldsStaged};
     ghost use Rattle.sb_codec.specs.EventBytes.{event_of, event_bytes, IsSpellable, HasSpelling};
-    ghost use Rattle.sb_recorder.specs.Recorders.{recorder_journal, begun_at, begun_of, bytes_left, is_writing, Begun, GoesOn, HasAccount, HasBase, HasEventOrNot, HasTurned, IsLogged, IsUnwritten, LeavesEither};
+    ghost use Rattle.sb_recorder.specs.Recorders.{recorder_journal, begun_at, begun_of, bytes_left, is_writing, Begun, GoesOn, HasAccount, HasBase, HasEventOrNot, HasStaged, HasTurned, IsLogged, IsUnwritten, LeavesEither};
 
     /// Over a journal, with room for the longest event.
     pub fn over(journal: Journal<D>, buffer: Vec<u8>) -> Recorder<D>
@@ -94,17 +96,67 @@ impl<D: Disk> Recorder<D> {
         ensures honesty { SameHonesty (journal_disks (recorder_journal self.old)) (journal_disks (recorder_journal self.new)) }
         ensures aside { journal_aside (recorder_journal self.new) ≡ journal_aside (recorder_journal self.old) }
     {
+        match self.stage(event) {
+            Ok(()) => match self.seal_events() {
+                Ok(number) => Ok(number),
+                Err(_) => Err(Refusal::DiskFault),
+            },
+            Err(refusal) => Err(refusal),
+        }
+    }
+
+    /// Stages an event behind those that were staged before: it doesn't count until `seal_events`. `OutOfMemory` where the buffer lacks
+    /// the room for it, and nothing is done then; `DiskFault` where a call of the disk failed: then none of those staged counts.
+    pub fn stage(&mut self, event: &EventRef<'_>) -> Result<(), Refusal>
+        requires spellable { IsSpellable (event_of event.now) }
+        requires short { HasSpelling (event_of event.now) → length (event_bytes (event_of event.now)) ≤ max_payload }
+        requires running { has_failed (recorder_journal self.old) ≡ false }
+        ensures staged { (file : File) (staged : List (List ℕ)) → HoldsStaged (recorder_journal self.old) file staged → OnOk result (HasStaged (recorder_journal self.new) file staged (event_of event.now)) }
+
+        // A crash at any moment of the call leaves the file without all that is staged.
+        ensures any_moment { (file : File) (staged : List (List ℕ)) → HoldsStaged (recorder_journal self.old) file staged
+            → EachPair (journal_disks (recorder_journal self.old)) (journal_disks (recorder_journal self.new)) (FindsFile file) }
+        ensures running { OnOk result (has_failed (recorder_journal self.new) ≡ false) }
+        ensures quiet { OnOk result (AreQuiet (journal_disks (recorder_journal self.old)) (journal_disks (recorder_journal self.new))) }
+        ensures refused { IfErr result (IsUnwritten (recorder_journal self.old) (recorder_journal self.new)) }
+        ensures free { length (event_bytes (event_of event.now)) ≤ max_payload → IfErr result (λ e. e ≡ Refusal.DiskFault) }
+        ensures later { NoneFell (journal_disks (recorder_journal self.old)) (journal_disks (recorder_journal self.new)) }
+        ensures honesty { SameHonesty (journal_disks (recorder_journal self.old)) (journal_disks (recorder_journal self.new)) }
+        ensures aside { journal_aside (recorder_journal self.new) ≡ journal_aside (recorder_journal self.old) }
+    {
         self.next = None;
         self.buffer.clear();
         let Ok(()) = write_event(event, &mut self.buffer) else {
             return Err(Refusal::OutOfMemory);
         };
-        let Ok(number) = self.journal.append(&self.buffer) else {
+        let Ok(()) = self.journal.add(&self.buffer) else {
             return Err(Refusal::DiskFault);
         };
         let bytes = FRAME.saturating_add(self.buffer.len() as u64);
         self.grown = self.grown.saturating_add(bytes);
-        Ok(number)
+        Ok(())
+    }
+
+    /// Seals the events that are staged, all at once, and says the number of the first one's record. From its Ok on they are safe. Where
+    /// none is staged nothing is done to the disks. `DiskFault` where a call of the disk failed: then all of them count or none does.
+    pub fn seal_events(&mut self) -> Result<u64, DiskFault>
+        requires running { has_failed (recorder_journal self.old) ≡ false }
+        ensures sealed { (file : File) (staged : List (List ℕ)) → HoldsStaged (recorder_journal self.old) file staged → OnOk result (HoldsFile (recorder_journal self.new) (with_payloads file staged)) }
+        ensures number { (file : File) (staged : List (List ℕ)) → HoldsStaged (recorder_journal self.old) file staged → IfOk result (λ n. n ≡ file.first + length file.payloads) }
+
+        // A crash at any moment of the call leaves the file without them, or the one with all of them.
+        ensures any_moment { (file : File) (staged : List (List ℕ)) → HoldsStaged (recorder_journal self.old) file staged
+            → EachPair (journal_disks (recorder_journal self.old)) (journal_disks (recorder_journal self.new)) (FindsNoneOrAll file staged) }
+        ensures running { OnOk result (has_failed (recorder_journal self.new) ≡ false) }
+        ensures failed { OnErr result (has_failed (recorder_journal self.new) ≡ true) }
+        ensures quiet { OnOk result (AreQuiet (journal_disks (recorder_journal self.old)) (journal_disks (recorder_journal self.new))) }
+        ensures cause { OnErr result (OneFault (journal_disks (recorder_journal self.old)) (journal_disks (recorder_journal self.new)) (fault_count (recorder_journal self.new))) }
+        ensures later { NoneFell (journal_disks (recorder_journal self.old)) (journal_disks (recorder_journal self.new)) }
+        ensures honesty { SameHonesty (journal_disks (recorder_journal self.old)) (journal_disks (recorder_journal self.new)) }
+        ensures aside { journal_aside (recorder_journal self.new) ≡ journal_aside (recorder_journal self.old) }
+    {
+        self.next = None;
+        self.journal.seal()
     }
 
     /// Begins a base of so many bytes, in the file that the journal is to go on with, which has this first number. `false` where

@@ -1,48 +1,30 @@
-use Rattle.std.proofs.Common.{◌≤◌, sym, ◌∙◌, ap, length, subst, List, ℕ}
+use Rattle.std.proofs.Common.{[], ◌∷◌}
 use Rattle.sb_journal.specs.Journals.{journal_disks}
-use Rattle.sb_journal.specs.Text.{max_payload}
-use Rattle.sb_codec.specs.EventBytes.{event_bytes, event_of, read_event}
-use Rattle.sb_recorder.proofs.Events.{recorded_moments, held_moments}
-use Rattle.sb_recorder.proofs.Events.{roomy, spelled}
+use Rattle.sb_codec.specs.EventBytes.{event_of}
+use Rattle.sb_recorder.proofs.Events.{sealed_moments, staged_moments}
 use Rattle.sb_recorder.proofs.recorder.Recorder.record.Goals as goal
 
-pub append-requires : goal.append-requires
-append-requires g c =
-    let text = event_bytes (event_of c.args.event.now) in
-    let bytes = spelled c.deref.result.now _ _ text c.deref.ensures.value c.in-Ok.ensures.puts.0 c.clear.ensures.items in
+pub returns-in-Ok-seal_events-clause-logged : goal.returns-in-Ok-seal_events-clause-logged
+returns-in-Ok-seal_events-clause-logged g c file holds =
+    let staged = c.in-Ok.ensures.staged file [] holds in
     record {
-      short = subst (λ (l : List ℕ). length l ≤ max_payload) (sym bytes) (c.requires.short c.in-Ok.ensures.spelled);
-      running = c.requires.running;
+      payload = staged.payload;
+      holds = c.in-Ok-seal_events.ensures.sealed file (staged.payload ∷ []) staged.holds;
+      reads = staged.reads;
+      number = c.in-Ok-seal_events.ensures.number file (staged.payload ∷ []) staged.holds;
     }
 
-pub returns-clause-logged : goal.returns-clause-logged
-returns-clause-logged g c file holds =
-    let text = event_bytes (event_of c.args.event.now) in
-    let bytes = spelled c.deref.result.now _ _ text c.deref.ensures.value c.in-Ok.ensures.puts.0 c.clear.ensures.items in
-    record {
-      payload = c.deref.result.now;
-      holds = c.in-Ok-append.ensures.ok file holds;
-      reads = ap read_event bytes ∙ c.in-Ok.ensures.reads_back;
-      number = c.in-Ok-append.ensures.number file holds;
-    }
+pub returns-in-Ok-seal_events-clause-any_moment : goal.returns-in-Ok-seal_events-clause-any_moment
+returns-in-Ok-seal_events-clause-any_moment g c file holds =
+    let staged = c.in-Ok.ensures.staged file [] holds in
+    sealed_moments c.args.self.now.journal c.stage.new.self.journal c.seal_events.new.self.journal file staged.payload (event_of c.args.event.now) staged.reads c.stage.ensures.aside c.seal_events.ensures.aside
+    (c.stage.ensures.any_moment file [] holds) (c.seal_events.ensures.any_moment file (staged.payload ∷ []) staged.holds)
 
-pub returns-in_default-append-clause-any_moment : goal.returns-in_default-append-clause-any_moment
-returns-in_default-append-clause-any_moment g c file holds =
-    let event = event_of c.args.event.now in
-    let text = event_bytes event in
-    let bytes = spelled c.deref.result.now _ _ text c.deref.ensures.value c.in-Ok.ensures.puts.0 c.clear.ensures.items in
-    recorded_moments (journal_disks c.args.self.now.journal) (journal_disks c.append.new.self) file c.deref.result.now event (ap read_event bytes ∙ c.in-Ok.ensures.reads_back) (c.append.ensures.any_moment file holds)
+pub returns-in-Err-seal_events-clause-any_moment : goal.returns-in-Err-seal_events-clause-any_moment
+returns-in-Err-seal_events-clause-any_moment g c file holds =
+    let staged = c.in-Ok.ensures.staged file [] holds in
+    sealed_moments c.args.self.now.journal c.stage.new.self.journal c.seal_events.new.self.journal file staged.payload (event_of c.args.event.now) staged.reads c.stage.ensures.aside c.seal_events.ensures.aside
+    (c.stage.ensures.any_moment file [] holds) (c.seal_events.ensures.any_moment file (staged.payload ∷ []) staged.holds)
 
-pub returns-clause-any_moment : goal.returns-clause-any_moment
-returns-clause-any_moment g c file holds =
-    let event = event_of c.args.event.now in
-    let text = event_bytes event in
-    let bytes = spelled c.deref.result.now _ _ text c.deref.ensures.value c.in-Ok.ensures.puts.0 c.clear.ensures.items in
-    recorded_moments (journal_disks c.args.self.now.journal) (journal_disks c.append.new.self) file c.deref.result.now event (ap read_event bytes ∙ c.in-Ok.ensures.reads_back) (c.append.ensures.any_moment file holds)
-
-pub returns-in_default-clause-any_moment : goal.returns-in_default-clause-any_moment
-returns-in_default-clause-any_moment g c file holds = held_moments c.args.self.now.journal file (event_of c.args.event.now) holds
-
-pub returns-in_default-clause-free : goal.returns-in_default-clause-free
-returns-in_default-clause-free g c few =
-    absurd (roomy _ _ _ c.in_default.ensures.puts.0 c.clear.ensures.len (subst (λ (n : ℕ). max_payload ≤ n) (sym c.clear.ensures.capacity) c.args.self.now.buffer_fits) few)
+pub returns-in-Err-clause-any_moment : goal.returns-in-Err-clause-any_moment
+returns-in-Err-clause-any_moment g c file holds = staged_moments (journal_disks c.args.self.now.journal) (journal_disks c.stage.new.self.journal) file (event_of c.args.event.now) (c.stage.ensures.any_moment file [] holds)

@@ -1,5 +1,5 @@
-use Rattle.std.proofs.Common.{◌≡◌, [], Option, refl, sym, subst, arith}
-use Rattle.std.specs.Prelude.{IfNone, IfSome}
+use Rattle.std.proofs.Common.{◌≡◌, [], Option, refl, subst, arith}
+use Rattle.std.specs.Prelude.{IfSome}
 use Rattle.sb_journal.specs.declared.rotating.NextFile.{NextFile}
 use Rattle.sb_journal.specs.Text.{File}
 use Rattle.sb_journal.specs.Journals.{HoldsFile, next_first, base_left, HoldsNext, IsBegun}
