@@ -12,9 +12,9 @@ use Rattle.sb_journal.specs.Disks.{Disks, AreHonest, AreQuiet, HaveFailed, SameH
 use Rattle.sb_journal.proofs.Pairs.{still_honest}
 use Rattle.sb_journal.specs.declared.found.OpenWhy.{OpenWhy}
 use Rattle.sb_node.specs.declared.node.Node.{Node}
-use Rattle.sb_node.specs.Nodes.{node_disks, node_state, node_stopped, IsDurable, IsOneOf}
+use Rattle.sb_node.specs.Nodes.{node_disks, node_state, node_stopped, IsDurable}
 use Rattle.sb_node.specs.Recovery.{Recovers, recovered_on}
-use Rattle.sb_node.specs.Serving.{node_goes_on, opened_disks, origin_of, states_left, FollowHistory, HasDiskRisen, StandsFor}
+use Rattle.sb_node.specs.Serving.{node_goes_on, opened_disks, origin_of, FollowHistory, HasDiskRisen, IsLeft, StandsFor}
 use Rattle.sb_node.specs.Steps.{is_spared}
 use Rattle.sb_node.proofs.Whole.{honest_on, quiet_on}
 use Rattle.sb_desk.specs.Desks.{IsKeptIn, IsNew, IsOf, Open, Sitting, below}
@@ -372,7 +372,7 @@ pub record IsClosed (goes_on : Bool) (salt : ℕ) (start : State) (h : List Entr
   pub follows : AreHonest now → FollowHistory goes_on start h ready now
   pub recovers : AreHonest now → stopped ≡ false → Recovers (recovered_on now salt) (state_after start h)
   pub durable : AreHonest now → stopped ≡ false → IsDurable now (state_after start h)
-  pub left : AreHonest now → IsOneOf now (states_left start h)
+  pub left : AreHonest now → IsLeft now start h
 
 pub closed_node : {D : Type 0} {B : Ghosts D} (n : Node D B) (salt : ℕ) (start : State) (h : List Entry) → StandsFor n start h → IsClosed (node_goes_on n) salt start h (opened_disks n) (node_disks n) (is_some (node_stopped n))
 closed_node n salt start h stands = record {

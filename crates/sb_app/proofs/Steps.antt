@@ -6,7 +6,7 @@ use Rattle.sb_outside.specs.Streams.{Gains}
 use Rattle.sb_machine.specs.Answers.{answer_of, moment_of, max_moment}
 use Rattle.sb_machine.specs.Consistent.{IsConsistent}
 use Rattle.sb_machine.specs.Due.{is_due}
-use Rattle.sb_machine.specs.History.{Log, IsAnswer, IsLegal, advanced, after_entries, entries_at, fresh_log, is_fault, is_spent, state_after, stops}
+use Rattle.sb_machine.specs.History.{Log, IsAnswer, IsLegal, advanced, after_entries, entries_at, fresh_log, is_disk_fault, is_fault, is_spent, state_after, stops}
 use Rattle.sb_machine.specs.declared.call.Call.{Call}
 use Rattle.sb_machine.specs.declared.call.TimedCall.{TimedCall}
 use Rattle.sb_machine.specs.declared.history.Entry.TheVariants.{Ticked, Answered as Replied}
@@ -54,6 +54,14 @@ going_on (Err r) e = by_refusal r e
     by_refusal : (r : Refusal) → is_fault (Err r) ≡ false → stops (Err r) ≡ false
     by_refusal DiskFault e = absurd cc
     by_refusal (Stopped n) e = absurd cc
+    by_refusal _ e = refl
+
+pub no_disk_fault : (a : Result Answered Refusal) → is_fault a ≡ false → is_disk_fault a ≡ false
+no_disk_fault (Ok reply) e = refl
+no_disk_fault (Err r) e = by_refusal r e
+  where
+    by_refusal : (r : Refusal) → is_fault (Err r) ≡ false → is_disk_fault (Err r) ≡ false
+    by_refusal DiskFault e = absurd cc
     by_refusal _ e = refl
 
 none_of : (o : Option ℕ) → is_some o ≡ false → o ≡ None

@@ -4,7 +4,7 @@ use Rattle.sb_outside.specs.declared.disk.Disk.{Ghosts as Disk}
 use Rattle.sb_machine.specs.Answers.{answer_of, moment_of}
 use Rattle.sb_machine.specs.Consistent.{IsConsistent}
 use Rattle.sb_machine.specs.Due.{is_due}
-use Rattle.sb_machine.specs.History.{Log, IsFaultless, IsLegal, advanced, after_entries, after_entry, entries_at, fresh_log, is_spent, state_after, stops}
+use Rattle.sb_machine.specs.History.{Log, IsFaultless, IsLegal, advanced, after_entries, after_entry, entries_at, fresh_log, is_disk_fault, is_spent, state_after, stops}
 use Rattle.sb_machine.specs.declared.call.Call.{Call}
 use Rattle.sb_machine.specs.declared.history.Entry.{Entry}
 use Rattle.sb_machine.specs.declared.state.State.{State}
@@ -32,7 +32,7 @@ use Rattle.sb_app.specs.Runs.{IsScriptRun, FollowLines, state_after_all, calls_i
 use Rattle.sb_app.specs.Tops.{HasMoments, IsWholeRun}
 use Rattle.sb_app.specs.Openings.{IsOpened}
 use Rattle.sb_app.proofs.Lawful.{lawful}
-use Rattle.sb_app.proofs.Steps.{going_on}
+use Rattle.sb_app.proofs.Steps.{going_on, no_disk_fault}
 
 -- ---- the history of lines
 
@@ -50,10 +50,13 @@ machine_goes s reading call = by_tests (is_due t s.space) (is_spent s t) refl re
     goes : (y : State) → stops (answer_of y t call) ≡ false
     goes y = going_on (answer_of y t call) (answers_no_fault y t call)
 
+    sound : (y : State) → is_disk_fault (answer_of y t call) ≡ false
+    sound y = no_disk_fault (answer_of y t call) (answers_no_fault y t call)
+
     by_tests : (b c : Bool) → is_due t s.space ≡ b → is_spent s t ≡ c → after_entries (fresh_log s) (entries_at 0 s reading call) ≡ fresh_log (state_after s (entries_at 0 s reading call))
-    by_tests false c calm any = rw (calm, goes s) refl
+    by_tests false c calm any = rw (calm, goes s, sound s) refl
     by_tests true true due spent = rw (due, spent) refl
-    by_tests true false due room = rw (due, room, goes (advanced s t)) refl
+    by_tests true false due room = rw (due, room, goes (advanced s t), sound (advanced s t)) refl
 
 -- the history of lines leads to the state after them
 pub led_log : (s : State) (ls : List ScriptLine) → after_entries (fresh_log s) (history_of s ls) ≡ fresh_log (state_after_all s ls)

@@ -17,8 +17,8 @@ use Rattle.sb_journal.specs.Disks.{Disks, AreHonest, KeepFound, HaveFailed}
 use Rattle.sb_desk.specs.Entries.{is_refused}
 use Rattle.sb_desk.specs.Spared.{Spares}
 use Rattle.sb_node.specs.declared.node.Node.{Node}
-use Rattle.sb_node.specs.Nodes.{IsDurable, IsOneOf, node_disks, node_state, node_stopped}
-use Rattle.sb_node.specs.Serving.{opened_disks, states_left, FollowHistory, StandsFor}
+use Rattle.sb_node.specs.Nodes.{IsDurable, node_disks, node_state, node_stopped}
+use Rattle.sb_node.specs.Serving.{opened_disks, FollowHistory, IsLeft, StandsFor}
 use Rattle.sb_node.specs.Steps.{entries_with, is_spared}
 use Rattle.sb_drill.specs.Calls.{call_at}
 use Rattle.sb_drill.specs.Memories.{heard, no_memory}
@@ -143,7 +143,7 @@ pub record IsDrilled (count seed salt : ℕ) (was now : Outside) (status : ℕ) 
   -- unless a disk failed, the disks stand for the state behind the history, also after a crash
   pub backed : AreHonest was.disks → status ≢ 5 → IsBacked salt now.disks (state_after start (drill_history_to seed start answered last))
   -- whatever the status
-  pub left : AreHonest was.disks → IsOneOf now.disks (states_left start (drill_history_to seed start answered last))
+  pub left : AreHonest was.disks → IsLeft now.disks start (drill_history_to seed start answered last)
 
 -- ---- as its calls are made
 

@@ -8,9 +8,9 @@ use Rattle.sb_machine.specs.declared.history.Entry.{Entry}
 use Rattle.sb_machine.specs.declared.history.Entry.TheVariants.{Ticked, Answered as Replied}
 use Rattle.sb_machine.specs.declared.state.State.{State}
 use Rattle.sb_journal.specs.Disks.{Disks, AreHonest, KeepFound, AreQuiet, SameHonesty}
-use Rattle.sb_node.specs.Nodes.{IsDurable, IsOneOf}
+use Rattle.sb_node.specs.Nodes.{IsDurable}
 use Rattle.sb_node.specs.Recovery.{recovered_on}
-use Rattle.sb_node.specs.Serving.{origin_of, states_left, FollowHistory, HasDiskRisen}
+use Rattle.sb_node.specs.Serving.{origin_of, FollowHistory, HasDiskRisen, IsLeft}
 use Rattle.sb_node.specs.Steps.{is_spared}
 use Rattle.sb_desk.specs.Desks.{IsKeptIn, IsNew, Open, Sitting, below}
 use Rattle.sb_desk.specs.Entries.{IsReport}
@@ -85,7 +85,7 @@ HasDoorRisen count (d ∷ ds) (e ∷ es) = Rose (count d) (count e) ⊎ HasDoorR
 -- of its own (`serves` says what was read and written). What a pass has seen is a front of that history with all entries of its seat,
 -- and no other seat has any. The history is legal, so it has the laws; none of its calls that is spared was answered with want of memory;
 -- its numbers were told; and what a crash leaves of the disks leads to
--- the state behind it, or to that after the event which a failed disk left undecided. By `goes_on` the server makes checkpoints by itself.
+-- the state behind it, or to that with the events which a failed disk left undecided. By `goes_on` the server makes checkpoints by itself.
 pub record IsServed {R : Type 0} (reads : ℕ → Type 0) (days : ℕ) (goes_on : Bool) (Works : Open → Worker R → Type 0) (salt : ℕ) (was now : Outside) (doors doors_now : List R) (status : ℕ) : Type 0 where
   pub start : State
   pub found : IsFound salt was.disks start
@@ -126,7 +126,7 @@ pub record IsServed {R : Type 0} (reads : ℕ → Type 0) (days : ℕ) (goes_on 
   -- unless a disk failed, the disks stand for the state behind the history, also after a crash
   pub backed : AreHonest was.disks → status ≢ 5 → IsBacked salt now.disks (state_after start history)
   -- whatever the status
-  pub left : AreHonest was.disks → IsOneOf now.disks (states_left start history)
+  pub left : AreHonest was.disks → IsLeft now.disks start history
 
 -- The namespace was opened and, for want of memory, not served.
 pub record IsUnserved (salt : ℕ) (was now : Outside) : Type 0 where

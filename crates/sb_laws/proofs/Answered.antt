@@ -9,7 +9,7 @@ use Rattle.sb_machine.specs.Answers.{answer_in, answer_of, changes_of, moment_of
 use Rattle.sb_machine.specs.Changes.{is_numbered}
 use Rattle.sb_machine.specs.Due.{is_due}
 use Rattle.sb_machine.specs.Fields.{Key, bad_field}
-use Rattle.sb_machine.specs.History.{IsAllowed, IsAnswer, Log, is_fault, is_spent, is_stopped}
+use Rattle.sb_machine.specs.History.{IsAllowed, IsAnswer, Log, is_end, is_fault, is_spent, is_stopped, stops}
 use Rattle.sb_machine.specs.Repeats.{Outcome, acted, by_number, client_of, for_client, forgot, kept_for, max_clients, of_answer, of_row, outcome_of, refused, repeated, with_clients}
 use Rattle.sb_machine.specs.Rows.{Row, answers, numbered, refused_by, refuses}
 use Rattle.sb_machine.specs.Same.{same_act}
@@ -22,7 +22,7 @@ use Rattle.sb_machine.specs.declared.history.Entry.TheVariants.{Answered as Repl
 use Rattle.sb_machine.specs.declared.reply.Answered.{Answered}
 use Rattle.sb_machine.specs.declared.reply.Answered.TheVariants.{New}
 use Rattle.sb_machine.specs.declared.reply.Refusal.{Refusal}
-use Rattle.sb_machine.specs.declared.reply.Refusal.TheVariants.{ClientNotFound, ClientsFull, Exhausted, NumberReused, StaleNumber, Stopped}
+use Rattle.sb_machine.specs.declared.reply.Refusal.TheVariants.{ClientNotFound, ClientsFull, DiskFault, Exhausted, NumberReused, StaleNumber, Stopped}
 use Rattle.sb_machine.specs.declared.reply.Reply.{Reply}
 use Rattle.sb_machine.specs.declared.state.Kept.{Kept}
 use Rattle.sb_machine.specs.declared.state.Space.{Space}
@@ -125,6 +125,20 @@ answered_in R P row reply cs h is = of (subst (Of R P) is h) where
 
 -- ---- from an entry to what its call came to
 
+-- what a call is answered behind a stop is a fault
+pub end_fault : (failing : Bool) (a : Result Answered Refusal) → is_end failing a ≡ true → is_fault a ≡ true
+end_fault true (Ok r) e = absurd cc
+end_fault false (Ok r) e = absurd cc
+end_fault true (Err r) e = on r e where
+  on : (r : Refusal) → stops (Err r) ≡ true → is_fault (Err r) ≡ true
+  on DiskFault e = refl
+  on (Stopped n) e = refl
+  on _ e = absurd cc
+end_fault false (Err r) e = on r e where
+  on : (r : Refusal) → is_stopped (Err r) ≡ true → is_fault (Err r) ≡ true
+  on (Stopped n) e = refl
+  on _ e = absurd cc
+
 pub record IsNew (l : Log) (reading : ℕ) (call : Call) (reply : Reply) : Type 0 where
   pub quiet : is_due (moment_of l.state reading) l.state.space ≡ false
   pub changes : List Change
@@ -151,8 +165,8 @@ answered_new l seat reading call answer reply plain allowed said = at l.stopped 
   machine true due is = let bad : Ok (New reply) ≡ Err Exhausted = sym said ∙ is.1 in absurd cc
   machine false none is = let o = new_so (outcome_of l.state (moment_of l.state reading) call) reply unforgotten (sym is ∙ said) in record { quiet = none; changes = o.0; acted_so = o.1 }
 
-  at : (b : Bool) → MatchBool b (is_stopped answer ≡ true) (is_fault answer ≡ false → IsAnswer l.state (moment_of l.state reading) call answer) → IsNew l reading call reply
-  at true stopped = let bad : false ≡ true = subst (λ (a : Result Answered Refusal). is_stopped a ≡ true) said stopped in absurd cc
+  at : (b : Bool) → MatchBool b (is_end l.failing answer ≡ true) (is_fault answer ≡ false → IsAnswer l.state (moment_of l.state reading) call answer) → IsNew l reading call reply
+  at true ended = let bad : true ≡ false = sym (end_fault l.failing answer ended) ∙ fine in absurd cc
   at false may = machine (is_due (moment_of l.state reading) l.state.space) refl (may fine)
 
 -- its changes are those of its entry
@@ -163,13 +177,6 @@ entry_new l seat reading call answer reply new said =
     let o = outcome_of l.state t call in
     ap (λ (f : Bool). if not f && not (is_due t l.state.space) then changes_of o else []) fine ∙ ap (λ (d : Bool). if not d then changes_of o else []) new.quiet ∙ ap changes_of new.acted_so
 
-stopped_fault : (a : Result Answered Refusal) → is_stopped a ≡ true → is_fault a ≡ true
-stopped_fault (Ok r) e = absurd cc
-stopped_fault (Err r) e = on r e where
-  on : (r : Refusal) → is_stopped (Err r) ≡ true → is_fault (Err r) ≡ true
-  on (Stopped n) e = refl
-  on _ e = absurd cc
-
 -- what is no fault where nothing is due is the machine's answer
 pub machine_answer : (l : Log) (seat reading : ℕ) (call : Call) (answer : Result Answered Refusal) → IsAllowed l (Replied seat reading call answer) → is_fault answer ≡ false → is_due (moment_of l.state reading) l.state.space ≡ false → answer ≡ answer_of l.state (moment_of l.state reading) call
 machine_answer l seat reading call answer allowed fine quiet = at l.stopped allowed.1 where
@@ -177,6 +184,6 @@ machine_answer l seat reading call answer allowed fine quiet = at l.stopped allo
   machine true due is = let bad : true ≡ false = sym due ∙ quiet in absurd cc
   machine false none is = is
 
-  at : (b : Bool) → MatchBool b (is_stopped answer ≡ true) (is_fault answer ≡ false → IsAnswer l.state (moment_of l.state reading) call answer) → answer ≡ answer_of l.state (moment_of l.state reading) call
-  at true stopped = let bad : true ≡ false = sym (stopped_fault answer stopped) ∙ fine in absurd cc
+  at : (b : Bool) → MatchBool b (is_end l.failing answer ≡ true) (is_fault answer ≡ false → IsAnswer l.state (moment_of l.state reading) call answer) → answer ≡ answer_of l.state (moment_of l.state reading) call
+  at true ended = let bad : true ≡ false = sym (end_fault l.failing answer ended) ∙ fine in absurd cc
   at false may = machine (is_due (moment_of l.state reading) l.state.space) refl (may fine)

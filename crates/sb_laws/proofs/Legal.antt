@@ -9,7 +9,7 @@ use Rattle.sb_laws.proofs.Outcomes.{answers_no_fault, keeps_time}
 use Rattle.sb_laws.proofs.Sweeps.{nothing_due_after}
 use Rattle.sb_machine.specs.Answers.{answer_of, max_moment, moment_of, state_of}
 use Rattle.sb_machine.specs.Due.{is_due}
-use Rattle.sb_machine.specs.History.{Follows, IsAllowed, IsAnswer, IsFaultless, IsLegal, IsLegalFrom, Log, advanced, after_entries, after_entry, entries_at, entries_of, fresh_log, is_fault, is_spent, is_stopped, state_after, stops}
+use Rattle.sb_machine.specs.History.{Follows, IsAllowed, IsAnswer, IsFaultless, IsLegal, IsLegalFrom, Log, advanced, after_entries, after_entry, entries_at, entries_of, fresh_log, is_disk_fault, is_end, is_fault, is_spent, state_after, stops}
 use Rattle.sb_machine.specs.declared.call.Call.{Call}
 use Rattle.sb_machine.specs.declared.call.TimedCall.{TimedCall}
 use Rattle.sb_machine.specs.declared.history.Entry.{Entry}
@@ -26,6 +26,14 @@ not_stopping (Err r) e = by_refusal r e where
   by_refusal : (r : Refusal) → is_fault (Err r) ≡ false → stops (Err r) ≡ false
   by_refusal DiskFault e = absurd cc
   by_refusal (Stopped n) e = absurd cc
+  by_refusal _ e = refl
+
+-- nor does the disk fail at it
+not_failing : (a : Result Answered Refusal) → is_fault a ≡ false → is_disk_fault a ≡ false
+not_failing (Ok r) e = refl
+not_failing (Err r) e = by_refusal r e where
+  by_refusal : (r : Refusal) → is_fault (Err r) ≡ false → is_disk_fault (Err r) ≡ false
+  by_refusal DiskFault e = absurd cc
   by_refusal _ e = refl
 
 -- what the entries of one call are to be: legal and faultless, they leave the namespace running, and a core as it was
@@ -48,11 +56,13 @@ replied l seat t reading call running follows moment none =
         answer : Result Answered Refusal
         answer = answer_of l.state (moment_of l.state reading) call
 
-        allowed : MatchBool l.stopped (is_stopped answer ≡ true) (is_fault answer ≡ false → IsAnswer l.state (moment_of l.state reading) call answer)
+        allowed : MatchBool l.stopped (is_end l.failing answer ≡ true) (is_fault answer ≡ false → IsAnswer l.state (moment_of l.state reading) call answer)
         allowed = rw (running, none) (λ fine. refl)
 
         logged : after_entry l (Replied seat reading call answer) ≡ fresh_log (state_of l.state (moment_of l.state reading) call)
-        logged = rw (answers_no_fault l.state (moment_of l.state reading) call, none, running, not_stopping answer (answers_no_fault l.state (moment_of l.state reading) call)) refl
+        logged =
+            let fine = answers_no_fault l.state (moment_of l.state reading) call in
+            rw (fine, none, running, not_stopping answer fine, not_failing answer fine) refl
 
 module _ (seat : ℕ) (s : State) (reading : ℕ) (call : Call) (core : LastsCore s.space) (early : s.now ≤ max_moment) where
   abbrev t : ℕ

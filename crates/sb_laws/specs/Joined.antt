@@ -1,11 +1,10 @@
 -- The histories of two runs join: what a crash or a failed disk leaves is the state after a legal history, and each legal history
 -- from there goes on behind that one.
-use Rattle.std.specs.Prelude.{◌≡◌, ℕ, List, [], ◌∷◌, ◌++◌, false, if◌then◌else◌, Some, Err}
-use Rattle.sb_machine.specs.Answers.{answer_of, moment_of}
+use Rattle.std.specs.Prelude.{◌≡◌, ℕ, List, [], ◌∷◌, ◌++◌, Bool, true, false, if◌then◌else◌, Err}
+use Rattle.std.specs.Bool.{MatchBool}
 use Rattle.sb_machine.specs.Consistent.{IsConsistent}
-use Rattle.sb_machine.specs.Due.{is_due}
-use Rattle.sb_machine.specs.Events.{after_event, event_at, is_disk_fault, undecided}
-use Rattle.sb_machine.specs.History.{IsLegal, Log, after_entries, after_entry, entries_at, fresh_log, is_spent, state_after}
+use Rattle.sb_machine.specs.Events.{AreUndecided, MayLeave, replayed}
+use Rattle.sb_machine.specs.History.{IsLegal, after_entries, entries_at, fresh_log, is_disk_fault, is_stopped, state_after}
 use Rattle.sb_machine.specs.declared.call.Call.{Call}
 use Rattle.sb_machine.specs.declared.call.Event.{Event}
 use Rattle.sb_machine.specs.declared.call.Event.TheVariants.{Tick, Called}
@@ -34,50 +33,49 @@ IsRunning start h = after_entries (fresh_log start) h ≡ fresh_log (state_after
 abbrev pub without_effect : ℕ → ℕ → Call → Entry
 without_effect seat reading call = Replied seat reading call (Err OutOfMemory)
 
--- the entries of a call of which its event is found: the tick, behind which the call had no effect, or the call with the machine's answer
-abbrev pub entries_found : ℕ → State → ℕ → Call → List Entry
-entries_found seat s reading call =
-    let t = moment_of s reading in
-    if is_due t s.space then Ticked seat t ∷ without_effect seat reading call ∷ [] else Replied seat reading call (answer_of s t call) ∷ []
+-- the ticks among events, as entries of a seat
+abbrev pub ticked : ℕ → List Event → List Entry
+ticked seat [] = []
+ticked seat (Tick t ∷ es) = Ticked seat t ∷ ticked seat es
+ticked seat (Called t call ∷ es) = ticked seat es
 
--- an event that can be journaled: a tick gives no number past the greatest
-abbrev pub CanBe : State → Event → Type 0
-CanBe s (Tick t) = is_spent s t ≡ false
-CanBe s (Called t call) = Unit {0}
+-- whether a call is among events
+abbrev pub has_call : List Event → Bool
+has_call [] = false
+has_call (Tick t ∷ es) = has_call es
+has_call (Called t call ∷ es) = true
 
--- While a call is made behind a history a crash leaves nothing of it, its event, or its tick and the call: each is the state after a legal
+-- the entries of a call of which these events are found: those of the whole step, or its tick at most, behind which the call had no effect
+abbrev pub entries_left : ℕ → State → ℕ → Call → List Event → List Entry
+entries_left seat s reading call events = if has_call events then entries_at seat s reading call else ticked seat events ++ without_effect seat reading call ∷ []
+
+-- While a call is made behind a history a crash leaves nothing of it, its tick, or its tick and the call: each is the state after a legal
 -- history, which begins with that one.
 pub record StepJoins (start : State) (h : List Entry) (seat reading : ℕ) (call : Call) : Type 0 where
   pub none : Joins start h (state_after start h)
-  pub event : CanBe (state_after start h) (event_at (state_after start h) reading call)
-      → Joins start (h ++ entries_found seat (state_after start h) reading call) (after_event (state_after start h) (event_at (state_after start h) reading call))
+  pub left : (events : List Event) → MayLeave (state_after start h) reading call events
+      → Joins start (h ++ entries_left seat (state_after start h) reading call events) (replayed (state_after start h) events)
   pub whole : Joins start (h ++ entries_at seat (state_after start h) reading call) (state_after (state_after start h) (entries_at seat (state_after start h) reading call))
 
 -- a front of a legal history, cut at an answer while it runs, is a legal history, and so it is with each call that is made behind it
 abbrev pub FrontsJoin : Type 0
 FrontsJoin = (start : State) (h more : List Entry) (seat reading : ℕ) (call : Call) → IsConsistent start → IsLegal start (h ++ more) → IsRunning start h → StepJoins start h seat reading call
 
--- ---- the call that a disk failed
+-- ---- the calls that a disk failed
 
--- a history up to the first call that a disk failed, of which nothing is found
-abbrev pub without_undecided : List Entry → List Entry
-without_undecided [] = []
-without_undecided (Ticked seat t ∷ es) = Ticked seat t ∷ without_undecided es
-without_undecided (Replied seat reading call answer ∷ es) = if is_disk_fault answer then without_effect seat reading call ∷ [] else Replied seat reading call answer ∷ without_undecided es
+-- A history as it is found, where these events of the calls that the disk failed are: each of those calls stands with what is left of it, and
+-- one that found the namespace stopped had no effect. The state is the one behind the history, with what was found so far.
+abbrev pub AreFound : State → List Entry → List Event → List Entry → Type 0
+AreFound s [] events found = found ≡ []
+AreFound s (Ticked seat t ∷ es) events found = (rest : List Entry) × (found ≡ Ticked seat t ∷ rest) × AreFound s es events rest
+AreFound s (Replied seat reading call answer ∷ es) events found =
+    MatchBool (is_disk_fault answer)
+    ((own others : List Event) × (rest : List Entry) × (events ≡ own ++ others) × MayLeave s reading call own
+    × (found ≡ entries_left seat s reading call own ++ rest) × AreFound (replayed s own) es others rest)
+    ((rest : List Entry) × (found ≡ (if is_stopped answer then without_effect seat reading call else Replied seat reading call answer) ∷ rest) × AreFound s es events rest)
 
--- the same, of which its event is found
-abbrev pub with_undecided : Log → List Entry → List Entry
-with_undecided l [] = []
-with_undecided l (Ticked seat t ∷ es) = Ticked seat t ∷ with_undecided (after_entry l (Ticked seat t)) es
-with_undecided l (Replied seat reading call answer ∷ es) =
-    if is_disk_fault answer then entries_found seat l.state reading call else Replied seat reading call answer ∷ with_undecided (after_entry l (Replied seat reading call answer)) es
-
--- Whether or not the event is found that a failed disk left undecided, what is found is the state after a legal history: the same up to the
--- failed call, with that event's entries or without effect.
-pub record EitherJoins (start : State) (h : List Entry) (event : Event) : Type 0 where
-  pub missing : Joins start (without_undecided h) (state_after start h)
-  pub found : CanBe (state_after start h) event → Joins start (with_undecided (fresh_log start) h) (after_event (state_after start h) event)
-
--- so it is for each legal history that a failed disk ended
+-- Whichever events are found that a failed disk left undecided, what is found is the state after a legal history: that one, each failed call with
+-- what is found of it.
 abbrev pub UndecidedJoins : Type 0
-UndecidedJoins = (start : State) (h : List Entry) (event : Event) → IsConsistent start → IsLegal start h → undecided (fresh_log start) h ≡ Some event → EitherJoins start h event
+UndecidedJoins = (start : State) (h : List Entry) (events : List Event) → IsConsistent start → IsLegal start h → AreUndecided (state_after start h) h events
+    → (found : List Entry) × AreFound (state_after start h) h events found × Joins start found (replayed (state_after start h) events)

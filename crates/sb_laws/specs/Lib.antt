@@ -1,5 +1,5 @@
--- Laws of every legal history, in the order to read them: Laws (what was asked), Ended, Spent, Holders, Handed, Accepted, Acted, Thin, Joined, InTurn;
--- Staying, Orderly, Plain, Sweepable, Counting, AsFound (what carries them); Worked.
+-- Laws of every legal history, in the order to read them: Laws (what was asked), Ended, Spent, Holders, Handed, Accepted, Acted, Thin, Joined, InTurn,
+-- Gathered; Staying, Orderly, Plain, Sweepable, Counting, AsFound (what carries them); Worked, WorkedTogether.
 pub mod Laws
 pub mod Sweepable
 pub mod Plain

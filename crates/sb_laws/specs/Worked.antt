@@ -1,11 +1,12 @@
 -- Small histories, worked through with the definitions alone.
 use Rattle.std.specs.Prelude.{ℕ, List, [], ◌∷◌, ◌++◌, ◌+◌, true, length, codes, Some, None, Result, Ok, Err}
 use Rattle.sb_laws.specs.Accepted.{accepted_of, entry_notes}
+use Rattle.sb_laws.specs.Joined.{entries_left}
 use Rattle.sb_laws.specs.Spent.{entry_spends}
 use Rattle.sb_machine.specs.Accounts.{Numbered}
 use Rattle.sb_machine.specs.Ends.{End, Noted}
-use Rattle.sb_machine.specs.Events.{receipts_in}
-use Rattle.sb_machine.specs.History.{Log, after_entry, entries_of, fresh_log}
+use Rattle.sb_machine.specs.Events.{AreUndecided, receipts_in}
+use Rattle.sb_machine.specs.History.{Log, after_entry, entries_of, fresh_log, state_after}
 use Rattle.sb_machine.specs.Namespace.{default_description, entity_path}
 use Rattle.sb_machine.specs.Worked.{at, empty}
 use Rattle.sb_machine.specs.declared.call.Act.{Act}
@@ -194,3 +195,24 @@ receiving = at 60005 (Receive q Lock None)
 -- the history of these calls, then one that a disk failed, and the same again, which is refused since the namespace has stopped
 abbrev pub broken_off : List TimedCall → TimedCall → List Entry
 broken_off calls last = history calls ++ Replied 0 last.reading last.call (Err DiskFault) ∷ Replied 0 last.reading last.call (Err (Stopped 1)) ∷ []
+
+-- another message is sent
+abbrev pub sending_also : TimedCall
+sending_also = at 5 (Send q (with_id ∷ []) None)
+
+-- both sends, whose records were synced together, failed together; a call behind them is refused
+abbrev pub failed_together : List Entry
+failed_together =
+    history made_script
+    ++ Replied 0 5 sending.call (Err DiskFault)
+    ∷ Replied 1 5 sending_also.call (Err DiskFault)
+    ∷ Replied 0 5 sending.call (Err (Stopped 1))
+    ∷ []
+
+-- these events may be left open by a history of an empty namespace
+abbrev pub IsOpen : List Entry → List Event → Type 0
+IsOpen h events = AreUndecided (state_after empty h) h events
+
+-- the history of these calls, and what is found of one behind it of which these events are left
+abbrev pub with_left : List TimedCall → TimedCall → List Event → List Entry
+with_left calls last events = history calls ++ entries_left 0 (state_after empty (history calls)) last.reading last.call events

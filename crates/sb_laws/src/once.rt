@@ -65,15 +65,15 @@ pub fn sent_notes()
     ensures { SentNotes }
 {}
 
-/// A front of a legal history, cut at an answer while it runs, is a legal history; so is it with the event
-/// of a call that is made behind it, or with its whole step. What a crash leaves is the state after one of
-/// these, and each legal history from there goes on behind it.
+/// A front of a legal history, cut at an answer while it runs, is a legal history; so is it with what is
+/// left of a call that is made behind it: nothing, its tick, or its whole step. What a crash leaves is the
+/// state after one of these, and each legal history from there goes on behind it.
 pub fn fronts_join()
     ensures { FrontsJoin }
 {}
 
-/// Whether or not the event is found that a failed disk left undecided, what is found is the state after
-/// a legal history: the one that it ended, up to the failed call, with that event or without.
+/// Whichever events are found of the calls that a disk failed together, what is found is the state after a
+/// legal history: the one that it ended, each failed call with what is left of it.
 pub fn undecided_joins()
     ensures { UndecidedJoins }
 {}

@@ -1,13 +1,15 @@
 // Small histories whose lists compute to what was worked out by hand.
-ghost use Rattle.std.specs.Prelude.{◌≡◌, ◌∷◌, ◌++◌, [], Err, Ok, Some, codes, drop, length};
-ghost use Rattle.sb_laws.specs.Joined.{with_undecided, without_effect, without_undecided};
+ghost use Rattle.std.specs.Prelude.{◌≡◌, ◌∷◌, ◌++◌, [], Err, Ok, codes, drop, length};
+ghost use Rattle.sb_laws.specs.Joined.{without_effect};
 ghost use Rattle.sb_laws.specs.Thin.{numbers_kept};
 ghost use Rattle.sb_laws.specs.Worked.{
+  IsOpen,
   accepted_in,
   again_answers,
   again_script,
   broken_off,
   end_one,
+  failed_together,
   first_script,
   forgotten_script,
   handed_in,
@@ -22,14 +24,16 @@ ghost use Rattle.sb_laws.specs.Worked.{
   receiving,
   second_script,
   sending,
+  sending_also,
   seven,
   spends_by_entry,
   start,
+  with_left,
 };
 ghost use Rattle.sb_laws.specs.WorkedTogether.{lost_script, scope_script, turns_script, united_script};
 ghost use Rattle.sb_machine.specs.Accounts.{acts, changing, ends_of, forgets, noted_ids, number_uses, spent_locks};
-ghost use Rattle.sb_machine.specs.Events.{thinned, undecided};
-ghost use Rattle.sb_machine.specs.History.{state_after};
+ghost use Rattle.sb_machine.specs.Events.{thinned};
+ghost use Rattle.sb_machine.specs.History.{IsLegal, state_after};
 ghost use Rattle.sb_machine.specs.Namespace.{live, made};
 ghost use Rattle.sb_machine.specs.Worked.{answers_in, empty, state_by};
 ghost use Rattle.sb_machine.specs.declared.call.Event.TheVariants.{Called, Tick};
@@ -68,15 +72,20 @@ pub fn worked_forgetting()
     ensures other { numbers_kept (state_after empty (history other_script)).clients ≡ of_other ∷ [] }
 {}
 
-/// What is found of two histories that a failed disk ended, the one as a tick was to be made, the other
-/// as a message was sent.
+/// What may be left open of histories that a failed disk ended, as a tick was to be made, as a message was
+/// sent, and as two were sent together, and the entries that then stand for such a call.
 pub fn worked_failures()
-    ensures tick { undecided start (broken_off held_script receiving) ≡ Some (Tick 60005) }
-    ensures call { undecided start (broken_off made_script sending) ≡ Some (Called 5 sending.call) }
-    ensures no_tick { without_undecided (broken_off held_script receiving) ≡ history held_script ++ without_effect 0 60005 receiving.call ∷ [] }
-    ensures no_call { without_undecided (broken_off made_script sending) ≡ history made_script ++ without_effect 0 5 sending.call ∷ [] }
-    ensures with_tick { with_undecided start (broken_off held_script receiving) ≡ history held_script ++ Ticked 0 60005 ∷ without_effect 0 60005 receiving.call ∷ [] }
-    ensures with_call { with_undecided start (broken_off made_script sending) ≡ history (made_script ++ sending ∷ []) }
+    ensures nothing { IsOpen (broken_off held_script receiving) [] }
+    ensures tick { IsOpen (broken_off held_script receiving) (Tick 60005 ∷ []) }
+    ensures step { IsOpen (broken_off held_script receiving) (Tick 60005 ∷ Called 60005 receiving.call ∷ []) }
+    ensures call { IsOpen (broken_off made_script sending) (Called 5 sending.call ∷ []) }
+    ensures legal { IsLegal empty failed_together }
+    ensures first { IsOpen failed_together (Called 5 sending.call ∷ []) }
+    ensures both { IsOpen failed_together (Called 5 sending.call ∷ Called 5 sending_also.call ∷ []) }
+    ensures with_nothing { with_left held_script receiving [] ≡ history held_script ++ without_effect 0 60005 receiving.call ∷ [] }
+    ensures with_tick { with_left held_script receiving (Tick 60005 ∷ []) ≡ history held_script ++ Ticked 0 60005 ∷ without_effect 0 60005 receiving.call ∷ [] }
+    ensures with_step { with_left held_script receiving (Tick 60005 ∷ Called 60005 receiving.call ∷ []) ≡ history (held_script ++ receiving ∷ []) }
+    ensures with_call { with_left made_script sending (Called 5 sending.call ∷ []) ≡ history (made_script ++ sending ∷ []) }
 {}
 
 /// A message is completed, another sent on and a session set together: what each is answered, and the

@@ -1,8 +1,10 @@
--- Events: without duplicates, replayed, and the one that a failing disk leaves open.
-use Rattle.std.specs.Prelude.{ℕ, List, [], ◌∷◌, Bool, true, false, if◌then◌else◌, Option, Some, None, Result, Ok, Err}
-use Rattle.sb_machine.specs.Answers.{moment_of, state_of}
+-- Events: without duplicates, replayed, and those that a failing disk leaves open.
+use Rattle.std.specs.Prelude.{◌≡◌, ◌⊎◌, ℕ, List, [], ◌∷◌, ◌++◌, Bool, true, false, if◌then◌else◌, None, Result, Ok, Err}
+use Rattle.std.specs.Bool.{MatchBool}
+use Rattle.sb_machine.specs.Answers.{is_change, moment_of, state_of}
 use Rattle.sb_machine.specs.Due.{is_due}
-use Rattle.sb_machine.specs.History.{Log, after_entry, advanced}
+use Rattle.sb_machine.specs.History.{Log, advanced, is_disk_fault, is_spent}
+use Rattle.sb_machine.specs.Repeats.{client_of, outcome_of}
 use Rattle.sb_machine.specs.declared.call.Act.{Act}
 use Rattle.sb_machine.specs.declared.call.Act.TheVariants.{Send}
 use Rattle.sb_machine.specs.declared.call.Call.{Call}
@@ -16,7 +18,6 @@ use Rattle.sb_machine.specs.declared.reply.Answered.TheVariants.{New}
 use Rattle.sb_machine.specs.declared.reply.Receipt.{Receipt}
 use Rattle.sb_machine.specs.declared.reply.Receipt.TheVariants.{Number, Duplicate}
 use Rattle.sb_machine.specs.declared.reply.Refusal.{Refusal}
-use Rattle.sb_machine.specs.declared.reply.Refusal.TheVariants.{DiskFault}
 use Rattle.sb_machine.specs.declared.reply.Reply.{Reply}
 use Rattle.sb_machine.specs.declared.reply.Reply.TheVariants.{Sent}
 use Rattle.sb_machine.specs.declared.state.State.{State}
@@ -62,17 +63,35 @@ abbrev pub replayed : State → List Event → State
 replayed s [] = s
 replayed s (e ∷ es) = replayed (after_event s e) es
 
--- the event of the step whose disk call failed: its tick where something was due, else its call
+-- the first event of a call's step: its tick where something is due, else the call
 abbrev pub event_at : State → ℕ → Call → Event
 event_at s reading call = if is_due (moment_of s reading) s.space then Tick (moment_of s reading) else Called (moment_of s reading) call
 
--- whether a call was answered with a failure of the disk
-abbrev pub is_disk_fault : Result Answered Refusal → Bool
-is_disk_fault (Err DiskFault) = true
-is_disk_fault _ = false
+-- the tick of a call, where something is due and time can go on
+abbrev pub tick_at : State → ℕ → List Event
+tick_at s t = if is_due t s.space then (if is_spent s t then [] else Tick t ∷ []) else []
 
--- the event that the first failure of the disk left open: it may be on the disk or not
-abbrev pub undecided : Log → List Entry → Option Event
-undecided l [] = None
-undecided l (Ticked seat t ∷ es) = undecided (after_entry l (Ticked seat t)) es
-undecided l (Replied seat reading call answer ∷ es) = if is_disk_fault answer then Some (event_at l.state reading call) else undecided (after_entry l (Replied seat reading call answer)) es
+-- ---- what a failing disk leaves open
+
+-- the events of a whole step: a call's tick, if one is due, and the call
+abbrev pub whole_step : State → ℕ → Call → List Event
+whole_step s reading call = tick_at s (moment_of s reading) ++ Called (moment_of s reading) call ∷ []
+
+-- a call changes something at a moment, and nothing is due there
+abbrev pub IsMade : State → ℕ → Call → Type 0
+IsMade s t call = (is_due t s.space ≡ false) × (is_change (client_of call) (outcome_of s t call) ≡ true)
+
+-- What may be on a disk of a call at this reading, whose record wasn't safe as the disk failed: nothing, its tick, or that and the call.
+abbrev pub MayLeave : State → ℕ → Call → List Event → Type 0
+MayLeave s reading call events =
+    (events ≡ []) ⊎ (events ≡ tick_at s (moment_of s reading))
+    ⊎ (IsMade (replayed s (tick_at s (moment_of s reading))) (moment_of s reading) call × (events ≡ whole_step s reading call))
+
+-- Events that a failing disk left open, in the state behind a history: of each call that was answered so, one behind another.
+abbrev pub AreUndecided : State → List Entry → List Event → Type 0
+AreUndecided s [] events = events ≡ []
+AreUndecided s (Ticked seat t ∷ es) events = AreUndecided s es events
+AreUndecided s (Replied seat reading call answer ∷ es) events =
+    MatchBool (is_disk_fault answer)
+    ((own others : List Event) × (events ≡ own ++ others) × MayLeave s reading call own × AreUndecided (replayed s own) es others)
+    (AreUndecided s es events)

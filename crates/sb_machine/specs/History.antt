@@ -20,6 +20,11 @@ is_fault (Err (Stopped n)) = true
 is_fault (Err OutOfMemory) = true
 is_fault _ = false
 
+-- whether a call was answered with a failure of the disk
+abbrev pub is_disk_fault : Result Answered Refusal → Bool
+is_disk_fault (Err DiskFault) = true
+is_disk_fault _ = false
+
 -- whether a call was refused since the namespace has stopped
 abbrev pub is_stopped : Result Answered Refusal → Bool
 is_stopped (Err (Stopped n)) = true
@@ -43,16 +48,21 @@ is_spent s t = not (is_numbered t (tick_changes t s.space) s.space)
 
 -- ---- the state after entries
 
--- What stands behind some entries: the state, whether the namespace has stopped, and the seat and the moment of a tick
--- whose call hasn't come yet.
+-- What stands behind some entries: the state, whether the namespace has stopped, whether the last call was answered that the disk failed, and the
+-- seat and the moment of a tick whose call hasn't come yet.
 pub record Log : Type 0 where
   pub state : State
   pub stopped : Bool
+  pub failing : Bool
   pub tick : Option (ℕ × ℕ)
 
 -- a history without entries yet, which begins at this state
 abbrev pub fresh_log : State → Log
-fresh_log s = record { state = s; stopped = false; tick = None }
+fresh_log s = record { state = s; stopped = false; failing = false; tick = None }
+
+-- the same, where calls that come have no part in the disk's failure
+abbrev pub settled : Log → Log
+settled l = record l { failing = false }
 
 -- where something is due, the call isn't made
 abbrev pub after_call : State → ℕ → Call → Result Answered Refusal → State
@@ -60,8 +70,8 @@ after_call s reading call answer = if is_fault answer then s else (if is_due (mo
 
 -- the history's end after one entry more
 abbrev pub after_entry : Log → Entry → Log
-after_entry l (Ticked seat t) = record l { state = advanced l.state t; tick = Some (seat, t) }
-after_entry l (Replied seat reading call answer) = record { state = after_call l.state reading call answer; stopped = (if l.stopped then true else stops answer); tick = None }
+after_entry l (Ticked seat t) = record l { state = advanced l.state t; failing = false; tick = Some (seat, t) }
+after_entry l (Replied seat reading call answer) = record { state = after_call l.state reading call answer; stopped = (if l.stopped then true else stops answer); failing = is_disk_fault answer; tick = None }
 
 -- the history's end after entries
 abbrev pub after_entries : Log → List Entry → Log
@@ -87,11 +97,16 @@ abbrev pub Follows : Option (ℕ × ℕ) → ℕ → ℕ → Type 0
 Follows None seat t = Unit {0}
 Follows (Some tick) seat t = (seat ≡ tick.0) × (t ≡ tick.1)
 
+-- What a call is answered once the namespace has stopped: that it has. Calls whose records are synced together fail together: each of them, one
+-- right behind another, is answered that the disk failed.
+abbrev pub is_end : Bool → Result Answered Refusal → Bool
+is_end failing answer = if failing then stops answer else is_stopped answer
+
 -- this entry may stand behind those
 abbrev pub IsAllowed : Log → Entry → Type 0
 IsAllowed l (Ticked seat t) = (l.stopped ≡ false) × (l.tick ≡ None) × IsTick l.state t
 IsAllowed l (Replied seat reading call answer) =
-    Follows l.tick seat (moment_of l.state reading) × MatchBool l.stopped (is_stopped answer ≡ true) (is_fault answer ≡ false → IsAnswer l.state (moment_of l.state reading) call answer)
+    Follows l.tick seat (moment_of l.state reading) × MatchBool l.stopped (is_end l.failing answer ≡ true) (is_fault answer ≡ false → IsAnswer l.state (moment_of l.state reading) call answer)
 
 -- each entry may stand there, and no tick is left without its call
 abbrev pub IsLegalFrom : Log → List Entry → Type 0

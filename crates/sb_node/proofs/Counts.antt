@@ -8,7 +8,7 @@ use Rattle.sb_journal.specs.declared.journal.Journal.{Journal}
 use Rattle.sb_machine.specs.Accounts.{changing, event_of, is_machine}
 use Rattle.sb_machine.specs.Answers.{moment_of}
 use Rattle.sb_machine.specs.Due.{is_due}
-use Rattle.sb_machine.specs.History.{is_fault, Log, after_entry, after_entries, fresh_log}
+use Rattle.sb_machine.specs.History.{is_fault, Log, after_entry, after_entries, fresh_log, settled}
 use Rattle.sb_machine.specs.Repeats.{outcome_of}
 use Rattle.sb_machine.specs.declared.call.Call.{Call}
 use Rattle.sb_machine.specs.declared.call.Event.{Event}
@@ -24,6 +24,7 @@ use Rattle.sb_node.specs.Nodes.{IsUnrecorded}
 use Rattle.sb_node.specs.Serving.{raised, refusals, with_entries, with_events}
 use Rattle.sb_node.specs.Steps.{log_of, entries_with, tick_events, call_events, IsTicked, IsTickFault}
 use Rattle.sb_node.proofs.Histories.{no_changing, step_changing}
+use Rattle.sb_node.proofs.Settled.{changing_settled}
 
 -- ---- counts
 
@@ -132,12 +133,13 @@ changing_on l (Replied seat reading call answer ∷ h) es =
     let next = after_entry l (Replied seat reading call answer) in
     ap (λ (z : List Event). own ++ z) (changing_on next h es) ∙ sym (append_assoc own (changing next h) (changing (after_entries next h) es))
 
-pub numbers_on : (start : State) (h es : List Entry) (l : Log) (r new : Report) → l ≡ after_entries (fresh_log start) h → IsReport start h r → new ≡ with_entries r l es → IsReport start (h ++ es) new
+pub numbers_on : (start : State) (h es : List Entry) (l : Log) (r new : Report) → l ≡ settled (after_entries (fresh_log start) h) → IsReport start h r → new ≡ with_entries r l es → IsReport start (h ++ es) new
 numbers_on start h es l r new at is same = record {
   entries = ap (λ (x : Report). x.entries) same ∙ raised_counted r.entries (length h) (length es) is.entries ∙ ap counted (sym (length-append h es));
   changing =
       ap (λ (x : Report). x.changing) same
       ∙ ap (λ (x : Log). raised r.changing (length (changing x es))) at
+      ∙ ap (λ (x : List Event). raised r.changing (length x)) (changing_settled (after_entries (fresh_log start) h) es)
       ∙ raised_counted r.changing (length (changing (fresh_log start) h)) (length (changing (after_entries (fresh_log start) h) es)) is.changing
       ∙ ap counted (sym (length-append (changing (fresh_log start) h) (changing (after_entries (fresh_log start) h) es)) ∙ ap length (sym (changing_on (fresh_log start) h es)));
   refused =

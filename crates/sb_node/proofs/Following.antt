@@ -9,10 +9,9 @@ use Rattle.sb_journal.specs.declared.journal.Journal.{Journal}
 use Rattle.sb_journal.proofs.Pairs.{still_pairs, weaker_pair}
 use Rattle.sb_machine.specs.Answers.{moment_of, state_of}
 use Rattle.sb_machine.specs.Due.{is_due}
-use Rattle.sb_machine.specs.Events.{after_event, event_at, is_disk_fault, undecided}
-use Rattle.sb_machine.specs.History.{Log, after_call, after_entry, after_entries, advanced, is_fault}
+use Rattle.sb_machine.specs.Events.{after_event, event_at}
+use Rattle.sb_machine.specs.History.{Log, after_call, after_entry, after_entries, advanced, is_disk_fault, is_fault}
 use Rattle.sb_machine.specs.declared.call.Call.{Call}
-use Rattle.sb_machine.specs.declared.call.Event.{Event}
 use Rattle.sb_machine.specs.declared.history.Entry.{Entry}
 use Rattle.sb_machine.specs.declared.history.Entry.TheVariants.{Ticked, Answered as Replied}
 use Rattle.sb_machine.specs.declared.reply.Answered.{Answered}
@@ -24,6 +23,7 @@ use Rattle.sb_node.specs.Nodes.{HoldsState, LeadsToOneOf, StayOneOf}
 use Rattle.sb_node.specs.Serving.{states_at, FollowEntries, Rests}
 use Rattle.sb_node.specs.Steps.{entries_with, log_of, time_to, IsTicked, IsTickFault}
 use Rattle.sb_node.proofs.Crashes.{step_moments, untouched_moments}
+use Rattle.sb_node.proofs.Failing.{fails, match_on}
 use Rattle.sb_node.proofs.Stepping.{time_is}
 use Rattle.sb_node.proofs.Undecided.{call_leads, tick_leads}
 
@@ -158,26 +158,22 @@ call_follows {D} {B} side old mid new last t seat reading call s0 s1 stopped tic
 
 -- ---- one behind others
 
-match_on : (b : Bool) (A A_1 B B_1 : Type 0) → (b ≡ true → A → A_1) → (b ≡ false → B → B_1) → MatchBool b A B → MatchBool b A_1 B_1
-match_on true A A_1 B B_1 on_true on_false is = on_true refl is
-match_on false A A_1 B B_1 on_true on_false is = on_false refl is
-
 -- where no disk has failed the step goes on, and where one has the disks stay
 pub follows_on : (on : Bool) (before : List State) (l : Log) (h es : List Entry) (was mid later : Disks) → (l.tick ≡ None → before ≡ []) → (after_entries l h).tick ≡ None
-    → (undecided l h ≡ None → FollowEntries on [] (after_entries l h) es mid later) → ((e : Event) → undecided l h ≡ Some e → later ≡ mid) → FollowEntries on before l h was mid → FollowEntries on before l (h ++ es) was later
+    → (fails h ≡ false → FollowEntries on [] (after_entries l h) es mid later) → (fails h ≡ true → later ≡ mid) → FollowEntries on before l h was mid → FollowEntries on before l (h ++ es) was later
 follows_on on before l [] es was mid later none ends goes stays is =
     subst (λ (b : List State). FollowEntries on b l es was later) (sym (none ends)) (subst (λ (d : Disks). FollowEntries on [] l es d later) is (goes refl))
 follows_on on before l (Ticked seat t ∷ h) es was mid later none ends goes stays is =
     follows_on on (l.state ∷ before) (after_entry l (Ticked seat t)) h es was mid later (λ never. absurd cc) ends goes stays is
 follows_on on before l (Replied seat reading call answer ∷ h) es was mid later none ends goes stays is =
     let next = after_entry l (Replied seat reading call answer) in
-    let event : (b : Bool) → is_disk_fault answer ≡ b → undecided l (Replied seat reading call answer ∷ h) ≡ (if b then Some (event_at l.state reading call) else undecided next h) = λ b same. ap (λ (x : Bool). if x then Some (event_at l.state reading call) else undecided next h) same in (
+    let whole : (b : Bool) → is_disk_fault answer ≡ b → fails (Replied seat reading call answer ∷ h) ≡ (if b then true else fails h) = λ b same. ap (λ (x : Bool). if x then true else fails h) same in (
       is.0,
       is.1,
       is.2,
       is.3,
       match_on (is_disk_fault answer) (mid ≡ is.1) (later ≡ is.1) (FollowEntries on [] next h is.1 mid) (FollowEntries on [] next (h ++ es) is.1 later)
-          (λ failed same. stays (event_at l.state reading call) (event true failed) ∙ same)
-          (λ runs follows. follows_on on [] next h es is.1 mid later (λ same. refl) ends (λ open_none. goes (event false runs ∙ open_none)) (λ e is_e. stays e (event false runs ∙ is_e)) follows)
+          (λ failed same. stays (whole true failed) ∙ same)
+          (λ runs follows. follows_on on [] next h es is.1 mid later (λ same. refl) ends (λ sound. goes (whole false runs ∙ sound)) (λ failed. stays (whole false runs ∙ failed)) follows)
           is.4,
     )

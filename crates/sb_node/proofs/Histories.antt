@@ -61,14 +61,14 @@ call_changed t call s answered changing = ap (λ (b : Bool). if b then Called t 
 
 -- of its call, where nothing is due
 call_changing : (seat reading t : ℕ) (s : State) (stopped : Bool) (tick : Option (ℕ × ℕ)) (call : Call) (answer : Result Answered Refusal) → t ≡ moment_of s reading → is_due t s.space ≡ false
-    → changing (record { state = s; stopped = stopped; tick = tick }) (Replied seat reading call answer ∷ []) ≡ call_events t call s answer
+    → changing (record { state = s; stopped = stopped; failing = false; tick = tick }) (Replied seat reading call answer ∷ []) ≡ call_events t call s answer
 call_changing seat reading t s stopped tick call answer at calm = by_tests (is_fault answer) (is_change (client_of call) (outcome_of s (moment_of s reading) call)) refl refl
   where
     calm' : is_due (moment_of s reading) s.space ≡ false
     calm' = ap (λ (m : ℕ). is_due m s.space) (sym at) ∙ calm
 
     by_tests : (f b : Bool) → is_fault answer ≡ f → is_change (client_of call) (outcome_of s (moment_of s reading) call) ≡ b
-        → changing (record { state = s; stopped = stopped; tick = tick }) (Replied seat reading call answer ∷ []) ≡ call_events t call s answer
+        → changing (record { state = s; stopped = stopped; failing = false; tick = tick }) (Replied seat reading call answer ∷ []) ≡ call_events t call s answer
     by_tests true b fault is = rw (fault) refl
     by_tests false true fault is = rw (fault, calm', at, is) refl
     by_tests false false fault is = rw (fault, calm', at, is) refl

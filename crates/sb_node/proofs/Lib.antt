@@ -13,7 +13,9 @@ pub mod Whole
 pub mod Numbers
 pub mod Brief
 pub mod Merely
+pub mod Settled
 pub mod Counts
+pub mod Failing
 pub mod Undecided
 pub mod Following
 pub mod Standing

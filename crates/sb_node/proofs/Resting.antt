@@ -1,5 +1,5 @@
 -- A step behind a rest, in which the journal may have gone on with a new file.
-use Rattle.std.proofs.Common.{◌≡◌, ◌≢◌, inl, ℕ, List, [], ◌∷◌, ◌++◌, Bool, true, false, Option, Some, None, Result, Ok, Err, refl, sym, ap, ◌∙◌, subst, arith}
+use Rattle.std.proofs.Common.{◌≡◌, ◌≢◌, inl, ℕ, List, [], ◌++◌, Bool, true, false, Option, Some, None, Result, Ok, Err, refl, sym, ap, ◌∙◌, subst, arith}
 use Rattle.std.specs.Prelude.{is_some, IfErr, IfSome}
 use Rattle.sb_desk.specs.Entries.{made_by}
 use Rattle.sb_journal.specs.Disks.{Disks, AreQuiet, NoneFell, OneFault, SameHonesty}
@@ -7,7 +7,6 @@ use Rattle.sb_journal.specs.Journals.{journal_disks}
 use Rattle.sb_journal.specs.declared.journal.Journal.{Journal}
 use Rattle.sb_journal.proofs.Pairs.{started_pair}
 use Rattle.sb_machine.specs.Answers.{moment_of}
-use Rattle.sb_machine.specs.Events.{after_event, event_at}
 use Rattle.sb_machine.specs.History.{Log, IsLegalFrom}
 use Rattle.sb_machine.specs.declared.call.Call.{Call}
 use Rattle.sb_machine.specs.declared.history.Entry.{Entry}
@@ -17,8 +16,8 @@ use Rattle.sb_machine.specs.declared.reply.Refusal.TheVariants.{DiskFault, Stopp
 use Rattle.sb_machine.specs.declared.state.State.{State}
 use Rattle.sb_outside.specs.declared.disk.Disk.{Ghosts}
 use Rattle.sb_node.specs.declared.node.Node.{Node}
-use Rattle.sb_node.specs.Nodes.{node_disks, node_journal, node_log, node_state, node_stopped, node_ticked, IsDurable, IsKept, IsOneOf, LeadsToOneOf}
-use Rattle.sb_node.specs.Serving.{node_goes_on, node_report, opened_disks, raised, states_at, with_entries, FollowEntries, Rests, StandsFor}
+use Rattle.sb_node.specs.Nodes.{node_disks, node_journal, node_log, node_state, node_stopped, node_ticked, IsDurable, IsKept, LeadsToOneOf}
+use Rattle.sb_node.specs.Serving.{node_goes_on, node_report, opened_disks, raised, states_at, with_entries, FollowEntries, IsUndecided, Rests, StandsFor}
 use Rattle.sb_node.specs.Steps.{entries_with, is_spared, log_of, ticked_to, IsStep}
 use Rattle.sb_node.proofs.Counts.{fault_numbers}
 use Rattle.sb_node.proofs.Following.{rests_still}
@@ -57,7 +56,7 @@ pub record Alone {D : Type 0} {B : Ghosts D} (old new : Node D B) (seat reading 
   pub durable : IsKept old → node_stopped new ≡ None → IsDurable (node_disks new) (node_state new)
   pub follows : IsKept old → FollowEntries false [] (node_log old) (entries_with (node_ticked new) seat reading call answer) (node_disks old) (node_disks new)
   pub quiet : answer ≢ Err DiskFault → AreQuiet (node_disks old) (node_disks new)
-  pub undecided_now : IsKept old → answer ≡ Err DiskFault → IsOneOf (node_disks new) (node_state new ∷ after_event (node_state new) (event_at (node_state new) reading call) ∷ [])
+  pub undecided_now : IsKept old → answer ≡ Err DiskFault → IsUndecided (node_disks new) (node_state new) reading call
   pub ticked : IfSome (node_ticked new) (λ t. t ≡ moment_of (node_state old) reading)
   pub free : is_spared (moment_of (node_state old) reading) call (ticked_to (node_ticked new) (node_state old)) ≡ true → answer ≢ Err OutOfMemory
 
@@ -203,7 +202,7 @@ module _ {D : Type 0} {B : Ghosts D} (old new : Node D B) (seat reading : ℕ) (
         subst (λ (o : Option ℕ). FollowEntries (node_goes_on old) [] (node_log old) (entries_with o seat reading call (Err DiskFault)) (node_disks old) (node_disks new)) (sym fails.ticked)
         (failed_rest (node_goes_on old) (node_state old) (node_stopped old) seat reading call (node_disks old) (node_disks new) (fails.rests kept) (subst (λ (s : State). IsDurable (node_disks new) s) fails.state (fails.durable kept)));
     quiet = λ other. absurd (other refl);
-    undecided_now = λ kept runs is x y on_x on_y. inl (fails.durable kept x y on_x on_y);
+    undecided_now = λ kept runs is. ([], inl refl, λ x y on_x on_y. inl (fails.durable kept x y on_x on_y));
     ticked = subst (λ (o : Option ℕ). IfSome o (λ t. t ≡ moment_of (node_state old) reading)) (sym fails.ticked) tt;
     free = λ spared is. absurd cc;
   }

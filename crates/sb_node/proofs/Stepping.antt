@@ -32,8 +32,8 @@ state_is s t reading call answer stopped new at calm is = go (is_fault answer) r
     go true e = rw e (is.fault e)
     go false e = rw (e, calm') ((is.machine e).1 ∙ ap (λ (m : ℕ). state_of s m call) at)
 
-same_log : (s s' : State) (stopped stopped' : Bool) → s ≡ s' → stopped ≡ stopped' → ◌≡◌ {A = Log} (record { state = s; stopped = stopped; tick = None }) (record { state = s'; stopped = stopped'; tick = None })
-same_log s s' stopped stopped' e f = ap (λ (x : State). record { state = x; stopped = stopped; tick = None }) e ∙ ap (λ (b : Bool). record { state = s'; stopped = b; tick = None }) f
+same_log : (s s' : State) (stopped stopped' : Bool) → s ≡ s' → stopped ≡ stopped' → ◌≡◌ {A = Log} (record { state = s; stopped = stopped; failing = false; tick = None }) (record { state = s'; stopped = stopped'; failing = false; tick = None })
+same_log s s' stopped stopped' e f = ap (λ (x : State). record { state = x; stopped = stopped; failing = false; tick = None }) e ∙ ap (λ (b : Bool). record { state = s'; stopped = b; failing = false; tick = None }) f
 
 not_before : (a now t : ℕ) → t ≡ max a now → now ≤ t
 not_before a now t is = omega (arith, is)

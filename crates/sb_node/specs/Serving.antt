@@ -1,5 +1,5 @@
 -- A node as what a desk serves: its numbers, what it found on its disks as it was opened and how it uses them, and the history that it stands for.
-use Rattle.std.specs.Prelude.{◌≡◌, ◌⊎◌, ℕ, zero, suc, ◌+◌, List, [], ◌∷◌, ◌++◌, map, length, filter, Bool, true, false, nat_lt, if◌then◌else◌, Option, Some, None, is_some, Result, Ok, Err}
+use Rattle.std.specs.Prelude.{◌≡◌, ◌⊎◌, ℕ, zero, suc, ◌+◌, List, [], ◌∷◌, ◌++◌, map, length, filter, Bool, true, false, nat_lt, if◌then◌else◌, None, is_some, Result, Ok, Err}
 use Rattle.std.specs.Bool.{MatchBool}
 use Rattle.sb_desk.specs.Entries.{counted, is_refused, IsReport}
 use Rattle.sb_desk.specs.Spared.{Spares}
@@ -12,8 +12,8 @@ use Rattle.sb_journal.specs.Journals.{journal_disks}
 use Rattle.sb_journal.specs.declared.found.Side.{Side}
 use Rattle.sb_machine.specs.Accounts.{changing}
 use Rattle.sb_machine.specs.Consistent.{IsConsistent}
-use Rattle.sb_machine.specs.Events.{after_event, event_at, is_disk_fault, undecided}
-use Rattle.sb_machine.specs.History.{Log, IsLegal, after_call, after_entry, after_entries, fresh_log, state_after}
+use Rattle.sb_machine.specs.Events.{after_event, event_at, replayed, AreUndecided, MayLeave}
+use Rattle.sb_machine.specs.History.{Log, IsLegal, after_call, after_entry, after_entries, fresh_log, is_disk_fault, settled, state_after}
 use Rattle.sb_machine.specs.declared.call.Call.{Call}
 use Rattle.sb_machine.specs.declared.call.Event.{Event}
 use Rattle.sb_machine.specs.declared.history.Entry.{Entry}
@@ -88,14 +88,17 @@ HasDiskRisen was now = Rose was.a.faults now.a.faults ⊎ Rose was.b.faults now.
 
 -- ---- the history
 
--- this state, or the one after the event that a failed disk left undecided, if there is one
-abbrev pub states_with : State → Option Event → List State
-states_with s None = s ∷ []
-states_with s (Some event) = s ∷ after_event s event ∷ []
+-- whatever a crash now leaves leads to this state, or to the one with these events, which are there as a whole or not at all
+abbrev pub IsWithOrNot : Disks → State → List Event → Type 0
+IsWithOrNot disks s events = IsOneOf disks (s ∷ replayed s events ∷ [])
 
--- to which a crash may lead after a history
-abbrev pub states_left : State → List Entry → List State
-states_left start h = states_with (state_after start h) (undecided (fresh_log start) h)
+-- a disk failed in the step of a call: it leads to this state, or to that with what may be left of the step
+abbrev pub IsUndecided : Disks → State → (reading : ℕ) → Call → Type 0
+IsUndecided disks s reading call = (events : List Event) × MayLeave s reading call events × IsWithOrNot disks s events
+
+-- behind a history it leads to the state after that, or to the one with what may be left of the calls that a disk failed
+abbrev pub IsLeft : Disks → State → List Entry → Type 0
+IsLeft disks start h = (events : List Event) × AreUndecided (state_after start h) h events × IsWithOrNot disks (state_after start h) events
 
 -- ---- its moments
 
@@ -130,13 +133,14 @@ abbrev pub FollowHistory : (goes_on : Bool) → State → List Entry → (was no
 FollowHistory goes_on start h was now = FollowEntries goes_on [] (fresh_log start) h was now
 
 -- A node stands for a history from a state: it holds the state to which that leads, and its numbers, and has stopped where the history
--- has. No spared call of it was answered with want of memory. Where its disks are honest, a crash as it was opened led to the first state, a crash at any moment since leads on as `FollowHistory`
--- says, and one now to the last state or to the one after the undecided event.
+-- has; of a disk's failure it answers one call alone. No spared call of it was answered with want of memory. Where its disks are honest, a crash
+-- as it was opened led to the first state, a crash at any moment since leads on as `FollowHistory` says, and one now to the last state or to the one
+-- with what a failed disk left undecided.
 pub record StandsFor {D : Type 0} {B : Ghosts D} (n : Node D B) (start : State) (h : List Entry) : Type 0 where
   pub consistent : IsConsistent start
   pub legal : IsLegal start h
   pub spares : Spares is_spared start h
-  pub leads : node_log n ≡ after_entries (fresh_log start) h
+  pub leads : node_log n ≡ settled (after_entries (fresh_log start) h)
   pub numbers : IsReport start h (node_report n)
   pub honesty : SameHonesty (opened_disks n) (node_disks n)
   -- it has stopped only where a count rose, and none rose where it runs
@@ -146,4 +150,4 @@ pub record StandsFor {D : Type 0} {B : Ghosts D} (n : Node D B) (start : State) 
   pub kept : AreHonest (node_disks n) → node_stopped n ≡ None → IsKept n
   pub began : AreHonest (node_disks n) → IsDurable (opened_disks n) start
   pub follows : AreHonest (node_disks n) → FollowHistory (node_goes_on n) start h (opened_disks n) (node_disks n)
-  pub left : AreHonest (node_disks n) → IsOneOf (node_disks n) (states_left start h)
+  pub left : AreHonest (node_disks n) → IsLeft (node_disks n) start h

@@ -2,7 +2,7 @@
 use Rattle.std.specs.Prelude.{◌≡◌, ℕ, ◌&&◌, not, Bool, true, false, List, [], ◌∷◌, if◌then◌else◌, Option, Some, None, is_some, Result}
 use Rattle.sb_machine.specs.Answers.{answer_of, state_of, is_change}
 use Rattle.sb_machine.specs.Due.{is_due}
-use Rattle.sb_machine.specs.History.{Log, IsLegalFrom, after_entries, advanced, is_fault, is_spent, stops}
+use Rattle.sb_machine.specs.History.{Log, IsLegalFrom, after_entries, advanced, is_fault, is_spent, settled, stops}
 use Rattle.sb_machine.specs.Repeats.{client_of, outcome_of}
 use Rattle.sb_machine.specs.declared.call.Call.{Call}
 use Rattle.sb_machine.specs.declared.call.Event.{Event}
@@ -19,17 +19,17 @@ use Rattle.sb_engine.specs.Small.{takes_no_memory}
 
 -- the place of a namespace in its history, between two steps
 abbrev pub log_of : State → Option ℕ → Log
-log_of s stopped = record { state = s; stopped = is_some stopped; tick = None }
+log_of s stopped = record { state = s; stopped = is_some stopped; failing = false; tick = None }
 
 -- the call of a step, and before it the tick, if time went on
 abbrev pub entries_with : Option ℕ → ℕ → ℕ → Call → Result Answered Refusal → List Entry
 entries_with None seat reading call answer = Replied seat reading call answer ∷ []
 entries_with (Some t) seat reading call answer = Ticked seat t ∷ Replied seat reading call answer ∷ []
 
--- entries that are legal behind this place led to that one
+-- Entries that are legal behind this place led to that one. It fails one call alone: no other call is answered by the disk's failure.
 pub record IsStep (before : Log) (entries : List Entry) (after : Log) : Type 0 where
   pub legal : IsLegalFrom before entries
-  pub leads : after ≡ after_entries before entries
+  pub leads : after ≡ settled (after_entries before entries)
 
 -- ---- the states of a step
 

@@ -9,8 +9,8 @@
 //!
 //! It is a `Served`: as it was opened it stands for an empty history, and each step adds its entries to
 //! the one for which it stands. Whatever a crash leaves of its disks leads to the state after that
-//! history, or, once a disk has failed, to the one after the event that wasn't journaled
-//! (`specs/Serving`). Where it is told to (`go_on_after`), its journal goes on with a new file by itself
+//! history, or, once a disk has failed, to the one with the events that the failed step may have
+//! left (`specs/Serving`). Where it is told to (`go_on_after`), its journal goes on with a new file by itself
 //! before a step, once it has grown.
 //!
 //! ```text
