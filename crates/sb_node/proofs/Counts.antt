@@ -125,7 +125,7 @@ pub after_on : (l : Log) (h es : List Entry) → after_entries l (h ++ es) ≡ a
 after_on l [] es = refl
 after_on l (e ∷ h) es = after_on (after_entry l e) h es
 
-changing_on : (l : Log) (h es : List Entry) → changing l (h ++ es) ≡ changing l h ++ changing (after_entries l h) es
+pub changing_on : (l : Log) (h es : List Entry) → changing l (h ++ es) ≡ changing l h ++ changing (after_entries l h) es
 changing_on l [] es = refl
 changing_on l (Ticked seat t ∷ h) es = ap (λ (z : List Event). Tick t ∷ z) (changing_on (after_entry l (Ticked seat t)) h es)
 changing_on l (Replied seat reading call answer ∷ h) es =

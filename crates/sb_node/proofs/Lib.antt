@@ -24,3 +24,9 @@ pub mod Crossing
 pub mod Sparing
 pub mod Salts
 pub mod Turning
+pub mod Made
+pub mod Staged
+pub mod ByGroups
+pub mod Together
+pub mod Posts
+pub mod Grouped

@@ -8,6 +8,7 @@ ghost use Rattle.sb_machine.specs.declared.call.How.TheVariants.{Abandon, Comple
 ghost use Rattle.sb_machine.specs.declared.reply.Answered.TheVariants.{New};
 ghost use Rattle.sb_machine.specs.declared.reply.Refusal.TheVariants.{OutOfMemory};
 ghost use Rattle.sb_machine.specs.declared.reply.Reply.TheVariants.{Done};
+ghost use Rattle.sb_node.specs.Groups.{FailTogether, FailedFollows, GroupsGoOn, NoneRuns, RunsOn, SealedFollows};
 ghost use Rattle.sb_node.specs.Laws.{RecoversConsistent};
 ghost use Rattle.sb_node.specs.Recovery.{recovered, recovers, damaged};
 ghost use Rattle.sb_node.specs.Steps.{is_spared};
@@ -18,6 +19,22 @@ ghost use Rattle.sb_node.specs.WorkedSpared.{settled, settlement};
 /// taken for a namespace that calls can't lead to.
 pub fn recovers_consistent()
     ensures { RecoversConsistent }
+{}
+
+/// What a crash leaves during a history of groups goes on with each group more: until that is answered it leads to the state before
+/// the group or to that after all of it.
+pub fn goes_on_by_groups()
+    ensures { GroupsGoOn }
+{}
+
+/// Calls that are carried out one behind another and made safe at once are a step of several calls: what a crash leaves of them
+/// leads to the state before all of them or to that behind all, also where the disk fails and each is answered so.
+pub fn runs_together()
+    ensures none { NoneRuns }
+    ensures more { RunsOn }
+    ensures fail { FailTogether }
+    ensures sealed { SealedFollows }
+    ensures failed { FailedFollows }
 {}
 
 /// A journal of one event, worked through with the definitions alone: it recovers its queue, also

@@ -21,6 +21,7 @@
 //! ```
 #![tactic(auto)]
 
+mod ahead;
 mod checkpointing;
 mod counting;
 mod growth;
@@ -31,7 +32,11 @@ mod recovering;
 mod replay;
 mod serving;
 
-pub use laws::{recovers_consistent, worked_base, worked_journal, worked_spared};
+pub use ahead::{Ahead, Post, Went};
+pub use laws::{
+    goes_on_by_groups, recovers_consistent, runs_together, worked_base, worked_journal,
+    worked_spared,
+};
 pub use looking::look;
 pub use node::Node;
 pub use sb_engine::Summary;

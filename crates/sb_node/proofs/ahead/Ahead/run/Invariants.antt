@@ -1,0 +1,32 @@
+use Rattle.std.proofs.Common.{◌≡◌, ◌++◌, List, map, take, false}
+use Rattle.std.specs.List.{All}
+use Rattle.sb_journal.specs.Disks.{AreQuiet, EachPair, NoneFell, SameHonesty}
+use Rattle.sb_journal.specs.Journals.{has_failed, journal_aside}
+use Rattle.sb_journal.specs.Opened.{FindsFile}
+use Rattle.sb_journal.specs.Text.{File}
+use Rattle.sb_machine.specs.Accounts.{changing}
+use Rattle.sb_machine.specs.Ordered.{IsActInOrder}
+use Rattle.sb_machine.specs.declared.call.Event.{Event}
+use Rattle.sb_node.specs.Ahead.{ahead_disks, ahead_journal, ahead_last, ahead_state, IsAhead}
+use Rattle.sb_node.specs.Groups.{failed, has_fault, HaveRun}
+use Rattle.sb_node.specs.Posts.{asked_of, fault_entries, group_entries}
+use Rattle.sb_node.specs.Steps.{log_of}
+use Rattle.std.specs.Prelude.{None}
+use Rattle.sb_node.proofs.ahead.Ahead.run.Given as goal
+
+abbrev pub invariant-loop-post : goal.invariant-loop-post
+invariant-loop-post g l = record {
+  run : HaveRun (ahead_state l.fn.self) (group_entries (take l.post-index l.posts)) (ahead_state l.self);
+  ahead : (file : File) (events : List Event) → IsAhead l.fn.self file events → IsAhead l.self file (events ++ changing (log_of (ahead_state l.fn.self) None) (group_entries (take l.post-index l.posts)));
+  no_fault : has_fault (group_entries (take l.post-index l.posts)) ≡ false;
+  fails : failed (group_entries (take l.post-index l.posts)) ≡ fault_entries (take l.post-index l.posts);
+  moments : (file : File) (events : List Event) → IsAhead l.fn.self file events → EachPair (ahead_disks l.fn.self) (ahead_disks l.self) (FindsFile file);
+  order : All (λ p. IsActInOrder p.call.act) l.posts;
+  asked : map asked_of l.posts ≡ map asked_of l.fn.posts;
+  last : ahead_last l.self ≡ ahead_last l.fn.self;
+  running : has_failed (ahead_journal l.self) ≡ false;
+  quiet : AreQuiet (ahead_disks l.fn.self) (ahead_disks l.self);
+  later : NoneFell (ahead_disks l.fn.self) (ahead_disks l.self);
+  honesty : SameHonesty (ahead_disks l.fn.self) (ahead_disks l.self);
+  aside : journal_aside (ahead_journal l.self) ≡ journal_aside (ahead_journal l.fn.self);
+}

@@ -1,0 +1,205 @@
+use Rattle.std.proofs.Common.{◌≡◌, ◌≤◌, List, ◌++◌, None, Err, refl, sym, ap, ◌∙◌, subst, ℕ, max, min, arith, append_assoc}
+use Rattle.sb_journal.specs.Opened.{FindsFile}
+use Rattle.sb_journal.specs.Journals.{journal_disks}
+use Rattle.sb_journal.proofs.Holding.{fault_behind}
+use Rattle.sb_engine.specs.Engines.{engine_state}
+use Rattle.sb_machine.specs.Answers.{moment_of, max_moment}
+use Rattle.sb_machine.specs.declared.call.Event.{Event}
+use Rattle.sb_node.specs.Ahead.{ahead_journal, made_events, StagesEvents}
+use Rattle.sb_node.specs.Steps.{tick_events, call_events}
+use Rattle.sb_node.proofs.Histories.{no_changing, step_changing}
+use Rattle.sb_node.proofs.Made.{none_made, nothing_made, step_made}
+use Rattle.sb_node.proofs.Merely.{merely_now, merely_calm}
+use Rattle.sb_node.proofs.Sparing.{spared_on, spared_tick}
+use Rattle.sb_node.proofs.Staged.{other_answer, other_refusal, pairs_behind, that_answer, that_refusal, unmoved_behind, unmoved_staged}
+use Rattle.sb_node.proofs.Stepping.{calm_then, stepped, tick_failed}
+use Rattle.sb_node.proofs.Whole.{fell_on, honest_on, quiet_on, same_quiet, step_consistent}
+use Rattle.sb_node.proofs.ahead.Ahead.step.Goals as goal
+
+late : (now reading least t : ℕ) {moment : ℕ} → t ≡ max least moment → moment ≡ now → least ≡ min reading max_moment → now ≤ max_moment → t ≤ max_moment
+late now reading least t is same cut early = omega (arith, is, same, cut, early)
+
+not_earlier : (now least t : ℕ) {moment : ℕ} → t ≡ max least moment → moment ≡ now → now ≤ t
+not_earlier now least t is same = omega (arith, is, same)
+
+at_moment : (now reading least t : ℕ) {moment : ℕ} → t ≡ max least moment → moment ≡ now → least ≡ min reading max_moment → t ≡ max (min reading max_moment) now
+at_moment now reading least t is same cut = omega (arith, is, same, cut)
+
+pub tick-requires-clause-counts : goal.tick-requires-clause-counts
+tick-requires-clause-counts g c =
+    let s = engine_state c.args.self.now.engine in
+    late s.now c.args.reading c.min.result c.max-t.result c.max-t.ensures c.moment.ensures c.min.ensures (merely_now s c.args.self.now.consistent)
+
+pub answer-answer-requires-clause-counts : goal.answer-answer-requires-clause-counts
+answer-answer-requires-clause-counts g c =
+    let s = engine_state c.args.self.now.engine in
+    late s.now c.args.reading c.min.result c.max-t.result c.max-t.ensures c.moment.ensures c.min.ensures (merely_now s c.args.self.now.consistent)
+
+pub answer-answer-requires-clause-calm : goal.answer-answer-requires-clause-calm
+answer-answer-requires-clause-calm g c =
+    let s = engine_state c.args.self.now.engine in
+    calm_then c.in-Ok.tick c.max-t.result s (engine_state c.tick.new.self.engine) c.in-Ok.ensures.ok (merely_calm s c.max-t.result c.args.self.now.consistent)
+
+-- ---- a step whose tick failed
+
+pub returns-then-is_disk_refusal-clause-disk_fault : goal.returns-then-is_disk_refusal-clause-disk_fault
+returns-then-is_disk_refusal-clause-disk_fault g c = c.in-Err.ensures.disk_fault (that_refusal c.in-Err.refusal (sym c.if-is_disk_refusal.ensures))
+
+pub returns-in-Err-clause-step : goal.returns-in-Err-clause-step
+returns-in-Err-clause-step g c seat =
+    let s = engine_state c.args.self.now.engine in
+    let at = at_moment s.now c.args.reading c.min.result c.max-t.result c.max-t.ensures c.moment.ensures c.min.ensures in
+    let fact = c.in-Err.ensures.err (other_refusal c.in-Err.refusal (sym c.if-is_disk_refusal.ensures)) in
+    tick_failed seat c.args.reading c.max-t.result c.args.call.now s (engine_state c.tick.new.self.engine) None c.in-Err.refusal at fact.0 fact.1.state
+
+pub returns-in-Err-clause-ahead : goal.returns-in-Err-clause-ahead
+returns-in-Err-clause-ahead g c file events ahead seat =
+    let s = engine_state c.args.self.now.engine in
+    let at = at_moment s.now c.args.reading c.min.result c.max-t.result c.max-t.ensures c.moment.ensures c.min.ensures in
+    let fact = c.in-Err.ensures.err (other_refusal c.in-Err.refusal (sym c.if-is_disk_refusal.ensures)) in
+    unmoved_staged c.args.self.now c.tick.new.self file events (made_events s None seat c.args.reading c.args.call.now (Err c.in-Err.refusal)) fact.1 c.tick.ensures.last
+    (no_changing seat c.args.reading c.max-t.result s None None c.args.call.now c.in-Err.refusal at fact.0) ahead
+
+pub returns-in-Err-clause-made : goal.returns-in-Err-clause-made
+returns-in-Err-clause-made g c seat =
+    let s = engine_state c.args.self.now.engine in
+    let at = at_moment s.now c.args.reading c.min.result c.max-t.result c.max-t.ensures c.moment.ensures c.min.ensures in
+    let fact = c.in-Err.ensures.err (other_refusal c.in-Err.refusal (sym c.if-is_disk_refusal.ensures)) in
+    none_made s (engine_state c.tick.new.self.engine) c.args.reading c.args.call.now (made_events s None seat c.args.reading c.args.call.now (Err c.in-Err.refusal))
+    (no_changing seat c.args.reading c.max-t.result s None None c.args.call.now c.in-Err.refusal at fact.0) fact.1.state
+
+pub returns-in-Err-clause-still : goal.returns-in-Err-clause-still
+returns-in-Err-clause-still g c seat none = (c.in-Err.ensures.err (other_refusal c.in-Err.refusal (sym c.if-is_disk_refusal.ensures))).1
+
+pub returns-in-Err-clause-running : goal.returns-in-Err-clause-running
+returns-in-Err-clause-running g c =
+    let fact = c.in-Err.ensures.err (other_refusal c.in-Err.refusal (sym c.if-is_disk_refusal.ensures)) in
+    ap (λ j. j.failed) fact.1.journal ∙ c.requires.running
+
+pub returns-in-Err-clause-quiet : goal.returns-in-Err-clause-quiet
+returns-in-Err-clause-quiet g c =
+    let fact = c.in-Err.ensures.err (other_refusal c.in-Err.refusal (sym c.if-is_disk_refusal.ensures)) in
+    same_quiet (ahead_journal c.args.self.now) (ahead_journal c.tick.new.self) fact.1.journal
+
+pub returns-in-Err-clause-free : goal.returns-in-Err-clause-free
+returns-in-Err-clause-free g c =
+    let s = engine_state c.args.self.now.engine in
+    let at = at_moment s.now c.args.reading c.min.result c.max-t.result c.max-t.ensures c.moment.ensures c.min.ensures in
+    spared_tick None c.max-t.result (moment_of s c.args.reading) c.args.call.now s (Err c.in-Err.refusal) refl (sym at) c.in-Err.ensures.due
+
+-- ---- a step that came to its call
+
+pub returns-then-is_disk_fault-clause-any_moment : goal.returns-then-is_disk_fault-clause-any_moment
+returns-then-is_disk_fault-clause-any_moment g c file events ahead =
+    pairs_behind (ahead_journal c.args.self.now) (ahead_journal c.tick.new.self) (ahead_journal c.answer-answer.new.self) (FindsFile file) c.tick.ensures.aside c.answer-answer.ensures.aside
+    (c.tick.ensures.any_moment file events ahead) (c.answer-answer.ensures.any_moment file (events ++ tick_events c.in-Ok.tick) (c.in-Ok.ensures.ahead file events ahead))
+
+pub returns-then-is_disk_fault-clause-disk_fault : goal.returns-then-is_disk_fault-clause-disk_fault
+returns-then-is_disk_fault-clause-disk_fault g c =
+    let fault = c.answer-answer.ensures.disk_fault (that_answer c.answer-answer.result (sym c.if-is_disk_fault.ensures)) in
+    (fault.0, fault_behind (journal_disks (ahead_journal c.args.self.now)) (journal_disks (ahead_journal c.tick.new.self)) (journal_disks (ahead_journal c.answer-answer.new.self)) _ c.in-Ok.ensures.quiet fault.1)
+
+pub returns-then-is_disk_fault-clause-later : goal.returns-then-is_disk_fault-clause-later
+returns-then-is_disk_fault-clause-later g c =
+    fell_on (journal_disks (ahead_journal c.args.self.now)) (journal_disks (ahead_journal c.tick.new.self)) (journal_disks (ahead_journal c.answer-answer.new.self)) c.tick.ensures.later c.answer-answer.ensures.later
+
+pub returns-then-is_disk_fault-clause-honesty : goal.returns-then-is_disk_fault-clause-honesty
+returns-then-is_disk_fault-clause-honesty g c =
+    honest_on (journal_disks (ahead_journal c.args.self.now)) (journal_disks (ahead_journal c.tick.new.self)) (journal_disks (ahead_journal c.answer-answer.new.self)) c.tick.ensures.honesty c.answer-answer.ensures.honesty
+
+pub returns-then-is_disk_fault-clause-aside : goal.returns-then-is_disk_fault-clause-aside
+returns-then-is_disk_fault-clause-aside g c = c.answer-answer.ensures.aside ∙ c.tick.ensures.aside
+
+pub returns-clause-any_moment : goal.returns-clause-any_moment
+returns-clause-any_moment g c file events ahead =
+    pairs_behind (ahead_journal c.args.self.now) (ahead_journal c.tick.new.self) (ahead_journal c.answer-answer.new.self) (FindsFile file) c.tick.ensures.aside c.answer-answer.ensures.aside
+    (c.tick.ensures.any_moment file events ahead) (c.answer-answer.ensures.any_moment file (events ++ tick_events c.in-Ok.tick) (c.in-Ok.ensures.ahead file events ahead))
+
+pub returns-clause-step : goal.returns-clause-step
+returns-clause-step g c seat =
+    let s = engine_state c.args.self.now.engine in
+    let s1 = engine_state c.tick.new.self.engine in
+    let t = c.max-t.result in
+    let at = at_moment s.now c.args.reading c.min.result t c.max-t.ensures c.moment.ensures c.min.ensures in
+    let calm = calm_then c.in-Ok.tick t s s1 c.in-Ok.ensures.ok (merely_calm s t c.args.self.now.consistent) in
+    let counts = late s.now c.args.reading c.min.result t c.max-t.ensures c.moment.ensures c.min.ensures (merely_now s c.args.self.now.consistent) in
+    stepped c.in-Ok.tick seat c.args.reading t c.args.call.now c.answer-answer.result s s1 (engine_state c.answer-answer.new.self.engine) None at counts c.in-Ok.ensures.ok calm
+    (c.answer-answer.ensures.answered (other_answer c.answer-answer.result (sym c.if-is_disk_fault.ensures)))
+
+pub returns-clause-ahead : goal.returns-clause-ahead
+returns-clause-ahead g c file events ahead seat =
+    let s = engine_state c.args.self.now.engine in
+    let s1 = engine_state c.tick.new.self.engine in
+    let b = c.answer-answer.new.self in
+    let tick = c.in-Ok.tick in
+    let t = c.max-t.result in
+    let call = c.args.call.now in
+    let answer = c.answer-answer.result in
+    let at = at_moment s.now c.args.reading c.min.result t c.max-t.ensures c.moment.ensures c.min.ensures in
+    let calm = calm_then tick t s s1 c.in-Ok.ensures.ok (merely_calm s t c.args.self.now.consistent) in
+    let mid = c.in-Ok.ensures.ahead file events ahead in
+    let last = c.answer-answer.ensures.ahead file (events ++ tick_events tick) mid (other_answer answer (sym c.if-is_disk_fault.ensures)) in
+    subst (λ (l : List Event). StagesEvents (ahead_journal b) b.last b.staged file l (engine_state b.engine))
+    (append_assoc events (tick_events tick) (call_events t call s1 answer) ∙ ap (λ (l : List Event). events ++ l) (sym (step_changing tick seat c.args.reading t s s1 None call answer at c.in-Ok.ensures.ok calm)))
+    last
+
+pub returns-clause-made : goal.returns-clause-made
+returns-clause-made g c seat =
+    let s = engine_state c.args.self.now.engine in
+    let s1 = engine_state c.tick.new.self.engine in
+    let t = c.max-t.result in
+    let at = at_moment s.now c.args.reading c.min.result t c.max-t.ensures c.moment.ensures c.min.ensures in
+    let calm = calm_then c.in-Ok.tick t s s1 c.in-Ok.ensures.ok (merely_calm s t c.args.self.now.consistent) in
+    step_made c.in-Ok.tick seat c.args.reading t c.args.call.now c.answer-answer.result s s1 (engine_state c.answer-answer.new.self.engine) at c.in-Ok.ensures.ok calm
+    (c.answer-answer.ensures.answered (other_answer c.answer-answer.result (sym c.if-is_disk_fault.ensures)))
+
+pub returns-clause-still : goal.returns-clause-still
+returns-clause-still g c seat none =
+    let s = engine_state c.args.self.now.engine in
+    let s1 = engine_state c.tick.new.self.engine in
+    let t = c.max-t.result in
+    let at = at_moment s.now c.args.reading c.min.result t c.max-t.ensures c.moment.ensures c.min.ensures in
+    let calm = calm_then c.in-Ok.tick t s s1 c.in-Ok.ensures.ok (merely_calm s t c.args.self.now.consistent) in
+    let parts = nothing_made c.in-Ok.tick seat c.args.reading t c.args.call.now c.answer-answer.result s s1 at c.in-Ok.ensures.ok calm none in
+    unmoved_behind c.args.self.now c.tick.new.self c.answer-answer.new.self (c.in-Ok.ensures.still parts.0) (c.answer-answer.ensures.still (other_answer c.answer-answer.result (sym c.if-is_disk_fault.ensures)) parts.1)
+
+pub returns-clause-consistent : goal.returns-clause-consistent
+returns-clause-consistent g c consistent =
+    let s = engine_state c.args.self.now.engine in
+    let counts = late s.now c.args.reading c.min.result c.max-t.result c.max-t.ensures c.moment.ensures c.min.ensures (merely_now s c.args.self.now.consistent) in
+    let later = not_earlier s.now c.min.result c.max-t.result c.max-t.ensures c.moment.ensures in
+    step_consistent c.in-Ok.tick c.max-t.result c.args.call.now s (engine_state c.tick.new.self.engine) (engine_state c.answer-answer.new.self.engine) c.answer-answer.result None c.requires.order later counts c.in-Ok.ensures.ok
+    (c.answer-answer.ensures.answered (other_answer c.answer-answer.result (sym c.if-is_disk_fault.ensures))) consistent
+
+pub returns-clause-free : goal.returns-clause-free
+returns-clause-free g c =
+    let s = engine_state c.args.self.now.engine in
+    let at = at_moment s.now c.args.reading c.min.result c.max-t.result c.max-t.ensures c.moment.ensures c.min.ensures in
+    spared_on c.in-Ok.tick c.in-Ok.tick c.max-t.result (moment_of s c.args.reading) c.args.call.now s (engine_state c.tick.new.self.engine) c.answer-answer.result refl (sym at) c.in-Ok.ensures.ok c.answer-answer.ensures.free
+
+pub returns-clause-running : goal.returns-clause-running
+returns-clause-running g c = c.answer-answer.ensures.running (other_answer c.answer-answer.result (sym c.if-is_disk_fault.ensures))
+
+pub returns-clause-quiet : goal.returns-clause-quiet
+returns-clause-quiet g c =
+    quiet_on (journal_disks (ahead_journal c.args.self.now)) (journal_disks (ahead_journal c.tick.new.self)) (journal_disks (ahead_journal c.answer-answer.new.self)) c.in-Ok.ensures.quiet
+    (c.answer-answer.ensures.quiet (other_answer c.answer-answer.result (sym c.if-is_disk_fault.ensures)))
+
+pub returns-clause-later : goal.returns-clause-later
+returns-clause-later g c =
+    fell_on (journal_disks (ahead_journal c.args.self.now)) (journal_disks (ahead_journal c.tick.new.self)) (journal_disks (ahead_journal c.answer-answer.new.self)) c.tick.ensures.later c.answer-answer.ensures.later
+
+pub returns-clause-honesty : goal.returns-clause-honesty
+returns-clause-honesty g c =
+    honest_on (journal_disks (ahead_journal c.args.self.now)) (journal_disks (ahead_journal c.tick.new.self)) (journal_disks (ahead_journal c.answer-answer.new.self)) c.tick.ensures.honesty c.answer-answer.ensures.honesty
+
+pub returns-clause-aside : goal.returns-clause-aside
+returns-clause-aside g c = c.answer-answer.ensures.aside ∙ c.tick.ensures.aside
+
+-- ---- no call was answered that the disk failed
+
+pub returns-in-Err-clause-no_fault : goal.returns-in-Err-clause-no_fault
+returns-in-Err-clause-no_fault g c = sym c.if-is_disk_refusal.ensures
+
+pub returns-clause-no_fault : goal.returns-clause-no_fault
+returns-clause-no_fault g c = sym c.if-is_disk_fault.ensures
