@@ -9,7 +9,7 @@ pub struct JournalSizes {
     pub records: u64,
     /// How many bytes its file has.
     pub bytes: u64,
-    /// How often its records were synced since the server began, two times each; a checkpoint's own syncs don't
+    /// How often its records were synced since the server began, two times a group of them; a checkpoint's own syncs don't
     /// count.
     pub syncs: u64,
 }

@@ -1,6 +1,8 @@
 -- What the objects in memory hold, which of their calls fail, and for how much they have room.
-use Rattle.std.specs.Prelude.{◌≡◌, ◌≤◌, ◌+◌, ◌-◌, ◌^◌, ℕ, List, drop, map, min, Contains, vec_len, vec_capacity}
+use Rattle.std.specs.Prelude.{◌≡◌, ◌≤◌, ◌+◌, ◌-◌, ◌^◌, ℕ, List, drop, map, min, filter, length, Bool, true, false, Contains, vec_len, vec_capacity}
 use Rattle.sb_outside.specs.declared.faults.CallFaults.{CallFaults}
+use Rattle.sb_outside.specs.declared.memory.DiskCall.{DiskCall}
+use Rattle.sb_outside.specs.declared.memory.DiskCall.TheVariants.{Sync}
 use Rattle.sb_outside.specs.declared.memory.MemDisk.{MemDisk}
 use Rattle.sb_outside.specs.declared.memory_link.MemLink.{MemLink}
 use Rattle.sb_outside.specs.declared.memory_streams.MemSink.{MemSink}
@@ -65,6 +67,15 @@ disk_room d = min (vec_capacity d.bytes - vec_len d.bytes) (vec_capacity d.writt
 -- how many calls more it keeps in its room
 abbrev pub calls_room : MemDisk → ℕ
 calls_room d = vec_capacity d.calls - vec_len d.calls
+
+-- whether a call is a sync
+abbrev pub is_sync : DiskCall → Bool
+is_sync Sync = true
+is_sync _ = false
+
+-- how many syncs it made
+abbrev pub syncs_of : MemDisk → ℕ
+syncs_of d = length (filter is_sync d.calls.items)
 
 -- what is read and what a crash may leave stay
 pub record HoldsSame (before after : MemDisk) : Type 0 where

@@ -63,7 +63,7 @@ pub(crate) fn overwrite(bytes: &mut Vec<u8>, place: usize, new: &[u8]) -> Result
 }
 
 impl MemDisk {
-    ghost use Rattle.sb_outside.specs.Memory.{disk_held, disk_calls, disk_room, calls_room, UsesRoom};
+    ghost use Rattle.sb_outside.specs.Memory.{disk_held, disk_calls, disk_room, calls_room, syncs_of, UsesRoom};
 
     /// A disk with these bytes at rest, which fails at these calls, and has no room of its own.
     ///
@@ -132,6 +132,16 @@ impl MemDisk {
             at += read_past(call, &self.written[at..], &mut seen)?;
         }
         Ok(image)
+    }
+
+    /// How many syncs were made; one that failed doesn't count.
+    pub fn syncs(&self) -> usize
+        ensures { result ≡ syncs_of self.now }
+    {
+        self.calls
+            .iter()
+            .filter(|call: &&DiskCall| matches!(call, DiskCall::Sync))
+            .count()
     }
 
     // Writes in full, or leaves all as it was where memory is short.

@@ -104,7 +104,7 @@ spent_text n = spent_about ++ flat_map bucket_of n.spent.items ++ last_bucket n.
 
 -- how often its records were synced
 unfoldable pub syncs_text : ℕ → List ℕ
-syncs_text n = lone_text (codes "zolmutarn_syncs_total") (codes "counter") (codes "Syncs of the journal's records since the server began, two for each record.") n
+syncs_text n = lone_text (codes "zolmutarn_syncs_total") (codes "counter") (codes "Syncs of the journal's records since the server began, two for every group.") n
 
 -- how many records it has had
 unfoldable pub records_text : ℕ → List ℕ

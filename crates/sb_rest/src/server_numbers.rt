@@ -258,7 +258,7 @@ fn push_syncs_text(alloc: Global, out: &mut String, n: u64) -> Result<(), AllocE
         out,
         "zolmutarn_syncs_total",
         "counter",
-        "Syncs of the journal's records since the server began, two for each record.",
+        "Syncs of the journal's records since the server began, two for every group.",
         n,
     )
 }
