@@ -2,6 +2,7 @@
 import argparse
 import contextlib
 import os
+import statistics
 import subprocess
 import sys
 import tempfile
@@ -68,6 +69,18 @@ def disk_rate(folder, records=2000):
             probe.write(b"y")
             os.fsync(probe.fileno())
         return records / (time.monotonic() - begun)
+
+
+def sync_time(folder, appends=201):
+    """The seconds of an append of 1 KiB and one sync, the median of some."""
+    took = []
+    with tempfile.TemporaryFile(dir=folder, buffering=0) as probe:
+        for _ in range(appends):
+            begun = time.monotonic()
+            probe.write(b"x" * 1024)
+            os.fdatasync(probe.fileno())
+            took.append(time.monotonic() - begun)
+    return statistics.median(took)
 
 
 @contextlib.contextmanager

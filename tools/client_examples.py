@@ -184,7 +184,7 @@ def is_histogram(numbers):
 
 
 def counted(caller, call, answer, is_record):
-    """A call adds one to its count, and the look at the numbers one to that of lists; a record is two syncs."""
+    """A call adds one to its count, and the look at the numbers one to that of lists; its record takes two syncs."""
     before = numbers_of(caller)
     reply = caller.line(call)
     lib.wants(("refused" in reply) == (answer == "refused"), f"{call} was answered {reply}")

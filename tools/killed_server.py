@@ -1,14 +1,14 @@
 #!/usr/bin/env python3
 """Kills a server under load, starts it again, and looks for what was lost or doubled.
 
-usage: tools/killed_server.py PROGRAM [ROUNDS [WORD ..]]
+usage: tools/killed_server.py PROGRAM [--callers N] [ROUNDS [WORD ..]]
 
-PROGRAM is the built program (crates/sb_bus/out/sb_bus). Four callers number their sends and write down
-each that was acknowledged. In each round the server is killed with SIGKILL while they send; after the next
-start each caller repeats its last number, as it can't know whether that acted. At the end all messages are
-taken out of the queue: each acknowledged one must be there, and none twice. The exit status is 1 otherwise.
-The server gets the words behind ROUNDS, too; without any it makes a checkpoint after each 100,000 bytes of
-records, so that it is killed in the midst of some.
+PROGRAM is the built program (crates/sb_bus/out/sb_bus). Four callers, or --callers N, each over a connection of its
+own, number their sends and write down each that was acknowledged. In each of ROUNDS (8) the server is killed with
+SIGKILL while they send; after the next start each caller repeats its last number, as it can't know whether that acted.
+At the end all messages are taken out of the queue: each acknowledged one must be there, and none twice. The exit
+status is 1 otherwise. The server gets the words behind ROUNDS, too; without any it makes a checkpoint after each
+100,000 bytes of records, so that it is killed in the midst of some.
 """
 import json
 import os
@@ -21,7 +21,6 @@ import time
 import lib
 
 CALLERS = 4
-WORKERS = ("--workers", str(CALLERS + 1))
 
 
 def send(name, port, number, log):
@@ -53,13 +52,13 @@ def acknowledged(path):
     return [int(line) for line in lines]
 
 
-def killed(program, rounds, more, folder):
+def killed(program, callers, rounds, more, folder):
     data = os.path.join(folder, "data")
     os.mkdir(data)
-    names = [f"caller-{i}" for i in range(CALLERS)]
+    names = [f"caller-{i}" for i in range(callers)]
     logs = [os.path.join(folder, name) for name in names]
-    port = lib.free_port()
-    server = lib.start(program, data, port, *WORKERS, *more)
+    port, more = lib.free_port(), ["--workers", str(callers + 1), *more]
+    server = lib.start(program, data, port, *more)
     with lib.Caller(port) as caller:
         caller.line({"do": "create-queue", "name": "q"})
     for _ in range(rounds):
@@ -76,24 +75,28 @@ def killed(program, rounds, more, folder):
         if any(os.waitpid(child, 0)[1] for child in children):
             for path in logs:
                 acknowledged(path)
-        server = lib.start(program, data, port, *WORKERS, *more)
+        server = lib.start(program, data, port, *more)
     bodies = lib.taken(port, "q")
     lib.stop(server)
-    wrong = len(bodies) - len(set(bodies))
+    there = set(bodies)
+    wrong = len(bodies) - len(there)
     print(f"{len(bodies)} messages, {wrong} of them doubled")
     for name, path in zip(names, logs):
         numbers = acknowledged(path)
-        lost = [number for number in numbers if f"{name} {number}" not in bodies]
+        lost = [number for number in numbers if f"{name} {number}" not in there]
         print(f"{name}: {len(numbers)} acknowledged, {len(lost)} lost")
         wrong += len(lost)
     lib.wants(not wrong, f"{wrong} messages were lost or doubled")
 
 
 def main():
-    program, words = lib.given_words(__doc__, most=9)
+    program, words = lib.given_words(__doc__, most=11)
+    callers = CALLERS
+    if words[:1] == ["--callers"]:
+        callers, words = int(words[1]), words[2:]
     rounds, more = int(words[0]) if words else 8, words[1:] or ["--checkpoint-after", "100000"]
     with tempfile.TemporaryDirectory() as folder:
-        lib.tell(lambda: killed(program, rounds, more, folder))
+        lib.tell(lambda: killed(program, callers, rounds, more, folder))
 
 
 if __name__ == "__main__":

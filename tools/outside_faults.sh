@@ -97,7 +97,7 @@ opens folder_as_input
 expect "a full output for the usage line" $? 2
 
 # The calls that a run over this script makes, one letter each: r a reply, w a write to a file, s a sync. The first record
-# is followed by zeros, which the next ones are written over.
+# is followed by zeros, which the next ones are written over. What comes due before a call is made safe with it.
 calls_of() {
     strace -e trace=write,pwrite64,fsync,fdatasync -o trace ./bus run --data synced <"$1" >/dev/null || return 1
     sed -n -e 's/^write(1,.*/r/p' -e 's/^write(2,.*//p' -e 's/^p\{0,1\}write.*/w/p' -e 's/^f.*sync(.*/s/p' trace | tr -d '\n'
@@ -109,8 +109,10 @@ if strace -o /dev/null true 2>/dev/null; then
     send='{"do":"send","to":"q","messages":[{"body":"a"}]}'
     printf '%s\n' "$send" "$send" "$send" >sends.script
     echo '{"do":"peek","from":"q","start":1,"count":1}' >peek.script
+    echo '{"do":"send","to":"q","messages":[{"body":"a","ttl":1}]}' >expiring.script
+    echo "{\"at\":2000,${send#\{}" >expired.script
     opening=$(calls_of /dev/null)
-    for row in create:wwswsr sends:wwswsrwswsrwswsr peek:r; do
+    for row in create:wwswsr sends:wwswsrwswsrwswsr peek:r expiring:wwswsr expired:wwswsr; do
         found=$(calls_of "${row%%:*}.script")
         if [ "$found" = "$opening${row#*:}" ]; then
             echo "ok: calls of ${row%%:*}: $found"

@@ -37,11 +37,11 @@ use Rattle.sb_app.specs.declared.jump.Jump.{Jump}
 use Rattle.sb_input.specs.Taking.{Took, IsLong, AreFirst as AreFirstTaken, IsAhead as IsReadAhead}
 use Rattle.sb_app.specs.Taking.{IsAhead, IsTaken, end_of_reading}
 use Rattle.sb_input.specs.Readers.{pending_of, IsAt, ReadsLine}
-use Rattle.sb_app.specs.Runs.{kind_of, states_of, replies_to, RunsSoFar, FollowLines}
+use Rattle.sb_app.specs.Runs.{kind_of, states_left, replies_to, RunsSoFar, FollowLines}
 use Rattle.sb_app.specs.Endings.{IsWritten, IsLineWritten, IsReplyCut, IsUndecided, IsAnswer, IsCause, IsBetween, IsCutAt, AreFirst, IsCutRun, entries_by}
 use Rattle.sb_input.proofs.Splits.{took-none}
 use Rattle.sb_input.proofs.Readings.{pending_fits, line_ahead}
-use Rattle.sb_app.proofs.Follows.{followed_more, followed_says}
+use Rattle.sb_app.proofs.Follows.{followed_between, followed_last}
 use Rattle.sb_input.proofs.Advances.{advances, first_lines as are_first}
 use Rattle.sb_app.proofs.Advances.{said_push, within_push}
 
@@ -218,7 +218,7 @@ cut_between clock days Safe s state was now left r refused end so_far moments wi
   written = subst (Gains was.output.given now.output.given) (sym (append-nil (replies_to s (script_lines so_far.done)))) so_far.written;
   leads = so_far.leads;
   undecided = λ safe failed. tt;
-  moments = λ safe. followed_says s _ _ was.disks now.disks (sym (append-nil (script_lines so_far.done))) (moments safe);
+  moments = λ safe. followed_between s (script_lines so_far.done) was.disks now.disks (moments safe);
 }
 
 -- before any line
@@ -236,7 +236,7 @@ cut_at_once clock days Safe s was = record {
   written = gains-none was.output.given;
   leads = refl;
   undecided = λ safe failed. tt;
-  moments = λ safe. refl;
+  moments = λ safe. followed_between s [] was.disks was.disks refl;
 }
   where
     no_lines : (left : Option (List ℕ)) → AreFirst left []
@@ -261,8 +261,8 @@ no_jump form TimeJump answer part before now P cause e = absurd cause
 
 -- at one line more
 pub cut_at_line : (clock : ℕ → Type 0) (days : ℕ) (Safe : Type 0) (s state after : State) (was on now : Outside) (r next : Reader) (refused : Bool) (end : RunEnd) (partial : PartialLine) (x : ScriptLine) (so_far : RunsSoFar s was.input.left on.input.left was.output.given on.output.given r state refused)
-    → (reads : ReadsLine was.input.left so_far.input (pending_of r) now.input.left next partial) → x ≡ script_line reads.line → IsCutAt state x on.output now.output after end → on.output.faults ≡ was.output.faults → (Safe → end ≡ DiskFault → IsOneOf now.disks (states_of state x))
-    → (Safe → FollowLines s (script_lines so_far.done) was.disks on.disks) → (Safe → StayOneOf on.disks now.disks (states_of state x)) → AllWithin clock days (script_lines so_far.done) → IsWithin clock days x → IsCutRun clock days Safe s was now after end
+    → (reads : ReadsLine was.input.left so_far.input (pending_of r) now.input.left next partial) → x ≡ script_line reads.line → IsCutAt state x on.output now.output after end → on.output.faults ≡ was.output.faults → (Safe → end ≡ DiskFault → IsOneOf now.disks (states_left state x))
+    → (Safe → FollowLines s (script_lines so_far.done) was.disks on.disks) → (Safe → StayOneOf on.disks now.disks (states_left state x)) → AllWithin clock days (script_lines so_far.done) → IsWithin clock days x → IsCutRun clock days Safe s was now after end
 cut_at_line clock days Safe s state after was on now r next refused end partial x so_far reads says cut same undecided moments more within is =
     let adv = advances so_far.input so_far.done (pending_of r) reads.more reads.line next so_far.split so_far.whole reads.no_feed reads.next in
     let all : script_lines adv.next ≡ script_lines so_far.done ++ x ∷ [] = said_push so_far.done adv.next reads.line adv.says ∙ ap (λ y. script_lines so_far.done ++ y ∷ []) (sym says) in
@@ -285,7 +285,7 @@ cut_at_line clock days Safe s state after was on now r next refused end partial 
       written = gains-gains was.output.given on.output.given now.output.given (replies_to s (script_lines so_far.done)) cut.part so_far.written cut.written;
       leads = cut.leads ∙ ap (λ (y : State). state_after y (entries_by x cut.tick cut.answer)) so_far.leads;
       undecided = λ safe failed. subst (λ (y : State). IsUndecided now.disks y (Some (record { line = x; tick = cut.tick; answer = cut.answer }))) so_far.leads (undecided safe failed);
-      moments = λ safe. followed_more s state (script_lines so_far.done) x was.disks on.disks now.disks so_far.leads (moments safe) (more safe);
+      moments = λ safe. followed_last s state (script_lines so_far.done) x was.disks on.disks now.disks so_far.leads (moments safe) (more safe);
     }
 
 -- before a line that is too far ahead of the clock
@@ -318,7 +318,7 @@ cut_before clock days Safe s state was on now r next refused partial x jump so_f
       written = gains-gains was.output.given on.output.given now.output.given (replies_to s (script_lines so_far.done)) told.part so_far.written told.written;
       leads = so_far.leads;
       undecided = λ safe failed. tt;
-      moments = λ safe. followed_says s _ _ was.disks now.disks none (moments safe);
+      moments = λ safe. followed_between s (script_lines so_far.done) was.disks now.disks (moments safe);
     }
 
 pub reading_between : (e : ReadEnd) (before now : ℕ) → now ≡ before → IsBetween (end_of_reading e) [] before now

@@ -16,7 +16,7 @@ use Rattle.sb_app.specs.declared.script_line.ScriptLine.{ScriptLine}
 use Rattle.sb_app.specs.declared.script_line.ScriptLine.TheVariants.{Blank, Malformed, Request}
 use Rattle.sb_app.specs.declared.ending.RunEnd.{RunEnd}
 use Rattle.sb_app.specs.declared.ending.RunEnd.TheVariants.{DiskFault}
-use Rattle.sb_app.specs.Runs.{state_after_all, history_of}
+use Rattle.sb_app.specs.Runs.{state_after_all, history_of, FollowTo}
 use Rattle.sb_app.specs.Endings.{LastLine, IsUndecided, IsAnswer, EndsAt, IsCutRun, entries_by, entries_of_last, line_of_last, history_to}
 use Rattle.sb_app.specs.Tops.{IsEarlyRun}
 use Rattle.sb_app.specs.Openings.{IsOpened}
@@ -82,5 +82,5 @@ early_run clock days Safe salt was now ready start state end opening run kept du
       spares = spares_to start run.lines run.last run.part was.output.faults now.output.faults end opening.consistent run.ends;
       backed = λ honest sound. record { recovers = subst (Recovers (recovered_on now.disks salt)) leads (kept honest sound); durable = subst (IsDurable now.disks) leads (durable honest sound) };
       undecided = λ honest failed. subst (λ (y : State). IsUndecided now.disks y run.last) (led_to start run.lines) (run.undecided (opening.safe honest) failed);
-      moments = moments_of Safe salt start (run.lines ++ line_of_last run.last) was.disks ready now.disks opening run.moments;
+      moments = moments_of Safe salt start (FollowTo start run.lines (line_of_last run.last)) was.disks ready now.disks opening run.moments;
     }

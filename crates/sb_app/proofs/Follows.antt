@@ -4,7 +4,7 @@ use Rattle.sb_machine.specs.declared.state.State.{State}
 use Rattle.sb_app.specs.declared.script_line.ScriptLine.{ScriptLine}
 use Rattle.sb_journal.specs.Disks.{Disks}
 use Rattle.sb_node.specs.Nodes.{StayOneOf}
-use Rattle.sb_app.specs.Runs.{state_by, states_of, state_after_all, FollowLines}
+use Rattle.sb_app.specs.Runs.{state_by, states_left, states_of, state_after_all, FollowLines, FollowTo}
 
 -- one line more
 follow_more : (s : State) (ls : List ScriptLine) (x : ScriptLine) (was later last : Disks) → FollowLines s ls was later → StayOneOf later last (states_of (state_after_all s ls) x) → FollowLines s (ls ++ x ∷ []) was last
@@ -16,3 +16,10 @@ followed_more s now ls x was later last leads so_far more = follow_more s ls x w
 
 pub followed_says : (s : State) (ls ks : List ScriptLine) (was later : Disks) → ls ≡ ks → FollowLines s ls was later → FollowLines s ks was later
 followed_says s ls ks was later same = subst (λ (k : List ScriptLine). FollowLines s k was later) same
+
+-- ended between two lines, or at one
+pub followed_between : (s : State) (ls : List ScriptLine) (was later : Disks) → FollowLines s ls was later → FollowTo s ls [] was later
+followed_between s ls was later so_far = (later, so_far, refl)
+
+pub followed_last : (s now : State) (ls : List ScriptLine) (x : ScriptLine) (was later last : Disks) → now ≡ state_after_all s ls → FollowLines s ls was later → StayOneOf later last (states_left now x) → FollowTo s ls (x ∷ []) was last
+followed_last s now ls x was later last leads so_far more = (later, so_far, subst (λ (y : State). StayOneOf later last (states_left y x)) leads more)

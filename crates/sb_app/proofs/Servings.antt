@@ -14,7 +14,8 @@ use Rattle.sb_journal.specs.declared.found.OpenWhy.{OpenWhy}
 use Rattle.sb_node.specs.declared.node.Node.{Node}
 use Rattle.sb_node.specs.Nodes.{node_disks, node_state, node_stopped, IsDurable}
 use Rattle.sb_node.specs.Recovery.{Recovers, recovered_on}
-use Rattle.sb_node.specs.Serving.{node_goes_on, opened_disks, origin_of, FollowHistory, HasDiskRisen, IsLeft, StandsFor}
+use Rattle.sb_node.specs.Groups.{FollowByGroups}
+use Rattle.sb_node.specs.Serving.{node_goes_on, opened_disks, origin_of, HasDiskRisen, IsLeft, StandsFor}
 use Rattle.sb_node.specs.Steps.{is_spared}
 use Rattle.sb_node.proofs.Whole.{honest_on, quiet_on}
 use Rattle.sb_desk.specs.Desks.{IsKeptIn, IsNew, IsOf, Open, Sitting, below}
@@ -369,7 +370,7 @@ pub record IsClosed (goes_on : Bool) (salt : ℕ) (start : State) (h : List Entr
   pub cause : stopped ≡ true → HasDiskRisen ready now
   pub quiet : stopped ≡ false → AreQuiet ready now
   pub honesty : SameHonesty ready now
-  pub follows : AreHonest now → FollowHistory goes_on start h ready now
+  pub follows : AreHonest now → FollowByGroups goes_on start h ready now
   pub recovers : AreHonest now → stopped ≡ false → Recovers (recovered_on now salt) (state_after start h)
   pub durable : AreHonest now → stopped ≡ false → IsDurable now (state_after start h)
   pub left : AreHonest now → IsLeft now start h

@@ -93,8 +93,8 @@ kept_durable node kept = kept_leads (node_journal node) (node_last node) (node_s
 abbrev pub opened : Outside → Disks → Outside
 opened was ready = record was { disks = ready }
 
-pub moments_of : (Safe : Type 0) (salt : ℕ) (start : State) (lines : List ScriptLine) (was ready now : Disks) → IsOpened Safe salt was ready start → (Safe → FollowLines start lines ready now) → AreHonest was → HasMoments salt start lines was now
-moments_of Safe salt start lines was ready now opening follows honest = record {
+pub moments_of : (Safe : Type 0) (salt : ℕ) (start : State) (Follows : (was now : Disks) → Type 0) (was ready now : Disks) → IsOpened Safe salt was ready start → (Safe → Follows ready now) → AreHonest was → HasMoments salt start Follows was now
+moments_of Safe salt start Follows was ready now opening follows honest = record {
   ready = ready;
   opens = opening.opens honest;
   holds = opening.holds honest;
@@ -118,7 +118,7 @@ whole_run clock days Safe salt was now ready start state refused status opening 
       faultless = legal.1;
       backed = λ honest. record { recovers = subst (Recovers (recovered_on now.disks salt)) leads (kept honest); durable = subst (IsDurable now.disks) leads (durable honest) };
       says = is ∙ ap status_by run.says;
-      moments = moments_of Safe salt start (script_lines run.input) was.disks ready now.disks opening run.moments;
+      moments = moments_of Safe salt start (FollowLines start (script_lines run.input)) was.disks ready now.disks opening run.moments;
     }
 
 -- of two that count it is one

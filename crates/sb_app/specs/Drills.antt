@@ -18,7 +18,8 @@ use Rattle.sb_desk.specs.Entries.{is_refused}
 use Rattle.sb_desk.specs.Spared.{Spares}
 use Rattle.sb_node.specs.declared.node.Node.{Node}
 use Rattle.sb_node.specs.Nodes.{IsDurable, node_disks, node_state, node_stopped}
-use Rattle.sb_node.specs.Serving.{opened_disks, FollowHistory, IsLeft, StandsFor}
+use Rattle.sb_node.specs.Groups.{FollowByGroups}
+use Rattle.sb_node.specs.Serving.{opened_disks, IsLeft, StandsFor}
 use Rattle.sb_node.specs.Steps.{entries_with, is_spared}
 use Rattle.sb_drill.specs.Calls.{call_at}
 use Rattle.sb_drill.specs.Memories.{heard, no_memory}
@@ -139,7 +140,7 @@ pub record IsDrilled (count seed salt : ℕ) (was now : Outside) (status : ℕ) 
   pub opens : AreHonest was.disks → KeepFound salt was.disks ready
   pub holds : AreHonest was.disks → IsDurable ready start
   -- a crash at any moment since leads to the state after a front of the history, which has all that was answered by then
-  pub follows : AreHonest was.disks → FollowHistory false start (drill_history_to seed start answered last) ready now.disks
+  pub follows : AreHonest was.disks → FollowByGroups false start (drill_history_to seed start answered last) ready now.disks
   -- unless a disk failed, the disks stand for the state behind the history, also after a crash
   pub backed : AreHonest was.disks → status ≢ 5 → IsBacked salt now.disks (state_after start (drill_history_to seed start answered last))
   -- whatever the status

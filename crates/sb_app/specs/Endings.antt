@@ -21,7 +21,7 @@ use Rattle.sb_node.specs.Nodes.{IsOneOf}
 use Rattle.sb_node.specs.Steps.{entries_with, is_spared}
 use Rattle.sb_desk.specs.Spared.{Spares}
 use Rattle.sb_app.specs.Outside.{Output, Outside}
-use Rattle.sb_app.specs.Runs.{replies_to, state_after_all, states_of, history_of, FollowLines}
+use Rattle.sb_app.specs.Runs.{replies_to, state_after_all, states_left, history_of, FollowTo}
 use Rattle.sb_app.specs.Jumps.{is_far_ahead, jump_line, AllWithin}
 use Rattle.sb_app.specs.Lines.{form_of, script_lines}
 use Rattle.sb_input.specs.Taking.{IsLong}
@@ -139,7 +139,7 @@ pub record IsTimeJump (reads : ℕ → Type 0) (days : ℕ) (left : Option (List
 -- whatever a crash leaves leads to this state, to that with the tick of this line, or to the one after what it asks
 abbrev pub IsUndecided : Disks → State → Option LastLine → Type 0
 IsUndecided disks s None = Unit {0}
-IsUndecided disks s (Some last) = IsOneOf disks (states_of s last.line)
+IsUndecided disks s (Some last) = IsOneOf disks (states_left s last.line)
 
 -- Of the first lines each was answered by the machine and its reply written; then the run ended, at one more line or at none. The
 -- disks are spoken of where they were safe at the start.
@@ -156,7 +156,7 @@ pub record IsCutRun (reads : ℕ → Type 0) (days : ℕ) (Safe : Type 0) (s : S
   pub written : Gains was.output.given now.output.given (replies_to s lines ++ part)
   pub leads : after ≡ state_after (state_after_all s lines) (entries_of_last last)
   pub undecided : Safe → end ≡ DiskFault → IsUndecided now.disks (state_after_all s lines) last
-  pub moments : Safe → FollowLines s (lines ++ line_of_last last) was.disks now.disks
+  pub moments : Safe → FollowTo s lines (line_of_last last) was.disks now.disks
 
 -- the history of such a run
 abbrev pub history_to : State → List ScriptLine → Option LastLine → List Entry

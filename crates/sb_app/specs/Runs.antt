@@ -2,6 +2,7 @@
 use Rattle.std.specs.Prelude.{◌≡◌, ℕ, List, [], ◌∷◌, ◌++◌, Bool, true, false, ◌||◌, if◌then◌else◌, is_err, Option, Result, Ok, Err}
 use Rattle.sb_machine.specs.Answers.{answer_of, moment_of}
 use Rattle.sb_machine.specs.Due.{is_due}
+use Rattle.sb_machine.specs.Events.{replayed, tick_at}
 use Rattle.sb_machine.specs.History.{advanced, is_spent, entries_at, entries_of, state_after}
 use Rattle.sb_machine.specs.declared.call.Call.{Call}
 use Rattle.sb_machine.specs.declared.call.TimedCall.{TimedCall}
@@ -23,7 +24,6 @@ use Rattle.sb_app.specs.Lines.{script_lines}
 use Rattle.sb_app.specs.Jumps.{AllWithin}
 use Rattle.sb_journal.specs.Disks.{Disks}
 use Rattle.sb_node.specs.Nodes.{StayOneOf}
-use Rattle.sb_node.specs.Steps.{time_to}
 use Rattle.sb_app.specs.Outside.{Output, Outside}
 use Rattle.sb_input.specs.Readers.{pending_of, IsAt}
 use Rattle.sb_input.specs.Taking.{Took, HasEnded}
@@ -63,12 +63,17 @@ refuses_it s Blank = false
 refuses_it s (Malformed key) = true
 refuses_it s (Request a form) = is_err (answer_at s a.reading a.call)
 
--- the states to which a crash may lead while a line is answered: the one before it, that with the tick which is due first, and the one
--- after it
+-- the states to which a crash may lead while a line is answered: the one before it and the one after it
 abbrev pub states_of : State → ScriptLine → List State
 states_of s Blank = s ∷ []
 states_of s (Malformed key) = s ∷ []
-states_of s (Request a form) = s ∷ time_to (moment_of s a.reading) s ∷ state_by s (Request a form) ∷ []
+states_of s (Request a form) = s ∷ state_by s (Request a form) ∷ []
+
+-- where the run ends at the line also that with the tick which is due first, since a disk may fail or memory be wanting behind it
+abbrev pub states_left : State → ScriptLine → List State
+states_left s Blank = s ∷ []
+states_left s (Malformed key) = s ∷ []
+states_left s (Request a form) = s ∷ replayed s (tick_at s (moment_of s a.reading)) ∷ state_by s (Request a form) ∷ []
 
 -- the line was answered: its reply was written, and the state is the one after it
 pub record IsAnswered (s : State) (line : ScriptLine) (was now : Output) (after : State) (refused : Bool) : Type 0 where
@@ -104,11 +109,20 @@ calls_in (Request a form ∷ ls) = a ∷ calls_in ls
 abbrev pub history_of : State → List ScriptLine → List Entry
 history_of s lines = entries_of 0 s (calls_in lines)
 
--- The moments of a run over these lines, cut at the lines: until a line was answered a crash at any moment leads to the state before it,
--- to that with its tick or to the one after it. So what was answered stays, and no moment leads further back than one before it.
+-- The moments of a run over these lines, cut at the lines: until a line was answered a crash at any moment leads to the state before it
+-- or to the one after it. So what was answered stays, and no moment leads further back than one before it.
 abbrev pub FollowLines : State → List ScriptLine → (was now : Disks) → Type 0
 FollowLines s [] was now = now ≡ was
 FollowLines s (l ∷ ls) was now = (answered : Disks) × StayOneOf was answered (states_of s l) × FollowLines (state_by s l) ls answered now
+
+-- those of a run that ended at the first of these lines, or where there is none between two lines
+abbrev pub FollowLast : State → List ScriptLine → (was now : Disks) → Type 0
+FollowLast s [] was now = now ≡ was
+FollowLast s (l ∷ ls) was now = StayOneOf was now (states_left s l)
+
+-- behind the lines that were answered before
+abbrev pub FollowTo : State → (lines last : List ScriptLine) → (was now : Disks) → Type 0
+FollowTo s lines last was now = (answered : Disks) × FollowLines s lines was answered × FollowLast (state_after_all s lines) last answered now
 
 -- ---- a run that took all its input
 

@@ -10,7 +10,8 @@ use Rattle.sb_machine.specs.declared.state.State.{State}
 use Rattle.sb_journal.specs.Disks.{Disks, AreHonest, KeepFound, AreQuiet, SameHonesty}
 use Rattle.sb_node.specs.Nodes.{IsDurable}
 use Rattle.sb_node.specs.Recovery.{recovered_on}
-use Rattle.sb_node.specs.Serving.{origin_of, FollowHistory, HasDiskRisen, IsLeft}
+use Rattle.sb_node.specs.Groups.{FollowByGroups}
+use Rattle.sb_node.specs.Serving.{origin_of, HasDiskRisen, IsLeft}
 use Rattle.sb_node.specs.Steps.{is_spared}
 use Rattle.sb_desk.specs.Desks.{IsKeptIn, IsNew, Open, Sitting, below}
 use Rattle.sb_desk.specs.Entries.{IsReport}
@@ -122,7 +123,7 @@ pub record IsServed {R : Type 0} (reads : ℕ → Type 0) (days : ℕ) (goes_on 
   pub as_honest : SameHonesty was.disks ready
   -- a crash at any moment since leads to the state after a front of the history, which has all that was answered by then; in a checkpoint
   -- to just the state that is written
-  pub follows : AreHonest was.disks → FollowHistory goes_on start history ready now.disks
+  pub follows : AreHonest was.disks → FollowByGroups goes_on start history ready now.disks
   -- unless a disk failed, the disks stand for the state behind the history, also after a crash
   pub backed : AreHonest was.disks → status ≢ 5 → IsBacked salt now.disks (state_after start history)
   -- whatever the status

@@ -25,7 +25,7 @@ use Rattle.sb_app.specs.Lines.{script_lines}
 use Rattle.sb_app.specs.Jumps.{AllWithin}
 use Rattle.sb_input.specs.Taking.{Took, HasEnded, IsLong}
 use Rattle.sb_app.specs.Taking.{IsTaken}
-use Rattle.sb_app.specs.Runs.{FollowLines, replies_to, history_of, any_refused, status_by, state_after_all}
+use Rattle.sb_app.specs.Runs.{FollowLines, FollowTo, replies_to, history_of, any_refused, status_by, state_after_all}
 use Rattle.sb_app.specs.Backing.{IsBacked, IsChronicle, IsFound}
 use Rattle.sb_app.specs.Checks.{IsChecked}
 use Rattle.sb_app.specs.Drills.{IsDrilled}
@@ -34,12 +34,12 @@ use Rattle.sb_app.specs.Endings.{IsLineWritten, IsUndecided, LastLine, line_of_l
 -- ---- a run that took all its input, or ended before
 
 -- The moments of the disks in a whole call: those of the opening, which leave what was found; what stood there when it was ready, which
--- leads to this state; and those of the lines.
-pub record HasMoments (salt : ℕ) (start : State) (lines : List ScriptLine) (was now : Disks) : Type 0 where
+-- leads to this state; and those of the lines, as `Follows` says.
+pub record HasMoments (salt : ℕ) (start : State) (Follows : (was now : Disks) → Type 0) (was now : Disks) : Type 0 where
   pub ready : Disks
   pub opens : KeepFound salt was ready
   pub holds : IsDurable ready start
-  pub follows : FollowLines start lines ready now
+  pub follows : Follows ready now
 
 -- A run that took all its input: from the state that the disks stood for, a consistent one, each line was answered by the machine, in
 -- order and no other, as none was too far ahead of the clock; the history of its calls is legal, and its last state is what the disks stand for, also after a crash.
@@ -56,7 +56,7 @@ pub record IsWholeRun (reads : ℕ → Type 0) (days salt : ℕ) (was now : Outs
   pub backed : AreHonest was.disks → IsBacked salt now.disks (state_after start (history_of start (script_lines input)))
   pub says : status ≡ status_by (any_refused start (script_lines input))
   -- a crash at any moment of the run leads to the state after its first lines, and to no earlier one than at the moment before
-  pub moments : AreHonest was.disks → HasMoments salt start (script_lines input) was.disks now.disks
+  pub moments : AreHonest was.disks → HasMoments salt start (FollowLines start (script_lines input)) was.disks now.disks
 
 -- A run that ended before its input did, by 14 before a line that is too far ahead of the clock: from the state that the disks stood for, a consistent one, the first lines of the input were
 -- answered, in order; the history of its calls is legal, memory was wanting for none that is spared, and unless a disk failed its last state is what the disks stand for, also
@@ -79,7 +79,7 @@ pub record IsEarlyRun (reads : ℕ → Type 0) (days salt : ℕ) (was now : Outs
   pub backed : AreHonest was.disks → end ≢ DiskFault → IsBacked salt now.disks (state_after start (history_to start lines last))
   -- the call that was answered by a failed disk is there or not
   pub undecided : AreHonest was.disks → end ≡ DiskFault → IsUndecided now.disks (state_after start (history_of start lines)) last
-  pub moments : AreHonest was.disks → HasMoments salt start (lines ++ line_of_last last) was.disks now.disks
+  pub moments : AreHonest was.disks → HasMoments salt start (FollowTo start lines (line_of_last last)) was.disks now.disks
 
 -- The journal wasn't opened: nothing was read of the input and nothing written.
 pub record IsUnopened (salt : ℕ) (was now : Outside) (end : RunEnd) : Type 0 where

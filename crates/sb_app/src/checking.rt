@@ -1,7 +1,7 @@
 // Telling the numbers of a namespace.
-ghost use Rattle.std.specs.Prelude.{◌≡◌, IfOk, string_bytes};
+ghost use Rattle.std.specs.Prelude.{◌≡◌, None, IfOk, string_bytes};
 ghost use Rattle.sb_engine.specs.Engines.{summary_of};
-ghost use Rattle.sb_node.specs.Nodes.{node_state, node_last};
+ghost use Rattle.sb_node.specs.Nodes.{node_state, node_last, node_stopped};
 ghost use Rattle.sb_app.specs.Outside.{output_of};
 ghost use Rattle.sb_app.specs.Checks.{IsLineTold};
 ghost use Rattle.sb_app.specs.Checks as checks;
@@ -10,10 +10,10 @@ use sb_node::{Node, Summary};
 use sb_outside::{Disk, Sink, write_all};
 use std::alloc::{AllocError, Global};
 
-/// Writes the line of a namespace's numbers. The status is 0, 4 where the output failed, or 7 for want
+/// Writes the line of the numbers of a namespace that runs. The status is 0, 4 where the output failed, or 7 for want
 /// of memory.
 pub fn check_status<D: Disk, K: Sink>(alloc: Global, node: &Node<D>, output: &mut K) -> u8
-    ensures { IsLineTold (checks.check_line (summary_of (node_state node.now) (node_last node.now))) (output_of K.Sink output.old) (output_of K.Sink output.new) result }
+    ensures { node_stopped node.now ≡ None → IsLineTold (checks.check_line (summary_of (node_state node.now) (node_last node.now))) (output_of K.Sink output.old) (output_of K.Sink output.new) result }
 {
     tell_numbers(alloc, node.summary(), output)
 }

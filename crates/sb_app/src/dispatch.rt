@@ -8,7 +8,7 @@ ghost use Rattle.sb_journal.specs.Disks.{HaveFailed, AreQuiet, SameHonesty};
 ghost use Rattle.sb_node.specs.Nodes.{node_state, node_stopped, node_aside, node_disks, IsKept, IsOneOf, StayOneOf};
 ghost use Rattle.sb_app.specs.Outside.{output_of};
 ghost use Rattle.sb_app.specs.Lines.{IsLineInOrder};
-ghost use Rattle.sb_app.specs.Runs.{kind_of, states_of, IsAnswered};
+ghost use Rattle.sb_app.specs.Runs.{kind_of, states_left, states_of, IsAnswered};
 ghost use Rattle.sb_app.specs.Endings.{IsReplyCut, IsCutAt};
 ghost use Rattle.sb_app.specs.declared.ending.RunEnd.TheVariants.{DiskFault};
 ghost use Rattle.sb_app.specs.declared.script_line.ScriptLine.TheVariants.{Request};
@@ -82,10 +82,11 @@ fn dispatch_call<D: Disk, K: Sink>(
     ensures running { OnOk result (node_stopped node.new ≡ None) }
     ensures consistent { IsConsistent (node_state node.new) }
     ensures kept { IsKept node.old → result ≢ Err DiskFault → IsKept node.new }
-    ensures undecided { IsKept node.old → result ≡ Err DiskFault → IsOneOf (node_disks node.new) (states_of (node_state node.old) (Request asked.now form)) }
+    ensures undecided { IsKept node.old → result ≡ Err DiskFault → IsOneOf (node_disks node.new) (states_left (node_state node.old) (Request asked.now form)) }
 
-    // At each moment a crash leads to the state before the line, to that with its tick or to the one after it.
-    ensures any_moment { IsKept node.old → StayOneOf (node_disks node.old) (node_disks node.new) (states_of (node_state node.old) (Request asked.now form)) }
+    // At each moment a crash leads to the state before the line or to the one after it; where the run ends at it also to that with its tick.
+    ensures any_moment { IsKept node.old → OnOk result (StayOneOf (node_disks node.old) (node_disks node.new) (states_of (node_state node.old) (Request asked.now form))) }
+    ensures last_moments { IsKept node.old → StayOneOf (node_disks node.old) (node_disks node.new) (states_left (node_state node.old) (Request asked.now form)) }
     ensures passed { OnOk result (AreQuiet (node_disks node.old) (node_disks node.new) × (K.count output.new ≡ K.count output.old)) }
     ensures disk_fault { result ≡ Err DiskFault → HaveFailed (node_disks node.old) (node_disks node.new) }
     ensures disk_quiet { IfErr result (λ e. e ≢ DiskFault → AreQuiet (node_disks node.old) (node_disks node.new)) }
@@ -130,10 +131,11 @@ pub fn dispatch_line<D: Disk, K: Sink>(
     ensures running { OnOk result (node_stopped node.new ≡ None) }
     ensures consistent { IsConsistent (node_state node.new) }
     ensures kept { IsKept node.old → result ≢ Err DiskFault → IsKept node.new }
-    ensures undecided { IsKept node.old → result ≡ Err DiskFault → IsOneOf (node_disks node.new) (states_of (node_state node.old) line) }
+    ensures undecided { IsKept node.old → result ≡ Err DiskFault → IsOneOf (node_disks node.new) (states_left (node_state node.old) line) }
 
-    // At each moment a crash leads to the state before the line, to that with its tick or to the one after it.
-    ensures any_moment { IsKept node.old → StayOneOf (node_disks node.old) (node_disks node.new) (states_of (node_state node.old) line) }
+    // At each moment a crash leads to the state before the line or to the one after it; where the run ends at it also to that with its tick.
+    ensures any_moment { IsKept node.old → OnOk result (StayOneOf (node_disks node.old) (node_disks node.new) (states_of (node_state node.old) line)) }
+    ensures last_moments { IsKept node.old → StayOneOf (node_disks node.old) (node_disks node.new) (states_left (node_state node.old) line) }
     ensures passed { OnOk result (AreQuiet (node_disks node.old) (node_disks node.new) × (K.count output.new ≡ K.count output.old)) }
     ensures disk_fault { result ≡ Err DiskFault → HaveFailed (node_disks node.old) (node_disks node.new) }
     ensures disk_quiet { IfErr result (λ e. e ≢ DiskFault → AreQuiet (node_disks node.old) (node_disks node.new)) }

@@ -1,5 +1,7 @@
 pub mod Sums
 pub mod Logs
+pub mod Posting
+pub mod Kept
 pub mod Steady
 pub mod Turning
 pub mod Seating

@@ -1,10 +1,13 @@
 -- Fronts of a history and its entries by seat.
 use Rattle.std.proofs.Common.{◌≡◌, ◌≢◌, ℕ, ◌<◌, ◌==◌, List, [], ◌∷◌, ◌++◌, sym, refl, ap, ◌∙◌, subst, inl, inr, arith, append_assoc, Option, Some, None, Result}
 use Rattle.std.proofs.lemmas.List.Elements.{filter-append}
+use Rattle.sb_machine.specs.History.{Log, fresh_log, after_entry, IsLegalFrom, IsLegal}
 use Rattle.sb_machine.specs.declared.call.Call.{Call}
 use Rattle.sb_machine.specs.declared.history.Entry.{Entry}
+use Rattle.sb_machine.specs.declared.history.Entry.TheVariants.{Ticked, Answered as Replied}
 use Rattle.sb_machine.specs.declared.reply.Answered.{Answered}
 use Rattle.sb_machine.specs.declared.reply.Refusal.{Refusal}
+use Rattle.sb_machine.specs.declared.state.State.{State}
 use Rattle.sb_desk.specs.Entries.{entries_by, made_by, seat_of}
 use Rattle.sb_desk.specs.Lists.{IsFront, GoesOn, AreComparable, HaveSeatsBelow}
 
@@ -26,9 +29,6 @@ append_empty (x ∷ xs) ys e = absurd cc
 
 pub front_later : (front all more : List Entry) → IsFront front all → IsFront front (all ++ more)
 front_later front all more f = (f.0 ++ more, ap (λ l. l ++ more) f.1 ∙ append_assoc front f.0 more)
-
-pub goes_on_later : (log : List Entry) (seat : ℕ) (seen more : List Entry) → entries_by seat more ≡ [] → GoesOn log seat seen → GoesOn (log ++ more) seat seen
-goes_on_later log seat seen more none g = (g.0 ++ more, ap (λ l. l ++ more) g.1 ∙ append_assoc seen g.0 more, by_append seat g.0 more ∙ (ap (λ l. l ++ entries_by seat more) g.2 ∙ none))
 
 -- a longer front does as well
 pub goes_on_longer : (log : List Entry) (seat : ℕ) (seen longer : List Entry) → GoesOn log seat seen → IsFront seen longer → IsFront longer log → GoesOn log seat longer
@@ -84,3 +84,37 @@ below_append passes (x ∷ xs) ys a b = (a.0, below_append passes xs ys a.1 b)
 pub below_made : (passes seat : ℕ) (t : Option ℕ) (reading : ℕ) (call : Call) (answer : Result Answered Refusal) → seat < passes → HaveSeatsBelow passes (made_by seat t reading call answer)
 below_made passes seat (Some t) reading call answer lt = (lt, (lt, tt))
 below_made passes seat None reading call answer lt = (lt, tt)
+
+pub below_front : (passes : ℕ) (xs ys : List Entry) → HaveSeatsBelow passes (xs ++ ys) → HaveSeatsBelow passes xs
+below_front passes [] ys all = tt
+below_front passes (x ∷ xs) ys all = (all.0, below_front passes xs ys all.1)
+
+-- ---- histories that end with a call
+
+legal_to : (l : Log) (h : List Entry) (seat reading : ℕ) (call : Call) (answer : Result Answered Refusal) (more : List Entry)
+    → IsLegalFrom l (h ++ Replied seat reading call answer ∷ more) → IsLegalFrom l (h ++ Replied seat reading call answer ∷ [])
+legal_to l [] seat reading call answer more legal = (legal.0, refl)
+legal_to l (e ∷ h) seat reading call answer more legal = (legal.0, legal_to (after_entry l e) h seat reading call answer more legal.1)
+
+-- a legal history up to a call is legal
+pub legal_call : (start : State) (h : List Entry) (seat : ℕ) (t : Option ℕ) (reading : ℕ) (call : Call) (answer : Result Answered Refusal) (more : List Entry)
+    → IsLegal start ((h ++ made_by seat t reading call answer) ++ more) → IsLegal start (h ++ made_by seat t reading call answer)
+legal_call start h seat None reading call answer more legal =
+    legal_to (fresh_log start) h seat reading call answer more (subst (IsLegal start) (append_assoc h (Replied seat reading call answer ∷ []) more) legal)
+legal_call start h seat (Some t) reading call answer more legal =
+    let whole : (h ++ Ticked seat t ∷ Replied seat reading call answer ∷ []) ++ more ≡ (h ++ Ticked seat t ∷ []) ++ Replied seat reading call answer ∷ more =
+    append_assoc h (Ticked seat t ∷ Replied seat reading call answer ∷ []) more ∙ sym (append_assoc h (Ticked seat t ∷ []) (Replied seat reading call answer ∷ more)) in
+    subst (IsLegal start) (append_assoc h (Ticked seat t ∷ []) (Replied seat reading call answer ∷ []))
+    (legal_to (fresh_log start) (h ++ Ticked seat t ∷ []) seat reading call answer more (subst (IsLegal start) whole legal))
+
+-- the history that a seat has seen once it has its call's entries: it ends with these
+pub legal_seen : (start : State) (log seen before own after : List Entry) (seat : ℕ) (t : Option ℕ) (reading : ℕ) (call : Call) (answer : Result Answered Refusal)
+    → log ≡ seen ++ ((before ++ own) ++ after) → own ≡ made_by seat t reading call answer → IsLegal start log → IsLegal start (seen ++ (before ++ own))
+legal_seen start log seen before own after seat t reading call answer whole is legal =
+    let parted : log ≡ ((seen ++ before) ++ made_by seat t reading call answer) ++ after = whole
+    ∙ (sym (append_assoc seen (before ++ own) after) ∙ (ap (λ z. z ++ after) (sym (append_assoc seen before own)) ∙ ap (λ z. ((seen ++ before) ++ z) ++ after) is)) in
+    subst (IsLegal start) (ap (λ z. (seen ++ before) ++ z) (sym is) ∙ append_assoc seen before own)
+    (legal_call start (seen ++ before) seat t reading call answer after (subst (IsLegal start) parted legal))
+
+pub below_seen : (passes : ℕ) (log seen own after : List Entry) → log ≡ seen ++ (own ++ after) → HaveSeatsBelow passes log → HaveSeatsBelow passes (seen ++ own)
+below_seen passes log seen own after whole all = below_front passes (seen ++ own) after (subst (HaveSeatsBelow passes) (whole ∙ sym (append_assoc seen own after)) all)

@@ -1,6 +1,6 @@
 -- Histories in which no spared call is answered with want of memory.
-use Rattle.std.proofs.Common.{◌≡◌, ◌≢◌, ℕ, List, [], ◌∷◌, ◌++◌, Bool, true, false, true≢false, Result, Err, sym, ap, ◌∙◌, length, nat_lt, if◌then◌else◌}
-use Rattle.sb_machine.specs.History.{Log, IsFaultless, after_entry, after_entries, is_fault}
+use Rattle.std.proofs.Common.{◌≡◌, ◌≢◌, ℕ, List, [], ◌∷◌, ◌++◌, append_assoc, subst, Bool, true, false, true≢false, Result, Err, sym, ap, ◌∙◌, length, nat_lt, if◌then◌else◌}
+use Rattle.sb_machine.specs.History.{Log, fresh_log, IsFaultless, after_entry, after_entries, is_fault}
 use Rattle.sb_machine.specs.declared.call.Call.{Call}
 use Rattle.sb_machine.specs.declared.history.Entry.{Entry}
 use Rattle.sb_machine.specs.declared.history.Entry.TheVariants.{Ticked, Answered as Replied}
@@ -16,6 +16,12 @@ pub spares_on : (spared : ℕ → Call → State → Bool) (l : Log) (h more : L
 spares_on spared l [] more so_far here = here
 spares_on spared l (Ticked seat t ∷ h) more so_far here = spares_on spared (after_entry l (Ticked seat t)) h more so_far here
 spares_on spared l (Replied seat reading call answer ∷ h) more so_far here = (so_far.0, spares_on spared (after_entry l (Replied seat reading call answer)) h more so_far.1 here)
+
+-- the front of one does
+pub spares_front : (spared : ℕ → Call → State → Bool) (l : Log) (h more : List Entry) → SparesFrom spared l (h ++ more) → SparesFrom spared l h
+spares_front spared l [] more all = tt
+spares_front spared l (Ticked seat t ∷ h) more all = spares_front spared (after_entry l (Ticked seat t)) h more all
+spares_front spared l (Replied seat reading call answer ∷ h) more all = (all.0, spares_front spared (after_entry l (Replied seat reading call answer)) h more all.1)
 
 not_wanting : (answer : Result Answered Refusal) → is_fault answer ≡ false → answer ≢ Err OutOfMemory
 not_wanting answer sound wants = true≢false (sym (ap is_fault wants) ∙ sound)
@@ -34,3 +40,6 @@ spares_longer spared from one other by_one by_other = at (nat_lt (length one) (l
     at : (b : Bool) → Spares spared from (if b then other else one)
     at true = by_other
     at false = by_one
+
+pub spares_seen : (spared : ℕ → Call → State → Bool) (from : State) (log seen own after : List Entry) → log ≡ seen ++ (own ++ after) → Spares spared from log → Spares spared from (seen ++ own)
+spares_seen spared from log seen own after whole all = spares_front spared (fresh_log from) (seen ++ own) after (subst (Spares spared from) (whole ∙ sym (append_assoc seen own after)) all)

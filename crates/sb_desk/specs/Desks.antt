@@ -1,9 +1,10 @@
 -- What contracts see of a desk, which has one value that many callers use in turn, and of a pass, which is the handle
 -- of one caller at a time.
-use Rattle.std.specs.Prelude.{◌≡◌, ℕ, zero, suc, List, [], ◌∷◌, ◌++◌, Option, Result}
+use Rattle.std.specs.Prelude.{◌≡◌, ℕ, zero, suc, List, [], ◌∷◌, ◌++◌, Option, Some, None, Result}
 use Rattle.atomic_table.specs.Seated.{TableId}
 use Rattle.sb_machine.specs.History.{IsLegal}
 use Rattle.sb_machine.specs.Consistent.{IsConsistent}
+use Rattle.sb_machine.specs.declared.call.Act.TheVariants.{Commit}
 use Rattle.sb_machine.specs.declared.call.Call.{Call}
 use Rattle.sb_machine.specs.declared.history.Entry.{Entry}
 use Rattle.sb_machine.specs.declared.reply.Answered.{Answered}
@@ -12,6 +13,7 @@ use Rattle.sb_machine.specs.declared.state.State.{State}
 use Rattle.sb_desk.specs.declared.desk.NewFault.{NewFault}
 use Rattle.sb_desk.specs.declared.desk.NewFault.TheVariants.{OutOfMemory}
 use Rattle.sb_desk.specs.declared.report.Origin.{Origin}
+use Rattle.sb_desk.specs.declared.view.Ask.{Ask}
 use Rattle.sb_desk.specs.declared.view.Claim.{Claim}
 use Rattle.sb_desk.specs.declared.view.Stage.TheVariants.{Idle}
 use Rattle.sb_desk.specs.declared.view.View.{View}
@@ -27,6 +29,12 @@ pub record Sitting : Type 0 where
   pub start : State
   pub origin : Origin
   pub seen : List Entry
+
+-- A pass whose call was left with its desk: the pass as it was, the reading of the clock, and the call.
+pub record Asking : Type 0 where
+  pub pass : Sitting
+  pub reading : ℕ
+  pub call : Call
 
 -- A desk: which one it is, how it began, and how many passes it has.
 pub record Open : Type 0 where
@@ -81,10 +89,27 @@ view_of (v ∷ vs) = v
 abbrev pub sitting : TableId → View → Sitting
 sitting desk v = record { desk = desk; seat = v.seat; passes = v.passes; start = v.start; origin = v.origin; seen = v.seen }
 
+-- the call that was posted; where none was, one that nobody makes
+abbrev pub ask_of : Option Ask → Ask
+ask_of (Some ask) = ask
+ask_of None = record { reading = 0; call = record { by = None; act = Commit 0 } }
+
+-- a pass whose call was posted, by its desk and its view
+abbrev pub asking : TableId → View → Asking
+asking desk v = record { pass = sitting desk v; reading = (ask_of v.post).reading; call = (ask_of v.post).call }
+
+-- a view whose call was posted
+pub record IsAsking (v : View) : Type 0 where
+  pub idle : v.stage ≡ Idle
+  pub part : v.parts ≡ 1
+  pub post : v.post ≡ Some (ask_of v.post)
+  pub claims : v.claims ≡ []
+
 -- a view between two calls
 pub record IsResting (v : View) : Type 0 where
   pub idle : v.stage ≡ Idle
   pub part : v.parts ≡ 1
+  pub post : v.post ≡ None
   pub claims : v.claims ≡ []
   pub consistent : IsConsistent v.start
   pub legal : IsLegal v.start v.seen

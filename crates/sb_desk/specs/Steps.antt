@@ -1,19 +1,22 @@
 -- What each step tells its seat, and how views are cut and joined.
-use Rattle.std.specs.Prelude.{◌≡◌, ◌≢◌, ℕ, ◌+◌, ◌-◌, false, List, [], ◌∷◌, ◌++◌, Option, Some, None}
+use Rattle.std.specs.Prelude.{◌≡◌, ◌≢◌, ℕ, ◌+◌, ◌-◌, ◌<◌, false, length, List, [], ◌∷◌, ◌++◌, Option, Some, None}
 use Rattle.atomic_table.specs.Table.{Me, Step, rest}
 use Rattle.atomic_table.specs.Seated.{TableId}
 use Rattle.sb_machine.specs.Namespace.{empty_state}
 use Rattle.sb_machine.specs.declared.history.Entry.{Entry}
 use Rattle.sb_machine.specs.declared.state.State.{State}
+use Rattle.sb_desk.specs.declared.post.Post.{Post}
 use Rattle.sb_desk.specs.declared.report.DiskOrigin.{DiskOrigin}
 use Rattle.sb_desk.specs.declared.report.Origin.{Origin}
-use Rattle.sb_desk.specs.declared.view.Made.{Made}
+use Rattle.sb_desk.specs.declared.view.Ask.{Ask}
 use Rattle.sb_desk.specs.declared.view.View.{View}
 use Rattle.sb_desk.specs.declared.view.Stage.{Stage}
 use Rattle.sb_desk.specs.declared.view.Stage.TheVariants.{Note, Idle, Waits, Turn, Out, Spent}
-use Rattle.sb_desk.specs.Entries.{entries_by, made_by}
+use Rattle.sb_desk.specs.Entries.{entries_by}
+use Rattle.sb_desk.specs.Groups.{posts_by, asked_by, IsFollowed}
 use Rattle.sb_desk.specs.Lists.{AreComparable, HaveSeatsBelow, longer}
-use Rattle.sb_desk.specs.Rule.{word, ticket_of, log_of}
+use Rattle.sb_desk.specs.Posts.{asked_of, post_entries}
+use Rattle.sb_desk.specs.Rule.{word, ticket_of, log_of, posts_of}
 
 -- ---- steps on a word
 
@@ -21,14 +24,19 @@ use Rattle.sb_desk.specs.Rule.{word, ticket_of, log_of}
 abbrev pub placed : Stage → View → View
 placed stage v = record v { stage = stage }
 
--- the last step's entries stand behind the history, and were seen
-abbrev pub with_made : List Entry → View → View
-with_made made v = record v { seen = log_of v.stage ++ made; stage = Out (ticket_of v.stage) (log_of v.stage ++ made) }
+-- what the last of the posts asks
+abbrev pub last_ask : List Post → Option Ask
+last_ask [] = None
+last_ask (p ∷ []) = Some (record { reading = p.reading; call = p.call })
+last_ask (p ∷ q ∷ ps) = last_ask (q ∷ ps)
 
--- the entries of the call that a value beside it made last
-abbrev pub entries_in : ℕ → Option Made → List Entry
-entries_in seat None = []
-entries_in seat (Some m) = made_by seat m.stepped.value.tick m.reading.value m.call.value m.stepped.value.answer
+-- What a seat that has the value knows: where the history goes on from what it has seen, with its post; that all entries are of passes, as it is
+-- one; and that there is room for its post where it has none.
+pub record Knows (log : List Entry) (posts : List Post) (v : View) : Type 0 where
+  pub front : IsFollowed log posts v.seat v.seen v.post
+  pub numbered : HaveSeatsBelow v.passes log
+  pub seat : v.seat < v.passes
+  pub room : v.post ≡ None → length posts < v.passes
 
 -- what a seat carries through a step: its view, and the values that it has
 abbrev pub Sat : Type 0 → Type 0
@@ -43,21 +51,34 @@ module _ {X : Type 0} where
   abbrev pub looked : Step (Option X) → Sat X → ℕ → Sat X → Type 0
   looked st m r m' = (word (ticket_of m.0.stage) ≡ r → m' ≡ (placed (Turn (ticket_of m.0.stage)) m.0, m.1)) × (word (ticket_of m.0.stage) ≢ r → m' ≡ m)
 
-  -- the value that was taken stands for the history
-  abbrev pub took : (X → State → List Entry → Type 0) → (X → Origin) → Step (Option X) → Sat X → ℕ → Sat X → Type 0
-  took stands origin_of st m r m' =
-      (x : X) × (log : List Entry) × (m' ≡ (placed (Out (ticket_of m.0.stage) log) m.0, (0, Some x) ∷ m.1)) × stands x m.0.start log × (origin_of x ≡ m.0.origin)
+  -- the value that was taken stands for the history, and the posts lie beside it
+  abbrev pub took : (X → State → List Entry → Type 0) → (X → Origin) → (X → List Post) → (ℕ → X → Type 0) → Step (Option X) → Sat X → ℕ → Sat X → Type 0
+  took stands origin_of posts_in arranged st m r m' =
+      (x : X) × (log : List Entry) × (m' ≡ (placed (Out (ticket_of m.0.stage) log (posts_in x)) m.0, (0, Some x) ∷ m.1)) × stands x m.0.start log × (origin_of x ≡ m.0.origin)
+      × arranged m.0.passes x × Knows log (posts_in x) m.0
 
-  -- the entries that the value made last which the seat carries
-  abbrev pub carried_made : (ℕ → X → List Entry) → ℕ → List (ℕ × Option X) → List Entry
-  carried_made made_in seat ((k, Some x) ∷ c) = made_in seat x
-  carried_made made_in seat _ = []
+  -- the posts beside the value that the seat carries
+  abbrev pub carried_posts : (X → List Post) → List (ℕ × Option X) → List Post
+  carried_posts posts_in ((k, Some x) ∷ c) = posts_in x
+  carried_posts posts_in _ = []
 
-  -- between what it had seen and its own entries stand those of others, and all are of the desk's seats
-  abbrev pub recorded : (ℕ → X → List Entry) → Step (Option X) → Sat X → ℕ → Sat X → Type 0
-  recorded made_in st m r m' =
-      (m' ≡ (with_made (carried_made made_in m.0.seat m.1) m.0, m.1)) × (between : List Entry) × (log_of m.0.stage ≡ m.0.seen ++ between) × (entries_by m.0.seat between ≡ [])
-      × HaveSeatsBelow m'.0.passes m'.0.seen
+  -- the last of the posts is its own
+  abbrev pub asked : (X → List Post) → Step (Option X) → Sat X → ℕ → Sat X → Type 0
+  asked posts_in st m r m' =
+      m' ≡ (record m.0 { post = last_ask (carried_posts posts_in m.1); stage = Out (ticket_of m.0.stage) (log_of m.0.stage) (carried_posts posts_in m.1) }, m.1)
+
+  -- the entries of a group stand behind the history, for which the value that the seat carries stands
+  abbrev pub recorded : (X → State → List Entry → Type 0) → (X → List Post) → Step (Option X) → Sat X → ℕ → Sat X → Type 0
+  recorded stands posts_in st m r m' =
+      (made : List Entry) × (m' ≡ (placed (Out (ticket_of m.0.stage) (log_of m.0.stage ++ made) (carried_posts posts_in m.1)) m.0, m.1))
+      × ((x : X) → m.1 ≡ (0, Some x) ∷ [] → stands x m.0.start (log_of m.0.stage ++ made)) × Knows (log_of m.0.stage ++ made) (carried_posts posts_in m.1) m.0
+
+  -- the seat's post was taken out, and the seat has seen the history up to what this one came to
+  abbrev pub collected : (X → List Post) → Step (Option X) → Sat X → ℕ → Sat X → Type 0
+  collected posts_in st m r m' =
+      (p : Post) × (before : List Entry) × (after : List Entry) × (posts_by m.0.seat (posts_of m.0.stage) ≡ p ∷ []) × (log_of m.0.stage ≡ m.0.seen ++ ((before ++ post_entries p) ++ after)) × (entries_by m.0.seat before ≡ [])
+      × (m' ≡ (record m.0 { seen = m.0.seen ++ (before ++ post_entries p); post = None; stage = Out (ticket_of m.0.stage) (log_of m.0.stage) (carried_posts posts_in m.1) }, m.1))
+      × ((ask : Ask) → m.0.post ≡ Some ask → asked_of p ≡ asked_by m.0.seat ask)
 
   -- the value was put back
   abbrev pub gave : Step (Option X) → Sat X → ℕ → Sat X → Type 0
@@ -75,7 +96,7 @@ module _ {X : Type 0} where
 
 -- a seat that has seen as much, and has no number
 abbrev pub note_of : View → View
-note_of v = record { seat = 0; spare = 0; passes = v.passes; start = v.start; origin = v.origin; seen = v.seen; parts = 0; stage = Note; one = []; other = []; claims = [] }
+note_of v = record { seat = 0; spare = 0; passes = v.passes; start = v.start; origin = v.origin; seen = v.seen; parts = 0; post = None; stage = Note; one = []; other = []; claims = [] }
 
 -- one pass less, and without the last of the numbers
 abbrev pub less_one : View → View
@@ -83,14 +104,14 @@ less_one v = record v { parts = v.parts - 1; spare = v.spare - 1 }
 
 -- one more pass, with the last of the numbers
 abbrev pub one_more : View → View
-one_more v = record { seat = v.seat + v.spare; spare = 0; passes = v.passes; start = v.start; origin = v.origin; seen = v.seen; parts = 1; stage = Idle; one = []; other = []; claims = [] }
+one_more v = record { seat = v.seat + v.spare; spare = 0; passes = v.passes; start = v.start; origin = v.origin; seen = v.seen; parts = 1; post = None; stage = Idle; one = []; other = []; claims = [] }
 
 abbrev no_disk : DiskOrigin
 no_disk = record { faults = 0; honest = false; held = record { seen = []; synced = []; ranges = []; least = 0; greatest = 0 }; past = [] }
 
 -- the view of a seat that is gone
 abbrev pub spent_view : View
-spent_view = record { seat = 0; spare = 0; passes = 0; start = empty_state 0; origin = record { disk_a = no_disk; disk_b = no_disk; goes_on = false }; seen = []; parts = 0; stage = Spent; one = []; other = []; claims = [] }
+spent_view = record { seat = 0; spare = 0; passes = 0; start = empty_state 0; origin = record { disk_a = no_disk; disk_b = no_disk; goes_on = false }; seen = []; parts = 0; post = None; stage = Spent; one = []; other = []; claims = [] }
 
 -- the seat has the longer one of two lists
 abbrev pub told : View → View → View

@@ -1,5 +1,5 @@
 //! How passes are gathered again.
-ghost use Rattle.std.specs.Prelude.{◌≡◌, ◌+◌, List, [], ◌++◌, length, map};
+ghost use Rattle.std.specs.Prelude.{◌≡◌, ◌+◌, List, [], ◌++◌, None, length, map};
 ghost use Rattle.sb_machine.specs.declared.history.Entry.{Entry};
 ghost use Rattle.sb_desk.specs.declared.view.Stage.TheVariants.{Idle};
 ghost use Rattle.sb_desk.specs.Desks.{claim_of};
@@ -21,7 +21,7 @@ pub(crate) fn gather_all<V: Served>(top: &Top<V>, place: &mut Place<V>, passes: 
 {
     let mut passes = passes;
     while let Some(pass) = passes.pop() {
-        let Pass { badge } = pass;
+        let Pass { badge, seat: _ } = pass;
         gather(top, place, badge.into_seat());
     }
 }
@@ -29,7 +29,7 @@ pub(crate) fn gather_all<V: Served>(top: &Top<V>, place: &mut Place<V>, passes: 
 // Takes in the seat of another pass.
 fn gather<V: Served>(top: &Top<V>, place: &mut Place<V>, other: Place<V>)
     requires table { (place.old.table_id ≡ top.now.table_id) × IsSized top.now.table_id }
-    requires idle { (place.old.me.0.stage ≡ Idle) × (other.table_id ≡ top.now.table_id) × (other.me.0.stage ≡ Idle) × (other.me.1 ≡ []) }
+    requires idle { (place.old.me.0.stage ≡ Idle) × (other.table_id ≡ top.now.table_id) × (other.me.0.stage ≡ Idle) × (other.me.0.post ≡ None) × (other.me.1 ≡ []) }
     ensures seat { (place.new.table_id ≡ place.old.table_id) × (place.new.id ≡ place.old.id) }
     ensures both { place.new.me ≡ (gathered place.old.me.0 other.me.0, place.old.me.1) }
 {
@@ -39,13 +39,18 @@ fn gather<V: Served>(top: &Top<V>, place: &mut Place<V>, other: Place<V>)
 /// The value, once a seat stands for all passes.
 pub(crate) fn finish<V: Served>(table: Whole<V>, place: Place<V>) -> V
     requires table { (place.table_id ≡ table.shared.table_id) × IsSized table.shared.table_id }
-    requires whole { (place.me.0.stage ≡ Idle) × (place.me.0.parts ≡ table.shared.key.passes) }
+    requires whole { (place.me.0.stage ≡ Idle) × (place.me.0.post ≡ None) × (place.me.0.parts ≡ table.shared.key.passes) }
     ensures { (log : List Entry) × V.stands result (V.state table.shared.key.value.value) log × (V.origin result ≡ V.origin table.shared.key.value.value)
         × GoesOn log place.me.0.seat place.me.0.seen × Each (λ c. GoesOn log c.seat c.seen) place.me.0.claims × HaveSeatsBelow table.shared.key.passes log }
 {
     let mut closed = table.close_with(place);
     let slot = closed.take(0);
     closed.free();
-    let Held { value, made: _ } = slot.unwrap();
+    let Held {
+        value,
+        posts,
+        answered: _,
+    } = slot.unwrap();
+    drop(posts);
     value
 }

@@ -10,10 +10,11 @@ ghost use Rattle.sb_desk.specs.Steps.{IsSized};
 
 use crate::beside::Beside;
 use crate::closing::{finish, gather_all};
+use crate::groups::{collect_one, post_one};
 use crate::notes::{note, take_in};
 use crate::opening::{deal_out, open_table};
-use crate::turns::{Place, Whole, serve_one};
-use crate::{Pass, Report, Served};
+use crate::turns::{Place, Whole};
+use crate::{Pass, Post, Posted, Report, Served};
 use sb_machine::{Answer, Call, Path};
 use sb_numbers::Board;
 use std::alloc::{AllocError, Global};
@@ -65,10 +66,10 @@ impl<V: Served> Desk<V> {
         if passes > MAX_PASSES {
             return Err(NewFault::OutOfMemory { value });
         }
-        let Ok((room, beside)) = room_for(alloc, passes) else {
+        let Ok((room, posts, beside)) = room_for(alloc, passes) else {
             return Err(NewFault::OutOfMemory { value });
         };
-        match open_table(alloc, value, passes) {
+        match open_table(alloc, value, posts, passes) {
             Ok((table, place)) => {
                 let dealt = deal_out(&table.shared, place, room, passes);
                 Ok((Desk { table, beside }, dealt))
@@ -77,32 +78,71 @@ impl<V: Served> Desk<V> {
         }
     }
 
-    /// Makes a call at this pass, at a reading of the clock in ms since 1970. It waits for its
-    /// turn, and takes no memory but what the value's step takes.
-    pub fn call<R: Wait>(&self, rt: &R, pass: Pass, reading: u64, call: &Call) -> (Pass, Answer)
+    /// Leaves a call for this pass with the desk, at a reading of the clock in ms since 1970. It is carried out
+    /// with others that wait, at the latest when it is collected. It waits for its turn, and takes no memory.
+    pub fn post<R: Wait>(&self, rt: &R, pass: Pass, reading: u64, call: Call) -> Posted
         requires desk { IsOf self.now pass }
-        requires order { IsActInOrder call.now.act }
-        ensures call { Calls pass reading call.now result.0 result.1 }
+        requires order { IsActInOrder call.act }
+        ensures posted { result ≡ record { pass = pass; reading = reading; call = call } }
+    {
+        let Pass { badge, seat } = pass;
+        let mut place: Place<V> = badge.into_seat();
+        post_one(
+            rt,
+            &self.table.shared,
+            &self.beside.bells,
+            &mut place,
+            seat,
+            reading,
+            call,
+        );
+        Posted {
+            badge: place.into_badge(),
+            seat,
+        }
+    }
+
+    /// The answer to a call that was posted, with the pass and the call. It waits for its turn. Where the call still
+    /// waits, all that wait are carried out as one group, which takes no memory but what the value's step takes.
+    pub fn collect<R: Wait>(&self, rt: &R, posted: Posted) -> (Pass, Call, Answer)
+        requires desk { IsOf self.now posted.pass }
+        ensures call { Calls posted.pass posted.reading posted.call result.0 result.2 }
+        ensures same { result.1 ≡ posted.call }
         ensures legal { HasLegal result.0 }
         ensures spares { Spares V.spared result.0.start result.0.seen }
         ensures seats { HaveSeatsBelow self.now.passes result.0.seen }
     {
-        let Pass { badge } = pass;
+        let Posted { badge, seat } = posted;
         let mut place: Place<V> = badge.into_seat();
-        let answer = serve_one(
-            rt,
-            &self.table.shared,
-            &self.beside,
-            &mut place,
-            reading,
-            call,
-        );
+        let (call, answer) = collect_one(rt, &self.table.shared, &self.beside, &mut place, seat);
         (
             Pass {
                 badge: place.into_badge(),
+                seat,
             },
+            call,
             answer,
         )
+    }
+
+    /// Makes a call at this pass, at a reading of the clock in ms since 1970: posts it, and collects its answer.
+    pub fn call<R: Wait>(
+        &self,
+        rt: &R,
+        pass: Pass,
+        reading: u64,
+        call: Call,
+    ) -> (Pass, Call, Answer)
+        requires desk { IsOf self.now pass }
+        requires order { IsActInOrder call.act }
+        ensures call { Calls pass reading call result.0 result.2 }
+        ensures same { result.1 ≡ call }
+        ensures legal { HasLegal result.0 }
+        ensures spares { Spares V.spared result.0.start result.0.seen }
+        ensures seats { HaveSeatsBelow self.now.passes result.0.seen }
+    {
+        let posted = self.post(rt, pass, reading, call);
+        self.collect(rt, posted)
     }
 
     /// The marks of the parts for which something to receive may have come since this was last asked,
@@ -138,8 +178,14 @@ impl<V: Served> Desk<V> {
         ensures spares { (from : State) → Spares V.spared from one.seen → Spares V.spared from other.seen → Spares V.spared from (longer one.seen other.seen) }
         ensures seats { HaveSeatsBelow self.now.passes (longer one.seen other.seen) }
     {
-        let Pass { badge: one } = one;
-        let Pass { badge: other } = other;
+        let Pass {
+            badge: one,
+            seat: first,
+        } = one;
+        let Pass {
+            badge: other,
+            seat: second,
+        } = other;
         let mut one: Place<V> = one.into_seat();
         let mut other: Place<V> = other.into_seat();
         let top = &self.table.shared;
@@ -150,9 +196,11 @@ impl<V: Served> Desk<V> {
         (
             Pass {
                 badge: one.into_badge(),
+                seat: first,
             },
             Pass {
                 badge: other.into_badge(),
+                seat: second,
             },
         )
     }
@@ -166,7 +214,7 @@ impl<V: Served> Desk<V> {
     {
         let mut passes = passes;
         let Desk { table, beside: _ } = self;
-        let Pass { badge } = passes.pop().unwrap();
+        let Pass { badge, seat: _ } = passes.pop().unwrap();
         let mut place: Place<V> = badge.into_seat();
         gather_all(&table.shared, &mut place, passes);
         let value = finish(table, place);
@@ -175,11 +223,13 @@ impl<V: Served> Desk<V> {
     }
 }
 
-// Room for so many passes, and what a desk has beside its table.
-fn room_for(alloc: Global, passes: usize) -> Result<(Vec<Pass>, Beside), AllocError>
-    ensures { IfOk result (λ r. (r.0.items ≡ []) × (passes ≤ vec_capacity r.0)) }
+// Room for so many passes and their posts, and what a desk has beside its table.
+fn room_for(alloc: Global, passes: usize) -> Result<(Vec<Pass>, Vec<Post>, Beside), AllocError>
+    ensures passes { IfOk result (λ r. (r.0.items ≡ []) × (passes ≤ vec_capacity r.0)) }
+    ensures posts { IfOk result (λ r. (r.1.items ≡ []) × (passes ≤ vec_capacity r.1)) }
 {
     let room = Vec::with_capacity(alloc, passes)?;
+    let posts = Vec::with_capacity(alloc, passes)?;
     let beside = Beside::new(alloc)?;
-    Ok((room, beside))
+    Ok((room, posts, beside))
 }

@@ -1,5 +1,5 @@
 //! A table for a value, and its passes.
-ghost use Rattle.std.specs.Prelude.{◌≡◌, ◌<◌, ◌≤◌, ◌^◌, List, [], ◌∷◌, ◌++◌, Option, Some, length, map, vec_capacity, IfOk, IfErr};
+ghost use Rattle.std.specs.Prelude.{◌≡◌, ◌<◌, ◌≤◌, ◌^◌, List, [], ◌∷◌, ◌++◌, Option, Some, None, length, map, vec_capacity, IfOk, IfErr};
 ghost use Rattle.sb_machine.specs.Consistent.{IsConsistent};
 ghost use Rattle.sb_machine.specs.declared.state.State.{State};
 ghost use Rattle.sb_desk.specs.declared.report.Origin.{Origin};
@@ -12,20 +12,22 @@ ghost use Rattle.sb_desk.specs.Steps.{IsSized, less_one, one_more};
 use crate::plays::More;
 use crate::turns::{Place, Top, Whole};
 use crate::view::{Held, Key};
-use crate::{Pass, Served};
+use crate::{Pass, Post, Served};
 use atomic_table::{Refused, Table};
 use std::alloc::{AllocFailed, Global};
 use std::snapshot::Snapshot;
 
-/// A table with this value in its slot, and the seat that stands for all passes; or the value
+/// A table with this value and no posts in its slot, and the seat that stands for all passes; or the value
 /// back, where there is no memory.
 pub(crate) fn open_table<V: Served>(
     alloc: Global,
     value: V,
+    posts: Vec<Post>,
     passes: usize,
 ) -> Result<(Whole<V>, Place<V>), V>
     requires few { (0 < passes) × (passes ≤ 2 ^ 63) }
     requires stands { V.stands value (V.state value) [] }
+    requires posts { (posts.items ≡ []) × (passes ≤ vec_capacity posts) }
     ensures ok { IfOk result (λ r. IsSized r.0.shared.table_id × (r.0.shared.key.passes ≡ passes) × (r.0.shared.key.value.value ≡ value) × (r.1.table_id ≡ r.0.shared.table_id) × (r.1.me ≡ (opening_view (V.state value) (V.origin value) passes, []))) }
     ensures err { IfErr result (λ v. v ≡ value) }
 {
@@ -33,19 +35,31 @@ pub(crate) fn open_table<V: Served>(
         value: Snapshot::of(&value),
         passes: passes as u64,
     };
-    match one_slot(alloc, Held { value, made: None }) {
+    let held = Held {
+        value,
+        posts,
+        answered: 0,
+    };
+    match one_slot(alloc, held) {
         Ok(slots) => match Table::new(alloc, &[0, 0, 0], slots, &key) {
             Ok(opened) => Ok(opened),
-            Err(Refused { slots }) => {
-                let Held { value, made: _ } = only_one(slots);
-                Err(value)
-            }
+            Err(Refused { slots }) => Err(value_in(only_one(slots))),
         },
-        Err(held) => {
-            let Held { value, made: _ } = held;
-            Err(value)
-        }
+        Err(held) => Err(value_in(held)),
     }
+}
+
+// The value out of what lies in the slot.
+fn value_in<V: Served>(held: Held<V>) -> V
+    ensures { result ≡ held.value }
+{
+    let Held {
+        value,
+        posts,
+        answered: _,
+    } = held;
+    drop(posts);
+    value
 }
 
 // The value in a list of one, or back, where there is no memory.
@@ -91,12 +105,13 @@ pub(crate) fn deal_out<V: Served>(
 {
     let mut place = place;
     let mut dealt = room;
-    for _ in 1..passes {
+    for number in 1..passes {
         let more = deal(top, &mut place);
         add(
             &mut dealt,
             Pass {
                 badge: more.into_badge(),
+                seat: (passes - number) as u64,
             },
         );
     }
@@ -104,6 +119,7 @@ pub(crate) fn deal_out<V: Served>(
         &mut dealt,
         Pass {
             badge: place.into_badge(),
+            seat: 0,
         },
     );
     dealt
@@ -121,7 +137,7 @@ fn add(passes: &mut Vec<Pass>, pass: Pass)
 // One more seat, with one part of those that this seat has, and the last number.
 fn deal<V: Served>(top: &Top<V>, place: &mut Place<V>) -> Place<V>
     requires table { (place.old.table_id ≡ top.now.table_id) × IsSized top.now.table_id }
-    requires idle { (place.old.me.0.stage ≡ Idle) × (1 < place.old.me.0.parts) × (0 < place.old.me.0.spare) }
+    requires idle { (place.old.me.0.stage ≡ Idle) × (place.old.me.0.post ≡ None) × (1 < place.old.me.0.parts) × (0 < place.old.me.0.spare) }
     ensures less { (place.new.table_id ≡ place.old.table_id) × (place.new.id ≡ place.old.id) × (place.new.me ≡ (less_one place.old.me.0, place.old.me.1)) }
     ensures more { (result.table_id ≡ place.old.table_id) × (result.me ≡ (one_more place.old.me.0, [])) }
 {

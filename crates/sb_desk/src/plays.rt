@@ -1,5 +1,6 @@
 //! What each step on the table tells. These types are for the proofs alone.
-ghost use Rattle.sb_desk.specs.Steps.{drew, looked, took, recorded, entries_in, gave, passed, compared, note_of, less_one, one_more, spent_view, told, gathered};
+ghost use Rattle.sb_desk.specs.Groups.{posts_in, IsArranged};
+ghost use Rattle.sb_desk.specs.Steps.{drew, looked, took, asked, recorded, collected, gave, passed, compared, note_of, less_one, one_more, spent_view, told, gathered};
 
 use crate::Served;
 use crate::view::{Held, View};
@@ -20,13 +21,25 @@ impl<V: Served> Play<Option<Held<V>>, View> for Look {
 pub(crate) struct Take;
 
 impl<V: Served> Play<Option<Held<V>>, View> for Take {
-    ghost then = { took (λ x. V.stands x.value) (λ x. V.origin x.value) };
+    ghost then = { took (λ x. V.stands x.value) (λ x. V.origin x.value) posts_in IsArranged };
+}
+
+pub(crate) struct Ask;
+
+impl<V: Served> Play<Option<Held<V>>, View> for Ask {
+    ghost then = { asked posts_in };
 }
 
 pub(crate) struct Record;
 
 impl<V: Served> Play<Option<Held<V>>, View> for Record {
-    ghost then = { recorded (λ seat x. entries_in seat x.made) };
+    ghost then = { recorded (λ x. V.stands x.value) posts_in };
+}
+
+pub(crate) struct Collect;
+
+impl<V: Served> Play<Option<Held<V>>, View> for Collect {
+    ghost then = { collected posts_in };
 }
 
 pub(crate) struct Give;

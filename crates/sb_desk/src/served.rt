@@ -1,36 +1,35 @@
 //! What a desk serves.
-ghost use Rattle.std.specs.Prelude.{◌≡◌, ℕ, Bool, List, ◌++◌};
+ghost use Rattle.std.specs.Prelude.{◌≡◌, ℕ, Bool, List, ◌++◌, map, is_some, true};
+ghost use Rattle.std.specs.List.{All};
 ghost use Rattle.sb_machine.specs.Consistent.{IsConsistent};
 ghost use Rattle.sb_machine.specs.History.{IsLegal};
 ghost use Rattle.sb_machine.specs.Ordered.{IsActInOrder};
 ghost use Rattle.sb_machine.specs.declared.call.Call.{Call};
 ghost use Rattle.sb_machine.specs.declared.history.Entry.{Entry};
 ghost use Rattle.sb_machine.specs.declared.state.State.{State};
-ghost use Rattle.sb_desk.specs.Entries.{made_by, IsReport};
+ghost use Rattle.sb_desk.specs.Entries.{IsReport};
+ghost use Rattle.sb_desk.specs.Posts.{asked_of, group_entries};
 ghost use Rattle.sb_desk.specs.Spared.{Spares};
 ghost use Rattle.sb_desk.specs.declared.report.Origin.{Origin};
 
-use crate::Report;
-use sb_machine::{Answer, Call, Path};
+use crate::{Post, Report};
+use sb_machine::{Call, Path};
 use sb_numbers::JournalSizes;
 
-/// What a step came to.
-#[derive(Drop)]
+/// What stands behind a group of calls. All of it are hints: no clause says anything of them.
+#[derive(Clone, Copy)]
 pub struct Stepped {
-    pub answer: Answer,
-    /// The moment of the tick before the call, in ms since 1970, where something was due.
-    pub tick: Option<u64>,
     /// The marks ([`Served::mark_of`]) of the parts in which there may be something to receive, or a
-    /// free session, that wasn't there before this step. A hint: no clause says anything of it.
+    /// free session, that wasn't there before these calls.
     pub entered: u64,
-    /// Nothing comes due by itself before this moment, in ms since 1970; `u64::MAX` where nothing does. A
-    /// hint too.
+    /// Nothing comes due by itself before this moment, in ms since 1970; `u64::MAX` where nothing does.
     pub soonest: u64,
-    /// What its journal has behind this step. A hint too.
+    /// What its journal has.
     pub sizes: JournalSizes,
 }
 
-/// A namespace that answers calls, each by one entry of a history and at most a tick before it.
+/// A namespace that answers calls, each by one entry of a history and at most a tick before it. What several calls
+/// change is made safe at once.
 pub trait Served {
     /// The state that it holds.
     ghost state: { Self → State };
@@ -48,11 +47,12 @@ pub trait Served {
     /// of several are joined, and a part is among them where all its bits are.
     fn mark_of(path: &Path) -> u64;
 
-    /// Makes a call at a reading of the clock, in ms since 1970. The entries are those of
-    /// whatever seat makes it.
-    fn step(&mut self, reading: u64, call: &Call) -> Stepped
-        requires order { IsActInOrder call.now.act }
-        ensures stands { (seat : ℕ) (from : State) (h : List Entry) → stands self.old from h → stands self.new from (h ++ made_by seat result.tick reading call.now result.answer) }
+    /// Makes these calls one behind another, each at its reading of the clock, and says in each what it came to.
+    fn step_group(&mut self, posts: &mut [Post]) -> Stepped
+        requires order { All (λ p. IsActInOrder p.call.act) posts.old }
+        ensures stands { (from : State) (h : List Entry) → stands self.old from h → stands self.new from (h ++ group_entries posts.new) }
+        ensures asked { map asked_of posts.new ≡ map asked_of posts.old }
+        ensures went { All (λ p. is_some p.went ≡ true) posts.new }
         ensures origin { origin self.new ≡ origin self.old };
 
     /// The numbers of the history.

@@ -2,10 +2,10 @@
 //! `Key`.
 //!
 //! Word 0 is the number of entries, word 1 the next ticket and word 2 the ticket that has the
-//! turn, each modulo 2^64. The one slot has the value.
+//! turn, each modulo 2^64. The one slot has the value, and the calls that were posted.
 ghost use Rattle.std.specs.Prelude.{List};
 
-use crate::{Origin, Served, Stepped};
+use crate::{Origin, Post, Served};
 use sb_machine::{Call, Entry, State};
 use std::collections::LinkedList;
 use std::marker::PhantomData;
@@ -19,10 +19,16 @@ pub enum Stage {
     Waits(u64),
     /// It has the turn, and the value is at home.
     Turn(u64),
-    /// It has the turn and the value, which stands for this history.
-    Out(u64, LinkedList<Entry>),
+    /// It has the turn and the value, which stands for this history, with these posts.
+    Out(u64, LinkedList<Entry>, LinkedList<Post>),
     /// It was joined into another.
     Spent,
+}
+
+/// A call that a seat has posted and not yet collected, and the reading of the clock.
+pub struct Ask {
+    pub reading: u64,
+    pub call: Call,
 }
 
 /// A seat that was joined into another, and what it had seen.
@@ -44,6 +50,7 @@ pub struct View {
     pub seen: LinkedList<Entry>,
     /// How many of the desk's passes it stands for.
     pub parts: u64,
+    pub post: Option<Ask>,
     pub stage: Stage,
     /// Two lists of which the one that is seen is the longer.
     pub one: LinkedList<Entry>,
@@ -51,19 +58,14 @@ pub struct View {
     pub claims: LinkedList<Claim>,
 }
 
-/// The call that a value made last, for the rule: it has no bytes.
-#[derive(Drop)]
-pub struct Made {
-    pub reading: Snapshot<u64>,
-    pub call: Snapshot<Call>,
-    pub stepped: Snapshot<Stepped>,
-}
-
 /// What the slot has.
 #[derive(Drop)]
 pub struct Held<V> {
     pub value: V,
-    pub made: Option<Made>,
+    /// The calls that were posted and not yet collected: first those with an answer, then those that wait.
+    pub posts: Vec<Post>,
+    /// How many have an answer.
+    pub answered: usize,
 }
 
 /// The value as the table is made, and how many passes there are.
@@ -78,9 +80,10 @@ pub struct Turns<V> {
 }
 
 impl<V: Served> atomic_table::TableRule<Option<Held<V>>, View, Key<V>> for Turns<V> {
+    ghost use Rattle.sb_desk.specs.Groups.{posts_in, IsArranged};
     ghost use Rattle.sb_desk.specs.Rule.{Kept, opening_view};
 
-    ghost holds = { λ key. Kept (λ x. V.stands x.value) (λ x. V.origin x.value) (V.state key.value.value) (V.origin key.value.value) key.passes };
+    ghost holds = { λ key. Kept (λ x. V.stands x.value) (λ x. V.origin x.value) posts_in IsArranged (V.state key.value.value) (V.origin key.value.value) key.passes };
 
     ghost first = { λ key. opening_view (V.state key.value.value) (V.origin key.value.value) key.passes };
 }

@@ -6,16 +6,13 @@ use Rattle.std.specs.contracts.option.Option as option
 use Rattle.atomic_table.proofs.owned.Table.TheSendSync as table
 use Rattle.sb_numbers.proofs.board.Board.TheSendSync as board
 use Rattle.sb_desk.proofs.bells.Bells.TheSendSync as bells
+use Rattle.sb_desk.proofs.post.Post.TheSendSync as post
 use Rattle.sb_desk.specs.declared.served.Served.{Ghosts}
 use Rattle.sb_desk.specs.contracts.desk.Desk as desk
 use Rattle.sb_desk.specs.contracts.view.Held as held
-use Rattle.sb_desk.specs.contracts.view.Made as made
-
-made_send : IsSend made.the_row
-made_send = search (crosses, sendable) depth 60 fits 20000
 
 held_send : (V : RattleType) → IsSend V → IsSend (held.the_row V)
-held_send V s = search (crosses, sendable, made_send) depth 60 fits 20000
+held_send V s = search (crosses, sendable, post.the_send) depth 60 fits 20000
 
 slot_send : (V : RattleType) → IsSend V → IsSend (option.the_row (held.the_row V))
 slot_send V s = search (crosses, sendable, held_send) depth 60 fits 20000

@@ -2,7 +2,7 @@
 ghost use Rattle.std.specs.Prelude.{◌≡◌, ℕ, List, ◌++◌, Option, length, IfOk, IfSome};
 ghost use Rattle.sb_machine.specs.Ordered.{IsActInOrder};
 ghost use Rattle.sb_machine.specs.declared.history.Entry.{Entry};
-ghost use Rattle.sb_desk.specs.Desks.{IsOf, IsNew};
+ghost use Rattle.sb_desk.specs.Desks.{Calls, IsOf, IsNew};
 ghost use Rattle.sb_desk.specs.Entries.{made_by};
 ghost use Rattle.sb_desk.specs.Lists.{Each, IsEnd};
 
@@ -14,19 +14,44 @@ use std::sync::Wait;
 use std::thread;
 use std::thread::Threads;
 
-/// The same creation at two passes on one thread: whether the first call is carried out, whether the second
-/// is refused since the queue is there, and the numbers of the history. `None` is want of memory.
+/// The same creation at two passes on one thread, one call after the other: whether the first is carried out, whether
+/// the second is refused since the queue is there, and the numbers of the history. `None` is want of memory.
 pub(crate) fn on_one_thread<R: Wait>(
     rt: &R,
     alloc: Global,
     reading: u64,
-    call: &Call,
+    call: Call,
 ) -> Option<(bool, bool, Report)>
-    requires { IsActInOrder call.now.act }
+    requires { IsActInOrder call.act }
 {
-    let (desk, passes) = Desk::new(alloc, OneQueue::new(), 2).ok()?;
+    let Ok((desk, passes)) = Desk::new(alloc, OneQueue::new(), 2) else {
+        drop(call);
+        return None;
+    };
     let (one, other) = pair_of(&desk, passes);
     let (one, other, first, second) = one_then_other(rt, &desk, one, other, reading, call);
+    let (is_done, is_there) = (is_done(first), is_there(second));
+    let report = numbers_of_two(alloc, desk, one, other)?;
+    Some((is_done, is_there, report))
+}
+
+/// The same, where both calls are posted before an answer is collected.
+pub(crate) fn as_one_group<R: Wait>(
+    rt: &R,
+    alloc: Global,
+    reading: u64,
+    call: Call,
+    same: Call,
+) -> Option<(bool, bool, Report)>
+    requires { IsActInOrder call.act × IsActInOrder same.act }
+{
+    let Ok((desk, passes)) = Desk::new(alloc, OneQueue::new(), 2) else {
+        drop(call);
+        drop(same);
+        return None;
+    };
+    let (one, other) = pair_of(&desk, passes);
+    let (one, other, first, second) = both_posted(rt, &desk, one, other, reading, call, same);
     let (is_done, is_there) = (is_done(first), is_there(second));
     let report = numbers_of_two(alloc, desk, one, other)?;
     Some((is_done, is_there, report))
@@ -108,39 +133,71 @@ fn list_of<V: Served>(alloc: Global, desk: &Desk<V>, one: Pass, other: Pass) -> 
     Some(passes)
 }
 
-/// The first calls, the two tell each other, and then the other calls: it has seen both calls.
+/// The first calls, the two tell each other, and then the other calls the same: it has seen both calls.
 pub(crate) fn one_then_other<V: Served, R: Wait>(
     rt: &R,
     desk: &Desk<V>,
     one: Pass,
     other: Pass,
     reading: u64,
-    call: &Call,
+    call: Call,
 ) -> (Pass, Pass, Answer, Answer)
     requires new { IsNew desk.now one × IsNew desk.now other }
-    requires order { IsActInOrder call.now.act }
+    requires order { IsActInOrder call.act }
     ensures seen { (t : Option ℕ) × (u : Option ℕ) × (a : List Entry) × (b : List Entry) × (result.1.seen ≡ a ++ b)
-        × IsEnd (made_by one.seat t reading call.now result.2) a × IsEnd (made_by other.seat u reading call.now result.3) b }
+        × IsEnd (made_by one.seat t reading call result.2) a × IsEnd (made_by other.seat u reading call result.3) b }
     ensures desk { IsOf desk.now result.0 × IsOf desk.now result.1 }
 {
-    let (one, first) = desk.call(rt, one, reading, call);
+    let (one, call, first) = desk.call(rt, one, reading, call);
     let (one, other) = desk.tell(one, other);
-    let (other, second) = desk.call(rt, other, reading, call);
+    let (other, call, second) = desk.call(rt, other, reading, call);
+    drop(call);
     (one, other, first, second)
 }
 
-// So many calls at this pass.
+/// Both post a call, and then both collect.
+pub(crate) fn both_posted<V: Served, R: Wait>(
+    rt: &R,
+    desk: &Desk<V>,
+    one: Pass,
+    other: Pass,
+    reading: u64,
+    call: Call,
+    same: Call,
+) -> (Pass, Pass, Answer, Answer)
+    requires new { IsNew desk.now one × IsNew desk.now other }
+    requires order { IsActInOrder call.act × IsActInOrder same.act }
+    ensures one { Calls one reading call result.0 result.2 }
+    ensures other { Calls other reading same result.1 result.3 }
+    ensures desk { IsOf desk.now result.0 × IsOf desk.now result.1 }
+{
+    let one = desk.post(rt, one, reading, call);
+    let other = desk.post(rt, other, reading, same);
+    let (one, call, first) = desk.collect(rt, one);
+    let (other, same, second) = desk.collect(rt, other);
+    drop(call);
+    drop(same);
+    (one, other, first, second)
+}
+
+// So many calls at this pass; none where there is no memory for a copy of it.
 fn repeat<V: Served, R: Wait>(rt: &R, desk: &Desk<V>, pass: Pass, times: u64, call: &Call) -> Pass
     requires desk { IsOf desk.now pass }
     requires order { IsActInOrder call.now.act }
     ensures { IsOf desk.now result }
 {
+    let Ok(copy) = call.clone() else {
+        return pass;
+    };
+    let mut call = copy;
     let mut pass = pass;
     for _ in 0..times {
-        let (next, answer) = desk.call(rt, pass, 0, call);
+        let (next, again, answer) = desk.call(rt, pass, 0, call);
         drop(answer);
         pass = next;
+        call = again;
     }
+    drop(call);
     pass
 }
 

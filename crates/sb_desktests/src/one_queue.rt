@@ -1,9 +1,12 @@
-ghost use Rattle.std.specs.Prelude.{◌≡◌, ◌+◌, true, [], Err};
+ghost use Rattle.std.specs.Prelude.{◌≡◌, ◌+◌, ◌++◌, true, List, [], Err, is_some};
 ghost use Rattle.sb_machine.specs.Namespace.{default_description};
+ghost use Rattle.sb_machine.specs.declared.history.Entry.{Entry};
+ghost use Rattle.sb_machine.specs.declared.state.State.{State};
 ghost use Rattle.sb_desk.specs.Entries.{counted};
+ghost use Rattle.sb_desk.specs.Posts.{asked_of, post_entries};
 ghost use Rattle.sb_desktests.specs.Namespaces.{creation, no_disks, none_spared, state_at, StandsFor, GoesOn};
 
-use sb_desk::{Report, Served, Stepped};
+use sb_desk::{Post, Report, Served, Stepped, Went};
 use sb_machine::{Act, Answer, Answered, Call, Description, Path, Refusal, Reply};
 use sb_numbers::JournalSizes;
 
@@ -32,6 +35,17 @@ impl OneQueue {
                 refused: 0,
             },
         }
+    }
+
+    // Makes the call of a post, and says in it what it came to.
+    fn step(&mut self, post: &mut Post)
+        ensures stands { (from : State) (h : List Entry) → StandsFor self.old.made self.old.numbers from h → StandsFor self.new.made self.new.numbers from (h ++ post_entries post.new) }
+        ensures asked { asked_of post.new ≡ asked_of post.old }
+        ensures went { is_some post.new.went ≡ true }
+    {
+        let answer = self.answer(post.reading, &post.call);
+        let before = post.went.replace(Went { answer, tick: None });
+        drop(before);
     }
 
     fn answer(&mut self, reading: u64, call: &Call) -> Answer
@@ -74,10 +88,11 @@ impl Served for OneQueue {
         0
     }
 
-    fn step(&mut self, reading: u64, call: &Call) -> Stepped {
+    fn step_group(&mut self, posts: &mut [Post]) -> Stepped {
+        for index in 0..posts.len() {
+            self.step(&mut posts[index]);
+        }
         Stepped {
-            answer: self.answer(reading, call),
-            tick: None,
             entered: 0,
             soonest: u64::MAX,
             sizes: JournalSizes {

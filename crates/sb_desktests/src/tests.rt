@@ -1,7 +1,7 @@
 ghost use Rattle.std.specs.Prelude.{IfOk};
 ghost use Rattle.sb_machine.specs.Ordered.{IsActInOrder};
 
-use crate::callers::{on_eight_threads, on_one_thread};
+use crate::callers::{as_one_group, on_eight_threads, on_one_thread};
 use sb_desk::Report;
 use sb_machine::{Act, Call, Description};
 use sb_model::Text;
@@ -36,8 +36,25 @@ fn passes_tell_each_other(rt: HostRuntime) -> Result<(), Fail> {
     let Ok(call) = creation(rt.alloc()) else {
         panic!(rt; "no memory")
     };
-    let ended = on_one_thread(&rt, rt.alloc(), 5, &call);
-    drop(call);
+    let ended = on_one_thread(&rt, rt.alloc(), 5, call);
+    let Some((is_done, is_there, report)) = ended else {
+        panic!(rt; "no memory")
+    };
+    assert!(rt; is_done);
+    assert!(rt; is_there);
+    assert_eq!(rt; numbers_of(report), (2, 1, 1));
+    Ok(())
+}
+
+#[test]
+fn calls_are_posted_together(rt: HostRuntime) -> Result<(), Fail> {
+    let Ok(call) = creation(rt.alloc()) else {
+        panic!(rt; "no memory")
+    };
+    let Ok(same) = creation(rt.alloc()) else {
+        panic!(rt; "no memory")
+    };
+    let ended = as_one_group(&rt, rt.alloc(), 5, call, same);
     let Some((is_done, is_there, report)) = ended else {
         panic!(rt; "no memory")
     };

@@ -5,17 +5,18 @@ use Rattle.std.specs.Prelude.{◌||◌}
 use Rattle.std.specs.Bool.{MatchBool}
 use Rattle.sb_journal.specs.Disks.{Disks}
 use Rattle.sb_machine.specs.Events.{replayed, AreUndecided, MayLeave}
-use Rattle.sb_machine.specs.History.{Log, after_entries, is_disk_fault}
+use Rattle.sb_machine.specs.History.{Log, after_entries, fresh_log, is_disk_fault}
 use Rattle.sb_machine.specs.declared.call.Call.{Call}
 use Rattle.sb_machine.specs.declared.call.Event.{Event}
 use Rattle.sb_machine.specs.declared.history.Entry.{Entry}
 use Rattle.sb_machine.specs.declared.history.Entry.TheVariants.{Ticked, Answered as Replied}
 use Rattle.sb_machine.specs.declared.reply.Refusal.TheVariants.{DiskFault}
 use Rattle.sb_machine.specs.declared.state.State.{State}
-use Rattle.sb_node.specs.Groups.{has_fault, have_fault, after_groups, flattened, FollowGroups}
+use Rattle.sb_node.specs.Groups.{has_fault, have_fault, after_groups, flattened, AreSome, FollowByGroups, FollowGroups}
+use Rattle.sb_node.proofs.Counts.{after_on}
 use Rattle.sb_node.proofs.Made.{replayed_on}
 
-by_bool : (b : Bool) (X Y Z W : Type 0) → MatchBool b X Y → (b ≡ true → X → Z) → (b ≡ false → Y → W) → MatchBool b Z W
+pub by_bool : (b : Bool) (X Y Z W : Type 0) → MatchBool b X Y → (b ≡ true → X → Z) → (b ≡ false → Y → W) → MatchBool b Z W
 by_bool true X Y Z W is here other = here refl is
 by_bool false X Y Z W is here other = other refl is
 
@@ -35,9 +36,44 @@ groups_on on l (es ∷ rest) group was mid now run stopped goes =
           (λ none more. groups_on on next rest group run.1 mid now more (λ fault. stopped (ap (λ (b : Bool). b || have_fault rest) none ∙ fault)) (λ runs. goes (ap (λ (b : Bool). b || have_fault rest) none ∙ runs))),
     )
 
+-- one more that isn't empty
+pub some_on : (groups : List (List Entry)) (group : List Entry) → AreSome groups → (group ≡ [] → ⊥) → AreSome (groups ++ group ∷ [])
+some_on [] [] are some = absurd (some refl)
+some_on [] (e ∷ es) are some = tt
+some_on ([] ∷ rest) group are some = absurd are
+some_on ((e ∷ es) ∷ rest) group are some = some_on rest group are some
+
+-- there are none of a history without entries
+pub follows_none : (on other : Bool) (start : State) (was now : Disks) → FollowByGroups on start [] was now → FollowByGroups other start [] was now
+follows_none on other start was now is = by_groups is.0 is.1 is.2 is.3
+  where
+    by_groups : (groups : List (List Entry)) → AreSome groups → flattened groups ≡ [] → FollowGroups on (fresh_log start) groups was now → FollowByGroups other start [] was now
+    by_groups [] are flat same = ([], tt, refl, same)
+    by_groups ([] ∷ rest) are flat follow = absurd are
+    by_groups ((e ∷ es) ∷ rest) are flat follow = absurd cc
+
 pub flattened_on : (groups : List (List Entry)) (group : List Entry) → flattened (groups ++ group ∷ []) ≡ flattened groups ++ group
 flattened_on [] group = append-nil group
 flattened_on (es ∷ rest) group = ap (λ (l : List Entry). es ++ l) (flattened_on rest group) ∙ sym (append_assoc es (flattened rest) group)
+
+-- they end where their entries do
+pub groups_end : (l : Log) (groups : List (List Entry)) → after_groups l groups ≡ after_entries l (flattened groups)
+groups_end l [] = refl
+groups_end l (es ∷ rest) = groups_end (after_entries l es) rest ∙ sym (after_on l es (flattened rest))
+
+either_on : (b c d : Bool) → (b || (c || d)) ≡ ((b || c) || d)
+either_on true c d = refl
+either_on false c d = refl
+
+pub fault_both : (h es : List Entry) → has_fault (h ++ es) ≡ (has_fault h || has_fault es)
+fault_both [] es = refl
+fault_both (Ticked seat t ∷ h) es = fault_both h es
+fault_both (Replied seat reading call answer ∷ h) es = ap (λ (b : Bool). is_disk_fault answer || b) (fault_both h es) ∙ either_on (is_disk_fault answer) (has_fault h) (has_fault es)
+
+-- a disk failed in them where it did in one of their entries
+pub fault_in : (groups : List (List Entry)) → have_fault groups ≡ has_fault (flattened groups)
+fault_in [] = refl
+fault_in (es ∷ rest) = ap (λ (b : Bool). has_fault es || b) (fault_in rest) ∙ sym (fault_both es (flattened rest))
 
 -- ---- what a failing disk leaves
 

@@ -1,12 +1,11 @@
 -- The events on the disks, before and after a step.
-use Rattle.std.proofs.Common.{◌≡◌, ℕ, List, [], ◌∷◌, ◌++◌, map, Bool, true, false, Option, Some, None, Result, Ok, Err, refl, sym, ◌∙◌, ap, append_assoc, max, min, arith}
+use Rattle.std.proofs.Common.{◌≡◌, ℕ, List, [], ◌∷◌, ◌++◌, map, Bool, true, false, Option, Some, None, Result, Ok, Err, refl, sym, ◌∙◌, ap, max, min, arith}
 use Rattle.std.specs.Prelude.{◌&&◌, not, if◌then◌else◌, is_some}
-use Rattle.std.proofs.lemmas.List.{append-nil, map-append}
 use Rattle.sb_outside.specs.declared.disk.Disk.{Ghosts}
 use Rattle.sb_codec.specs.EventBytes.{read_event}
 use Rattle.sb_journal.specs.declared.journal.Journal.{Journal}
 use Rattle.sb_journal.specs.Journals.{journal_disks, HoldsFile}
-use Rattle.sb_journal.specs.Text.{File, with_payload}
+use Rattle.sb_journal.specs.Text.{File}
 use Rattle.sb_machine.specs.Accounts.{changing}
 use Rattle.sb_machine.specs.Answers.{is_change, moment_of, max_moment}
 use Rattle.sb_machine.specs.Due.{is_due}
@@ -20,27 +19,11 @@ use Rattle.sb_machine.specs.declared.reply.Answered.{Answered}
 use Rattle.sb_machine.specs.declared.reply.Refusal.{Refusal}
 use Rattle.sb_machine.specs.declared.reply.Refusal.TheVariants.{DiskFault, OutOfMemory, Exhausted}
 use Rattle.sb_machine.specs.declared.state.State.{State}
-use Rattle.sb_recorder.specs.Recorders.{IsLogged}
 use Rattle.sb_node.specs.Nodes.{events_of, events_on}
 use Rattle.sb_node.specs.Steps.{log_of, entries_with, tick_events, call_events, IsTicked, IsTickFault}
 
-held_events : {D : Type 0} {B : Ghosts D} (j : Journal D B) (file : File) (salt : ℕ) → HoldsFile j file → events_on (journal_disks j) salt ≡ map read_event file.payloads
+pub held_events : {D : Type 0} {B : Ghosts D} (j : Journal D B) (file : File) (salt : ℕ) → HoldsFile j file → events_on (journal_disks j) salt ≡ map read_event file.payloads
 held_events j file salt holds = ap events_of (holds.reads salt).1
-
--- one is recorded
-pub one_more : {D : Type 0} {B : Ghosts D} (j new : Journal D B) (last : ℕ) (file : File) (event : Event) (salt : ℕ) → HoldsFile j file → IsLogged new last file event → events_on (journal_disks new) salt ≡ events_on (journal_disks j) salt ++ Some event ∷ []
-one_more j new last file event salt holds logged =
-    held_events new (with_payload file logged.payload) salt logged.holds
-    ∙ map-append read_event file.payloads (logged.payload ∷ [])
-    ∙ ap (λ (e : Option Event). map read_event file.payloads ++ e ∷ []) logged.reads
-    ∙ ap (λ (l : List (Option Event)). l ++ Some event ∷ []) (sym (held_events j file salt holds))
-
--- none is recorded where the journal stays
-pub none_more : {D : Type 0} {B : Ghosts D} (j new : Journal D B) (salt : ℕ) (none : List Event) → new ≡ j → none ≡ [] → events_on (journal_disks new) salt ≡ events_on (journal_disks j) salt ++ map Some none
-none_more {D} {B} j new salt none same nothing =
-    ap (λ (x : Journal D B). events_on (journal_disks x) salt) same
-    ∙ sym (append-nil (events_on (journal_disks j) salt))
-    ∙ ap (λ (l : List Event). events_on (journal_disks j) salt ++ map Some l) (sym nothing)
 
 -- ---- the events of a call
 
@@ -102,12 +85,3 @@ step_changing (Some m) seat reading t s0 s1 stopped call answer at went calm = r
     from_moment =
         ap (λ (l : List Event). Tick t ∷ l) (call_changing seat reading t (advanced s0 t) (is_some stopped) (Some (seat, t)) call answer there new
         ∙ ap (λ (s : State). call_events t call s answer) (sym went.3))
-
-pub step_events : (before mid after : List (Option Event)) (tick : Option ℕ) (seat reading t : ℕ) (s0 s1 : State) (stopped : Option ℕ) (call : Call) (answer : Result Answered Refusal) → t ≡ moment_of s0 reading → IsTicked tick t s0 s1 → is_due t s1.space ≡ false
-    → mid ≡ before ++ map Some (tick_events tick) → after ≡ mid ++ map Some (call_events t call s1 answer) → after ≡ before ++ map Some (changing (log_of s0 stopped) (entries_with tick seat reading call answer))
-step_events before mid after tick seat reading t s0 s1 stopped call answer at went calm first second =
-    second
-    ∙ ap (λ (l : List (Option Event)). l ++ map Some (call_events t call s1 answer)) first
-    ∙ append_assoc before (map Some (tick_events tick)) (map Some (call_events t call s1 answer))
-    ∙ ap (λ (l : List (Option Event)). before ++ l) (sym (map-append Some (tick_events tick) (call_events t call s1 answer)))
-    ∙ ap (λ (l : List Event). before ++ map Some l) (sym (step_changing tick seat reading t s0 s1 stopped call answer at went calm))

@@ -15,11 +15,6 @@ pub mod Brief
 pub mod Merely
 pub mod Settled
 pub mod Counts
-pub mod Failing
-pub mod Undecided
-pub mod Following
-pub mod Standing
-pub mod Resting
 pub mod Crossing
 pub mod Sparing
 pub mod Salts
@@ -30,3 +25,11 @@ pub mod ByGroups
 pub mod Together
 pub mod Posts
 pub mod Grouped
+pub mod Failing
+pub mod Following
+pub mod Standing
+pub mod Refused
+pub mod Resting
+pub mod Ones
+pub mod Sealing
+pub mod Sealed

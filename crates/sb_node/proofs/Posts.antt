@@ -1,12 +1,13 @@
 -- Posts of which one was carried out.
-use Rattle.std.proofs.Common.{◌≡◌, ◌<◌, ◌≤◌, ◌+◌, ℕ, zero, suc, List, [], ◌∷◌, ◌++◌, map, take, set, get_or, length, refl, sym, ap, ◌∙◌, arith}
+use Rattle.std.proofs.Common.{◌≡◌, ◌<◌, ◌≤◌, ◌+◌, ℕ, zero, suc, List, [], ◌∷◌, ◌++◌, map, take, set, get_or, length, refl, sym, ap, ◌∙◌, subst, arith}
 use Rattle.std.specs.List.{All}
-use Rattle.std.proofs.lemmas.List.{append-nil, length-map, map-append, take_more_set}
-use Rattle.std.proofs.lemmas.List.Elements.{All-cons, All-head, All-tail}
+use Rattle.std.proofs.lemmas.List.{append-nil, length-map, map-append, take_more, take_more_set}
+use Rattle.std.proofs.lemmas.List.Elements.{All-append, All-cons, All-head, All-nil, All-tail}
 use Rattle.std.proofs.lemmas.Grind.{flat_map-append}
 use Rattle.sb_machine.specs.declared.history.Entry.{Entry}
-use Rattle.sb_node.specs.declared.ahead.Post.{Post}
-use Rattle.sb_node.specs.Posts.{asked_of, fault_entries, fault_entry, group_entries, post_entries}
+use Rattle.sb_desk.specs.Posts.{asked_of, group_entries, post_entries}
+use Rattle.sb_desk.specs.declared.post.Post.{Post}
+use Rattle.sb_node.specs.Posts.{fault_entries, fault_entry}
 use Rattle.sb_node.specs.Groups.{failed}
 use Rattle.sb_node.proofs.Together.{failed_on}
 
@@ -29,8 +30,20 @@ more_entries posts i post lt =
     ∙ flat_map-append post_entries (take i posts) (post ∷ [])
     ∙ ap (λ (l : List Entry). group_entries (take i posts) ++ l) (append-nil (post_entries post))
 
+-- the same of posts that are only read
+pub read_more : (posts : List Post) (i : ℕ) (post : Post) → i < length posts → post ≡ get_or posts i post → group_entries (take (i + 1) posts) ≡ group_entries (take i posts) ++ post_entries post
+read_more posts i post lt is =
+    ap group_entries (take_more posts i post lt)
+    ∙ flat_map-append post_entries (take i posts) (get_or posts i post ∷ [])
+    ∙ ap (λ (l : List Entry). group_entries (take i posts) ++ l) (append-nil (post_entries (get_or posts i post)))
+    ∙ ap (λ (p : Post). group_entries (take i posts) ++ post_entries p) (sym is)
+
 as_long : (posts asked : List Post) → map asked_of posts ≡ map asked_of asked → length posts ≡ length asked
 as_long posts asked same = sym (length-map posts asked_of) ∙ ap length same ∙ length-map asked asked_of
+
+-- what holds of those before one, and of it
+pub all_taken_on : (P : Post → Type 0) (posts : List Post) (i : ℕ) (post : Post) → i < length posts → All P (take i posts) → P post → All P (take (i + 1) (set posts i post))
+all_taken_on P posts i post lt all one = subst (All P) (sym (take_more_set posts i post lt)) (All-append P (take i posts) (post ∷ []) all (All-cons P post [] one (All-nil P)))
 
 -- there are as many as were asked
 pub within : (posts asked : List Post) (i : ℕ) → map asked_of posts ≡ map asked_of asked → i < length asked → i < length posts

@@ -1,13 +1,16 @@
--- A step behind a rest, in which the journal may have gone on with a new file.
-use Rattle.std.proofs.Common.{◌≡◌, ◌≢◌, inl, ℕ, List, [], ◌++◌, Bool, true, false, Option, Some, None, Result, Ok, Err, refl, sym, ap, ◌∙◌, subst, arith}
+-- A group behind a rest, in which the journal may have gone on with a new file.
+use Rattle.std.proofs.Common.{◌≡◌, ◌≢◌, ℕ, List, [], ◌∷◌, ◌++◌, filter, length, true, false, true≢false, Option, Some, None, Result, Ok, Err, refl, sym, ap, ◌∙◌, subst, arith}
 use Rattle.std.specs.Prelude.{is_some, IfErr, IfSome}
-use Rattle.sb_desk.specs.Entries.{made_by}
-use Rattle.sb_journal.specs.Disks.{Disks, AreQuiet, NoneFell, OneFault, SameHonesty}
+use Rattle.sb_desk.specs.Entries.{is_refused}
+use Rattle.sb_desk.specs.Spared.{SparesFrom}
+use Rattle.sb_desk.specs.declared.post.Post.{Post}
+use Rattle.sb_journal.specs.Disks.{AreQuiet, NoneFell, OneFault, SameHonesty}
 use Rattle.sb_journal.specs.Journals.{journal_disks}
 use Rattle.sb_journal.specs.declared.journal.Journal.{Journal}
-use Rattle.sb_journal.proofs.Pairs.{started_pair}
+use Rattle.sb_journal.proofs.Holding.{fault_behind}
+use Rattle.sb_machine.specs.Accounts.{changing}
 use Rattle.sb_machine.specs.Answers.{moment_of}
-use Rattle.sb_machine.specs.History.{Log, IsLegalFrom}
+use Rattle.sb_machine.specs.History.{Log, IsLegalFrom, after_entries, stops}
 use Rattle.sb_machine.specs.declared.call.Call.{Call}
 use Rattle.sb_machine.specs.declared.history.Entry.{Entry}
 use Rattle.sb_machine.specs.declared.reply.Answered.{Answered}
@@ -15,54 +18,18 @@ use Rattle.sb_machine.specs.declared.reply.Refusal.{Refusal}
 use Rattle.sb_machine.specs.declared.reply.Refusal.TheVariants.{DiskFault, Stopped, OutOfMemory}
 use Rattle.sb_machine.specs.declared.state.State.{State}
 use Rattle.sb_outside.specs.declared.disk.Disk.{Ghosts}
+use Rattle.sb_node.specs.Groups.{has_fault, FollowGroups, Rests}
 use Rattle.sb_node.specs.declared.node.Node.{Node}
-use Rattle.sb_node.specs.Nodes.{node_disks, node_journal, node_log, node_state, node_stopped, node_ticked, IsDurable, IsKept, LeadsToOneOf}
-use Rattle.sb_node.specs.Serving.{node_goes_on, node_report, opened_disks, raised, states_at, with_entries, FollowEntries, IsUndecided, Rests, StandsFor}
+use Rattle.sb_node.specs.Nodes.{node_disks, node_journal, node_log, node_state, node_stopped, node_ticked, IsDurable, IsKept}
+use Rattle.sb_node.specs.Posts.{fault_entries}
+use Rattle.sb_node.specs.Serving.{node_goes_on, node_report, opened_disks, raised, with_entries, StandsFor}
 use Rattle.sb_node.specs.Steps.{entries_with, is_spared, log_of, ticked_to, IsStep}
-use Rattle.sb_node.proofs.Counts.{fault_numbers}
-use Rattle.sb_node.proofs.Following.{rests_still}
-use Rattle.sb_node.proofs.Standing.{no_tick, stands_on, told_with, Goes}
-use Rattle.sb_node.proofs.Stepping.{fault_step}
-use Rattle.sb_node.proofs.Whole.{fell_on, honest_on, one_fault_on, quiet_on}
-
--- ---- its moments
-
--- those of a step behind a rest
-behind_rest : (on : Bool) (s : State) (stopped tick : Option ℕ) (seat reading : ℕ) (call : Call) (answer : Result Answered Refusal) (was mid now : Disks) → Rests on s was mid
-    → FollowEntries false [] (log_of s stopped) (entries_with tick seat reading call answer) mid now → FollowEntries on [] (log_of s stopped) (entries_with tick seat reading call answer) was now
-behind_rest on s stopped None seat reading call answer was mid now rests is = (is.0, is.1, subst (λ (d : Disks). Rests on s was d) (sym is.2) rests, is.3, is.4)
-behind_rest on s stopped (Some t) seat reading call answer was mid now rests is = (is.0, is.1, subst (λ (d : Disks). Rests on s was d) (sym is.2) rests, is.3, is.4)
-
--- a disk failed in a rest
-failed_rest : (on : Bool) (s : State) (stopped : Option ℕ) (seat reading : ℕ) (call : Call) (was now : Disks) → Rests on s was now → IsDurable now s → FollowEntries on [] (log_of s stopped) (entries_with None seat reading call (Err DiskFault)) was now
-failed_rest on s stopped seat reading call was now rests durable =
-    (now, now, rests, started_pair now (LeadsToOneOf (states_at s reading call (Err DiskFault))) (λ x y on_x on_y. inl (durable x y on_x on_y)), refl)
-
--- ---- a step alone
-
--- what it says of the node before it and behind it
-pub record Alone {D : Type 0} {B : Ghosts D} (old new : Node D B) (seat reading : ℕ) (call : Call) (answer : Result Answered Refusal) : Type 0 where
-  pub step : IsStep (node_log old) (entries_with (node_ticked new) seat reading call answer) (node_log new)
-  pub numbers : node_report new ≡ with_entries (node_report old) (node_log old) (entries_with (node_ticked new) seat reading call answer)
-  pub origin : opened_disks new ≡ opened_disks old
-  pub goes_on : node_goes_on new ≡ node_goes_on old
-  pub honesty : SameHonesty (node_disks old) (node_disks new)
-  pub later : NoneFell (node_disks old) (node_disks new)
-  pub failed : answer ≡ Err DiskFault → (n : ℕ) × (node_stopped new ≡ Some n) × OneFault (node_disks old) (node_disks new) n
-  pub stopped : (n : ℕ) → answer ≡ Err (Stopped n) → node_stopped old ≡ Some n
-  pub stays : (n : ℕ) → node_stopped old ≡ Some n → (answer ≡ Err (Stopped n)) × (node_stopped new ≡ Some n)
-  pub kept : IsKept old → node_stopped new ≡ None → IsKept new
-  pub untouched : IfErr answer (λ e. e ≢ DiskFault → node_ticked new ≡ None → node_journal new ≡ node_journal old)
-  pub durable : IsKept old → node_stopped new ≡ None → IsDurable (node_disks new) (node_state new)
-  pub follows : IsKept old → FollowEntries false [] (node_log old) (entries_with (node_ticked new) seat reading call answer) (node_disks old) (node_disks new)
-  pub quiet : answer ≢ Err DiskFault → AreQuiet (node_disks old) (node_disks new)
-  pub undecided_now : IsKept old → answer ≡ Err DiskFault → IsUndecided (node_disks new) (node_state new) reading call
-  pub ticked : IfSome (node_ticked new) (λ t. t ≡ moment_of (node_state old) reading)
-  pub free : is_spared (moment_of (node_state old) reading) call (ticked_to (node_ticked new) (node_state old)) ≡ true → answer ≢ Err OutOfMemory
-
-untouched_by : {D : Type 0} {B : Ghosts D} (old new : Journal D B) (tick : Option ℕ) (n : ℕ) (answer : Result Answered Refusal) → answer ≡ Err (Stopped n) → tick ≡ None → IfErr answer (λ e. e ≢ DiskFault → tick ≡ None → new ≡ old) → new ≡ old
-untouched_by old new tick n (Ok reply) is none left = absurd cc
-untouched_by old new tick n (Err e) is none left = left (λ fault. absurd cc) none
+use Rattle.sb_node.proofs.Counts.{still_numbers}
+use Rattle.sb_node.proofs.Following.{behind_rest, failed_rest, rests_still}
+use Rattle.sb_node.proofs.Refused.{failed_all, faults_fail, refused_some, refused_spares, refused_still}
+use Rattle.sb_node.proofs.Sparing.{step_spares}
+use Rattle.sb_node.proofs.Standing.{stands_on, Goes}
+use Rattle.sb_node.proofs.Whole.{fell_on, honest_on, quiet_on}
 
 -- ---- a rest
 
@@ -96,11 +63,8 @@ still_rested n = record {
   honesty = (refl, refl);
 }
 
--- the step behind it
-module _ {D : Type 0} {B : Ghosts D} (old mid new : Node D B) (seat reading : ℕ) (call : Call) (answer : Result Answered Refusal) (rested : Rested old mid) (alone : Alone mid new seat reading call answer) where
-  abbrev made : List Entry
-  made = entries_with (node_ticked new) seat reading call answer
-
+-- the group behind it
+module _ {D : Type 0} {B : Ghosts D} (old mid new : Node D B) (es : List Entry) (rested : Rested old mid) (go : Goes false mid new es) where
   same_log : node_log mid ≡ node_log old
   same_log = ap (λ (s : State). log_of s (node_stopped mid)) rested.state ∙ ap (log_of (node_state old)) rested.running
 
@@ -109,66 +73,162 @@ module _ {D : Type 0} {B : Ghosts D} (old mid new : Node D B) (seat reading : �
     where
       by_mid : (o : Option ℕ) → node_stopped mid ≡ o → node_stopped mid ≡ None
       by_mid None is = is
-      by_mid (Some n) is = let never : Some n ≡ None = sym (alone.stays n is).1 ∙ runs in absurd cc
+      by_mid (Some n) is = let never : Some n ≡ None = sym (go.stays n is).0 ∙ runs in absurd cc
 
-  ran_old : node_stopped old ≡ None → node_stopped mid ≡ None
-  ran_old runs = rested.running ∙ runs
+  failed_behind : node_stopped old ≡ None → (n : ℕ) → node_stopped new ≡ Some n → OneFault (node_disks old) (node_disks new) n × (node_state new ≡ node_state old) × (has_fault es ≡ true)
+  failed_behind was n is =
+      let fault = go.failed (rested.running ∙ was) n is in
+      (fault_behind (node_disks old) (node_disks mid) (node_disks new) n rested.quiet fault.0, fault.1 ∙ rested.state, fault.2)
 
-  stays_mid : (n : ℕ) → node_stopped old ≡ Some n → node_stopped mid ≡ Some n
-  stays_mid n is = rested.running ∙ is
+  stays_behind : (n : ℕ) → node_stopped old ≡ Some n → (node_stopped new ≡ Some n) × (node_disks new ≡ node_disks old) × (node_state new ≡ node_state old) × (has_fault es ≡ false) × (changing (node_log old) es ≡ [])
+  stays_behind n was =
+      let same = go.stays n (rested.running ∙ was) in
+      (same.0, same.1 ∙ rested.still n was, same.2 ∙ rested.state, same.3, ap (λ (l : Log). changing l es) (sym same_log) ∙ same.4)
 
-  unticked : (n : ℕ) → node_stopped mid ≡ Some n → node_ticked new ≡ None
-  unticked n is = no_tick (node_ticked new) (node_state mid) n seat reading call answer (subst (λ (o : Option ℕ). IsLegalFrom (log_of (node_state mid) o) made) is alone.step.legal)
-
-  untouched_mid : (n : ℕ) → node_stopped mid ≡ Some n → node_disks new ≡ node_disks mid
-  untouched_mid n is = ap (λ (j : Journal D B). journal_disks j) (untouched_by (node_journal mid) (node_journal new) (node_ticked new) n answer (alone.stays n is).0 (unticked n is) alone.untouched)
-
-  follows_behind : IsKept old → node_stopped old ≡ None → FollowEntries (node_goes_on old) [] (node_log old) made (node_disks old) (node_disks new)
-  follows_behind kept runs =
-      behind_rest (node_goes_on old) (node_state old) (node_stopped old) (node_ticked new) seat reading call answer (node_disks old) (node_disks mid) (node_disks new) (rested.rests kept)
-      (subst (λ (l : Log). FollowEntries false [] l made (node_disks mid) (node_disks new)) same_log (alone.follows (rested.kept kept (ran_old runs))))
-
-  pub goes_behind : Goes old new seat reading call answer
+  pub goes_behind : Goes (node_goes_on old) old new es
   goes_behind = record {
-    step = subst (λ (l : Log). IsStep l made (node_log new)) same_log alone.step;
-    numbers = alone.numbers ∙ ap (λ (l : Log). with_entries (node_report mid) l made) same_log ∙ ap (λ r. with_entries r (node_log old) made) rested.report;
-    origin = alone.origin ∙ rested.origin;
-    goes_on = alone.goes_on ∙ rested.goes_on;
-    honesty = honest_on (node_disks old) (node_disks mid) (node_disks new) rested.honesty alone.honesty;
-    later = fell_on (node_disks old) (node_disks mid) (node_disks new) rested.later alone.later;
-    failed = λ is. one_fault_on (node_disks old) (node_disks mid) (node_disks new) (node_stopped new) rested.quiet (alone.failed is);
-    stopped = λ n is. sym rested.running ∙ alone.stopped n is;
-    stays = λ n is. alone.stays n (stays_mid n is);
-    kept = λ kept runs. alone.kept (rested.kept kept (ran_mid runs)) runs;
-    untouched = λ n is. untouched_mid n (stays_mid n is) ∙ rested.still n is;
-    durable = λ kept runs. alone.durable (rested.kept kept (ran_mid runs)) runs;
-    follows = follows_behind;
-    quiet = λ other. quiet_on (node_disks old) (node_disks mid) (node_disks new) rested.quiet (alone.quiet other);
-    undecided_now = λ kept runs is. alone.undecided_now (rested.kept kept (ran_old runs)) is;
-    ticked = subst (λ (s : State). IfSome (node_ticked new) (λ t. t ≡ moment_of s reading)) rested.state alone.ticked;
-    free = subst (λ (s : State). is_spared (moment_of s reading) call (ticked_to (node_ticked new) s) ≡ true → answer ≢ Err OutOfMemory) rested.state alone.free;
+    some = go.some;
+    step = subst (λ (l : Log). IsStep l es (node_log new)) same_log go.step;
+    spares = subst (λ (l : Log). SparesFrom is_spared l es) same_log go.spares;
+    numbers = go.numbers ∙ ap (λ r. with_entries r (node_log mid) es) rested.report ∙ ap (λ (l : Log). with_entries (node_report old) l es) same_log;
+    origin = go.origin ∙ rested.origin;
+    goes_on = go.goes_on ∙ rested.goes_on;
+    honesty = honest_on (node_disks old) (node_disks mid) (node_disks new) rested.honesty go.honesty;
+    later = fell_on (node_disks old) (node_disks mid) (node_disks new) rested.later go.later;
+    quiet = λ runs. quiet_on (node_disks old) (node_disks mid) (node_disks new) rested.quiet (go.quiet runs);
+    kept = λ kept runs. go.kept (rested.kept kept (ran_mid runs)) runs;
+    follows = λ kept was.
+        behind_rest (node_goes_on old) (node_log old) es (node_disks old) (node_disks mid) (node_disks new) (rested.rests kept)
+        (subst (λ (l : Log). FollowGroups false l (es ∷ []) (node_disks mid) (node_disks new)) same_log (go.follows (rested.kept kept (rested.running ∙ was)) (rested.running ∙ was)));
+    failed = failed_behind;
+    stays = stays_behind;
   }
 
--- a step with no rest before it
-pub stands_alone : {D : Type 0} {B : Ghosts D} (old new : Node D B) (seat reading : ℕ) (call : Call) (answer : Result Answered Refusal) (start : State) (h : List Entry) (tick : Option ℕ) → tick ≡ node_ticked new → Alone old new seat reading call answer → StandsFor old start h
-    → StandsFor new start (h ++ made_by seat tick reading call answer)
-stands_alone old new seat reading call answer start h tick told alone is =
-    told_with new seat reading call answer start h tick told (stands_on old new seat reading call answer start h (goes_behind old old new seat reading call answer (still_rested old) alone) is)
+pub stands_behind : {D : Type 0} {B : Ghosts D} (old mid new : Node D B) (es : List Entry) (start : State) (h : List Entry) → Rested old mid → Goes false mid new es → StandsFor old start h → StandsFor new start (h ++ es)
+stands_behind old mid new es start h rested go is = stands_on old new es start h (goes_behind old mid new es rested go) is
 
-pub stands_behind : {D : Type 0} {B : Ghosts D} (old mid new : Node D B) (seat reading : ℕ) (call : Call) (answer : Result Answered Refusal) (start : State) (h : List Entry) → Rested old mid → Alone mid new seat reading call answer → StandsFor old start h
+-- ---- a call alone, with no rest before it
+
+-- what it says of the node before it and behind it
+pub record Alone {D : Type 0} {B : Ghosts D} (old new : Node D B) (seat reading : ℕ) (call : Call) (answer : Result Answered Refusal) : Type 0 where
+  pub step : IsStep (node_log old) (entries_with (node_ticked new) seat reading call answer) (node_log new)
+  pub numbers : node_report new ≡ with_entries (node_report old) (node_log old) (entries_with (node_ticked new) seat reading call answer)
+  pub origin : opened_disks new ≡ opened_disks old
+  pub goes_on : node_goes_on new ≡ node_goes_on old
+  pub honesty : SameHonesty (node_disks old) (node_disks new)
+  pub later : NoneFell (node_disks old) (node_disks new)
+  pub failed : answer ≡ Err DiskFault → (n : ℕ) × (node_stopped new ≡ Some n) × OneFault (node_disks old) (node_disks new) n
+  pub undone : answer ≡ Err DiskFault → (node_ticked new ≡ None) × (node_state new ≡ node_state old)
+  pub stopped : (n : ℕ) → answer ≡ Err (Stopped n) → node_stopped old ≡ Some n
+  pub stays : (n : ℕ) → node_stopped old ≡ Some n → (answer ≡ Err (Stopped n)) × (node_stopped new ≡ Some n)
+  pub kept : IsKept old → node_stopped new ≡ None → IsKept new
+  pub untouched : IfErr answer (λ e. e ≢ DiskFault → node_ticked new ≡ None → node_journal new ≡ node_journal old)
+  pub refused : IfErr answer (λ e. node_state new ≡ ticked_to (node_ticked new) (node_state old))
+  pub follows : IsKept old → FollowGroups false (node_log old) (entries_with (node_ticked new) seat reading call answer ∷ []) (node_disks old) (node_disks new)
+  pub quiet : answer ≢ Err DiskFault → AreQuiet (node_disks old) (node_disks new)
+  pub ticked : IfSome (node_ticked new) (λ t. t ≡ moment_of (node_state old) reading)
+  pub free : is_spared (moment_of (node_state old) reading) call (ticked_to (node_ticked new) (node_state old)) ≡ true → answer ≢ Err OutOfMemory
+
+made_some : (tick : Option ℕ) (seat reading : ℕ) (call : Call) (answer : Result Answered Refusal) → entries_with tick seat reading call answer ≡ [] → ⊥
+made_some None seat reading call answer none = absurd cc
+made_some (Some t) seat reading call answer none = absurd cc
+
+-- no time goes on where it has stopped
+no_tick : (tick : Option ℕ) (s : State) (n seat reading : ℕ) (call : Call) (answer : Result Answered Refusal) → IsLegalFrom (log_of s (Some n)) (entries_with tick seat reading call answer) → tick ≡ None
+no_tick None s n seat reading call answer legal = refl
+no_tick (Some t) s n seat reading call answer legal = absurd (true≢false legal.0.0)
+
+stops_by : (tick : Option ℕ) (s : State) (seat reading : ℕ) (call : Call) (answer : Result Answered Refusal) → (after_entries (log_of s None) (entries_with tick seat reading call answer)).stopped ≡ stops answer
+stops_by None s seat reading call answer = refl
+stops_by (Some t) s seat reading call answer = refl
+
+untouched_by : {D : Type 0} {B : Ghosts D} (old new : Journal D B) (tick : Option ℕ) (n : ℕ) (answer : Result Answered Refusal) → answer ≡ Err (Stopped n) → tick ≡ None → IfErr answer (λ e. e ≢ DiskFault → tick ≡ None → new ≡ old) → new ≡ old
+untouched_by old new tick n (Ok reply) is none left = absurd cc
+untouched_by old new tick n (Err e) is none left = left (λ fault. absurd cc) none
+
+refused_by : (old new : State) (tick : Option ℕ) (n : ℕ) (answer : Result Answered Refusal) → answer ≡ Err (Stopped n) → tick ≡ None → IfErr answer (λ e. new ≡ ticked_to tick old) → new ≡ old
+refused_by old new tick n (Ok reply) is none left = absurd cc
+refused_by old new tick n (Err e) is none left = left ∙ ap (λ (o : Option ℕ). ticked_to o old) none
+
+pub same_count : (n m : ℕ) (o : Option ℕ) → o ≡ Some m → o ≡ Some n → m ≡ n
+same_count n m o one other = let same : Some m ≡ Some n = sym one ∙ other in cc
+
+module _ {D : Type 0} {B : Ghosts D} (old new : Node D B) (seat reading : ℕ) (call : Call) (answer : Result Answered Refusal) (alone : Alone old new seat reading call answer) where
+  abbrev made : List Entry
+  made = entries_with (node_ticked new) seat reading call answer
+
+  -- where it ran before and runs no more, a disk failed
+  has_failed : (n : ℕ) → node_stopped new ≡ Some n → node_stopped old ≡ None → answer ≡ Err DiskFault
+  has_failed n has before = by_answer answer refl stops_now
+    where
+      stops_now : stops answer ≡ true
+      stops_now =
+          sym (stops_by (node_ticked new) (node_state old) seat reading call answer)
+          ∙ ap (λ (o : Option ℕ). (after_entries (log_of (node_state old) o) made).stopped) (sym before)
+          ∙ ap (λ (l : Log). l.stopped) (sym alone.step.leads)
+          ∙ ap is_some has
+
+      by_answer : (a : Result Answered Refusal) → answer ≡ a → stops a ≡ true → answer ≡ Err DiskFault
+      by_answer (Err DiskFault) is stop = is
+      by_answer (Err (Stopped m)) is stop = let never : Some m ≡ None = sym (alone.stopped m is) ∙ before in absurd cc
+      by_answer _ is stop = absurd cc
+
+  failed_alone : node_stopped old ≡ None → (n : ℕ) → node_stopped new ≡ Some n → OneFault (node_disks old) (node_disks new) n × (node_state new ≡ node_state old) × (has_fault made ≡ true)
+  failed_alone was n has =
+      let is = has_failed n has was in
+      let fault = alone.failed is in
+      let undone = alone.undone is in
+      let as_one : made ≡ entries_with None seat reading call (Err DiskFault) =
+      ap (λ (o : Option ℕ). entries_with o seat reading call answer) undone.0 ∙ ap (λ (a : Result Answered Refusal). entries_with None seat reading call a) is in
+      (subst (λ (m : ℕ). OneFault (node_disks old) (node_disks new) m) (same_count n fault.0 (node_stopped new) fault.1 has) fault.2, undone.1, ap has_fault as_one)
+
+  stays_alone : (n : ℕ) → node_stopped old ≡ Some n → (node_stopped new ≡ Some n) × (node_disks new ≡ node_disks old) × (node_state new ≡ node_state old) × (has_fault made ≡ false) × (changing (node_log old) made ≡ [])
+  stays_alone n was =
+      let stays = alone.stays n was in
+      let none : node_ticked new ≡ None = no_tick (node_ticked new) (node_state old) n seat reading call answer (subst (λ (o : Option ℕ). IsLegalFrom (log_of (node_state old) o) made) was alone.step.legal) in
+      let as_one : made ≡ entries_with None seat reading call (Err (Stopped n)) =
+      ap (λ (o : Option ℕ). entries_with o seat reading call answer) none ∙ ap (λ (a : Result Answered Refusal). entries_with None seat reading call a) stays.0 in (
+        stays.1,
+        ap (λ (j : Journal D B). journal_disks j) (untouched_by (node_journal old) (node_journal new) (node_ticked new) n answer stays.0 none alone.untouched),
+        refused_by (node_state old) (node_state new) (node_ticked new) n answer stays.0 none alone.refused,
+        ap has_fault as_one,
+        ap (changing (node_log old)) as_one,
+      )
+
+  quiet_alone : node_stopped new ≡ None → AreQuiet (node_disks old) (node_disks new)
+  quiet_alone runs = alone.quiet (λ is. let fault = alone.failed is in let never : Some fault.0 ≡ None = sym fault.1 ∙ runs in absurd cc)
+
+  goes_alone : Goes false old new made
+  goes_alone = record {
+    some = made_some (node_ticked new) seat reading call answer;
+    step = alone.step;
+    spares = step_spares (node_ticked new) (node_log old) seat reading call answer alone.ticked alone.step.legal alone.free;
+    numbers = alone.numbers;
+    origin = alone.origin;
+    goes_on = alone.goes_on;
+    honesty = alone.honesty;
+    later = alone.later;
+    quiet = quiet_alone;
+    kept = alone.kept;
+    follows = λ kept was. alone.follows kept;
+    failed = failed_alone;
+    stays = stays_alone;
+  }
+
+pub stands_alone : {D : Type 0} {B : Ghosts D} (old new : Node D B) (seat reading : ℕ) (call : Call) (answer : Result Answered Refusal) (start : State) (h : List Entry) → Alone old new seat reading call answer → StandsFor old start h
     → StandsFor new start (h ++ entries_with (node_ticked new) seat reading call answer)
-stands_behind old mid new seat reading call answer start h rested alone is = stands_on old new seat reading call answer start h (goes_behind old mid new seat reading call answer rested alone) is
+stands_alone old new seat reading call answer start h alone is = stands_behind old old new (entries_with (node_ticked new) seat reading call answer) start h (still_rested old) (goes_alone old new seat reading call answer alone) is
 
 -- ---- a rest in which a disk failed
 
--- what it says, and the refusal of the call behind it
-pub record Fails {D : Type 0} {B : Ghosts D} (old new : Node D B) : Type 0 where
+-- what it says, and the refusal of the calls behind it
+pub record Fails {D : Type 0} {B : Ghosts D} (old new : Node D B) (posts : List Post) : Type 0 where
+  pub some : posts ≡ [] → ⊥
   pub ran : node_stopped old ≡ None
   pub state : node_state new ≡ node_state old
-  pub ticked : node_ticked new ≡ None
-  pub entries : (node_report new).entries ≡ raised (node_report old).entries 1
-  pub changing : (node_report new).changing ≡ (node_report old).changing
-  pub refused : (node_report new).refused ≡ raised (node_report old).refused 1
+  pub entries : (node_report new).entries ≡ raised (node_report old).entries (length (fault_entries posts))
+  pub changing_is : (node_report new).changing ≡ (node_report old).changing
+  pub refused : (node_report new).refused ≡ raised (node_report old).refused (length (filter is_refused (fault_entries posts)))
   pub goes_on : node_goes_on new ≡ node_goes_on old
   pub origin : opened_disks new ≡ opened_disks old
   pub failed : (n : ℕ) × (node_stopped new ≡ Some n) × OneFault (node_disks old) (node_disks new) n
@@ -177,38 +237,36 @@ pub record Fails {D : Type 0} {B : Ghosts D} (old new : Node D B) : Type 0 where
   pub later : NoneFell (node_disks old) (node_disks new)
   pub honesty : SameHonesty (node_disks old) (node_disks new)
 
-module _ {D : Type 0} {B : Ghosts D} (old new : Node D B) (seat reading : ℕ) (call : Call) (fails : Fails old new) where
+module _ {D : Type 0} {B : Ghosts D} (old new : Node D B) (posts : List Post) (fails : Fails old new posts) where
   none_stays : (n : ℕ) → node_stopped old ≡ Some n → ⊥
   none_stays n is = let never : Some n ≡ None = sym is ∙ fails.ran in absurd cc
 
   none_runs : node_stopped new ≡ None → ⊥
   none_runs runs = let never : Some fails.failed.0 ≡ None = sym fails.failed.1 ∙ runs in absurd cc
 
-  goes_failed : Goes old new seat reading call (Err DiskFault)
+  fault_step : IsStep (node_log old) (fault_entries posts) (node_log new)
+  fault_step =
+      subst (λ (o : Option ℕ). IsStep (log_of (node_state old) o) (fault_entries posts) (node_log new)) (sym fails.ran)
+      (subst (λ (o : Option ℕ). IsStep (log_of (node_state old) None) (fault_entries posts) (log_of (node_state new) o)) (sym fails.failed.1)
+      (subst (λ (s : State). IsStep (log_of (node_state old) None) (fault_entries posts) (log_of s (Some fails.failed.0))) (sym fails.state) (failed_all (node_state old) fails.failed.0 posts fails.some)))
+
+  goes_failed : Goes (node_goes_on old) old new (fault_entries posts)
   goes_failed = record {
-    step = fault_step seat reading call (node_state old) (node_state new) (node_stopped old) (node_stopped new) (node_ticked new) fails.ran fails.ticked fails.state (ap is_some fails.failed.1);
-    numbers = fault_numbers (node_report old) (node_report new) (node_ticked new) (node_log old) seat reading call fails.ticked fails.entries fails.changing fails.refused;
+    some = refused_some None posts fails.some;
+    step = fault_step;
+    spares = refused_spares None (node_log old) posts;
+    numbers = still_numbers (node_report old) (node_report new) (node_log old) (fault_entries posts) (refused_still None (node_log old) posts) fails.entries fails.changing_is fails.refused;
     origin = fails.origin;
     goes_on = fails.goes_on;
     honesty = fails.honesty;
     later = fails.later;
-    failed = λ is. fails.failed;
-    stopped = λ n is. absurd cc;
-    stays = λ n is. absurd (none_stays n is);
+    quiet = λ runs. absurd (none_runs runs);
     kept = λ kept runs. absurd (none_runs runs);
-    untouched = λ n is. absurd (none_stays n is);
-    durable = λ kept runs. absurd (none_runs runs);
-    follows = λ kept runs.
-        subst (λ (o : Option ℕ). FollowEntries (node_goes_on old) [] (node_log old) (entries_with o seat reading call (Err DiskFault)) (node_disks old) (node_disks new)) (sym fails.ticked)
-        (failed_rest (node_goes_on old) (node_state old) (node_stopped old) seat reading call (node_disks old) (node_disks new) (fails.rests kept) (subst (λ (s : State). IsDurable (node_disks new) s) fails.state (fails.durable kept)));
-    quiet = λ other. absurd (other refl);
-    undecided_now = λ kept runs is. ([], inl refl, λ x y on_x on_y. inl (fails.durable kept x y on_x on_y));
-    ticked = subst (λ (o : Option ℕ). IfSome o (λ t. t ≡ moment_of (node_state old) reading)) (sym fails.ticked) tt;
-    free = λ spared is. absurd cc;
+    follows = λ kept was.
+        failed_rest (node_goes_on old) (node_log old) (fault_entries posts) (node_disks old) (node_disks new) (faults_fail posts fails.some) (fails.rests kept) (subst (λ (s : State). IsDurable (node_disks new) s) fails.state (fails.durable kept));
+    failed = λ was n is. (subst (λ (m : ℕ). OneFault (node_disks old) (node_disks new) m) (same_count n fails.failed.0 (node_stopped new) fails.failed.1 is) fails.failed.2, fails.state, faults_fail posts fails.some);
+    stays = λ n is. absurd (none_stays n is);
   }
 
-pub stands_failed : {D : Type 0} {B : Ghosts D} (old new : Node D B) (seat reading : ℕ) (call : Call) (e : Refusal) (start : State) (h : List Entry) → e ≡ DiskFault → Fails old new → StandsFor old start h
-    → StandsFor new start (h ++ entries_with (node_ticked new) seat reading call (Err e))
-stands_failed old new seat reading call e start h fault fails is =
-    subst (λ (r : Refusal). StandsFor new start (h ++ entries_with (node_ticked new) seat reading call (Err r))) (sym fault)
-    (stands_on old new seat reading call (Err DiskFault) start h (goes_failed old new seat reading call fails) is)
+pub stands_failed : {D : Type 0} {B : Ghosts D} (old new : Node D B) (posts : List Post) (es : List Entry) (start : State) (h : List Entry) → es ≡ fault_entries posts → Fails old new posts → StandsFor old start h → StandsFor new start (h ++ es)
+stands_failed old new posts es start h same fails is = subst (λ (l : List Entry). StandsFor new start (h ++ l)) (sym same) (stands_on old new (fault_entries posts) start h (goes_failed old new posts fails) is)

@@ -2,7 +2,6 @@
 use Rattle.std.proofs.Common.{◌≡◌, ℕ, List, [], ◌∷◌, Bool, true, false, Result, Err, refl}
 use Rattle.std.specs.Bool.{MatchBool}
 use Rattle.sb_desk.specs.Spared.{SparesFrom}
-use Rattle.sb_journal.specs.Disks.{Disks}
 use Rattle.sb_machine.specs.Accounts.{changing}
 use Rattle.sb_machine.specs.Answers.{moment_of}
 use Rattle.sb_machine.specs.History.{Log, IsAnswer, IsLegalFrom, after_entries, is_end, is_fault, is_stopped, settled}
@@ -13,7 +12,6 @@ use Rattle.sb_machine.specs.declared.reply.Answered.{Answered}
 use Rattle.sb_machine.specs.declared.reply.Refusal.{Refusal}
 use Rattle.sb_machine.specs.declared.reply.Refusal.TheVariants.{Stopped}
 use Rattle.sb_machine.specs.declared.state.State.{State}
-use Rattle.sb_node.specs.Serving.{FollowEntries}
 
 -- entries lead on to the same
 pub settled_on : (l : Log) (es : List Entry) → settled (after_entries (settled l) es) ≡ settled (after_entries l es)
@@ -41,11 +39,6 @@ pub spares_settled : (spared : ℕ → Call → State → Bool) (l : Log) (es : 
 spares_settled spared l [] is = is
 spares_settled spared l (Ticked seat t ∷ es) is = is
 spares_settled spared l (Replied seat reading call answer ∷ es) is = is
-
-pub follows_settled : (on : Bool) (before : List State) (l : Log) (es : List Entry) (was now : Disks) → FollowEntries on before (settled l) es was now → FollowEntries on before l es was now
-follows_settled on before l [] was now is = is
-follows_settled on before l (Ticked seat t ∷ es) was now is = is
-follows_settled on before l (Replied seat reading call answer ∷ es) was now is = is
 
 pub changing_settled : (l : Log) (es : List Entry) → changing (settled l) es ≡ changing l es
 changing_settled l [] = refl

@@ -11,10 +11,10 @@ use Rattle.sb_machine.specs.declared.reply.Answered.{Answered}
 use Rattle.sb_machine.specs.declared.reply.Refusal.{Refusal}
 use Rattle.sb_machine.specs.declared.reply.Refusal.TheVariants.{DiskFault, Stopped, OutOfMemory, Exhausted}
 use Rattle.sb_machine.specs.declared.state.State.{State}
-use Rattle.sb_node.specs.Steps.{log_of, entries_with, is_still, ticked_to, time_to, call_events, IsStep, IsTicked, IsTickFault, IsAnswered}
+use Rattle.sb_node.specs.Steps.{log_of, entries_with, is_still, call_events, IsStep, IsTicked, IsTickFault, IsAnswered}
 use Rattle.sb_node.proofs.Histories.{later_on, call_fault, call_still}
 use Rattle.sb_node.proofs.Machine.{no_fault}
-use Rattle.sb_node.proofs.Taking.{refused_still, still_stays, time_went, time_idle}
+use Rattle.sb_node.proofs.Taking.{refused_still, still_stays}
 
 -- an answer where nothing is due
 machine_is : (s : State) (t reading : ℕ) (call : Call) (answer : Result Answered Refusal) (stopped : Option ℕ) (new : State) → t ≡ moment_of s reading → is_due t s.space ≡ false → IsAnswered t call s answer stopped new
@@ -101,25 +101,6 @@ fault_step seat reading call s after (Some n) stopped_after tick ran none same f
 pub stopped_step : (seat reading n : ℕ) (call : Call) (s : State) (stopped : Option ℕ) → stopped ≡ Some n → IsStep (log_of s stopped) (entries_with None seat reading call (Err (Stopped n))) (log_of s stopped)
 stopped_step seat reading n call s stopped is = rw is (record { legal = ((tt, refl), refl); leads = refl })
 
--- the state after a refusal
-pub refused_leaves : (t : ℕ) (call : Call) (s1 s2 : State) (e : Refusal) (stopped : Option ℕ) → IsAnswered t call s1 (Err e) stopped s2 → s2 ≡ s1
-refused_leaves t call s1 s2 e stopped is = by_fault (is_fault (Err e)) refl
-  where
-    by_fault : (b : Bool) → is_fault (Err e) ≡ b → s2 ≡ s1
-    by_fault true fault = is.fault fault
-    by_fault false none =
-        let m = is.machine none in
-        m.1 ∙ still_stays s1 t call (outcome_of s1 t call) (refused_still (client_of call) (outcome_of s1 t call) e (sym m.0))
-
-pub ticked_is : (tick : Option ℕ) (t : ℕ) (s0 s1 : State) → IsTicked tick t s0 s1 → s1 ≡ ticked_to tick s0
-ticked_is None t s0 s1 went = went.1
-ticked_is (Some m) t s0 s1 went = went.3 ∙ ap (advanced s0) (sym went.0)
-
--- the state behind a tick is that to which time comes up
-pub time_is : (tick : Option ℕ) (t : ℕ) (s0 s1 : State) → IsTicked tick t s0 s1 → s1 ≡ time_to t s0
-time_is None t s0 s1 went = went.1 ∙ sym (time_idle t s0 went.0)
-time_is (Some m) t s0 s1 went = went.3 ∙ sym (time_went t s0 went.1 went.2)
-
 -- nothing is due where time has come up, if it may
 pub calm_then : (tick : Option ℕ) (t : ℕ) (s0 s1 : State) → IsTicked tick t s0 s1 → is_due t (advanced s0 t).space ≡ false → is_due t s1.space ≡ false
 calm_then None t s0 s1 went calm = subst (λ (s : State). is_due t s.space ≡ false) (sym went.1) went.0
@@ -127,25 +108,26 @@ calm_then (Some m) t s0 s1 went calm = subst (λ (s : State). is_due t s.space �
 
 -- ---- where nothing changes
 
-still_calm : (t : ℕ) (call : Call) (s : State) → is_due t s.space ≡ false → is_still t call s ≡ true → is_change (client_of call) (outcome_of s t call) ≡ false
+pub still_calm : (t : ℕ) (call : Call) (s : State) → is_due t s.space ≡ false → is_still t call s ≡ true → is_change (client_of call) (outcome_of s t call) ≡ false
 still_calm t call s calm still = by_change (is_change (client_of call) (outcome_of s t call)) (sym (rw calm refl) ∙ still)
   where
     by_change : (b : Bool) → not b ≡ true → b ≡ false
     by_change true e = absurd cc
     by_change false e = refl
 
-still_spent : (t : ℕ) (call : Call) (s : State) → is_due t s.space ≡ true → is_still t call s ≡ true → is_spent s t ≡ true
+pub still_spent : (t : ℕ) (call : Call) (s : State) → is_due t s.space ≡ true → is_still t call s ≡ true → is_spent s t ≡ true
 still_spent t call s due still = sym (rw due refl) ∙ still
 
--- time doesn't go on
-pub still_tick : (tick : Option ℕ) (t : ℕ) (call : Call) (s0 s1 : State) → IsTicked tick t s0 s1 → is_still t call s0 ≡ true → (tick ≡ None) × (s1 ≡ s0) × (is_change (client_of call) (outcome_of s1 t call) ≡ false)
-still_tick None t call s0 s1 went still = (refl, went.1, subst (λ (s : State). is_change (client_of call) (outcome_of s t call) ≡ false) (sym went.1) (still_calm t call s0 went.0 still))
-still_tick (Some m) t call s0 s1 went still = let spent : true ≡ false = sym (still_spent t call s0 went.1 still) ∙ went.2 in absurd cc
+-- where a tick may be made, or the call behind it changes something, it isn't so
+pub tick_busy : (t : ℕ) (call : Call) (s : State) → is_due t s.space ≡ true → is_spent s t ≡ false → is_still t call s ≡ false
+tick_busy t call s due goes = rw (due, goes) refl
 
--- a disk that failed in a tick failed for a tick that could be made
-pub still_failed : (t : ℕ) (call : Call) (s : State) (stopped : Option ℕ) (e : Refusal) → IsTickFault t s stopped e → is_still t call s ≡ true → e ≡ DiskFault → ⊥
-still_failed t call s stopped DiskFault is still same = let spent : true ≡ false = sym (still_spent t call s is.1 still) ∙ is.2 in absurd cc
-still_failed t call s stopped _ is still same = absurd cc
+pub call_busy : (tick : Option ℕ) (t : ℕ) (call : Call) (s0 s1 : State) → IsTicked tick t s0 s1 → is_change (client_of call) (outcome_of s1 t call) ≡ true → is_still t call s0 ≡ false
+call_busy None t call s0 s1 went changes =
+    let calm = went.0 in
+    let here : is_change (client_of call) (outcome_of s0 t call) ≡ true = subst (λ (s : State). is_change (client_of call) (outcome_of s t call) ≡ true) went.1 changes in
+    rw (calm, here) refl
+call_busy (Some m) t call s0 s1 went changes = tick_busy t call s0 went.1 went.2
 
 pub still_answered : (t : ℕ) (call : Call) (s1 s2 : State) (answer : Result Answered Refusal) (stopped : Option ℕ) → IsAnswered t call s1 answer stopped s2 → is_change (client_of call) (outcome_of s1 t call) ≡ false → s2 ≡ s1
 still_answered t call s1 s2 answer stopped is none = by_fault (is_fault answer) refl

@@ -15,7 +15,6 @@ use Rattle.sb_machine.specs.declared.reply.Refusal.TheVariants.{OutOfMemory}
 use Rattle.sb_machine.specs.declared.state.State.{State}
 use Rattle.sb_machine.proofs.Passed.{both}
 use Rattle.sb_node.specs.Recovery.{is_in_time, is_next_tick, is_next_call, next_state}
-use Rattle.sb_node.specs.Steps.{time_to}
 
 pub in_time : (now t : ℕ) → now ≤ t → t ≤ max_moment → (nat_le now t && nat_le t max_moment) ≡ true
 in_time now t later counts = grind (arith, nat_tests)
@@ -113,19 +112,6 @@ call_says s t call next e =
     record { later = time.0; counts = time.1; passes = outer.1; leads = is.1 }
 
 -- ---- the states of a step
-
-pub time_went : (t : ℕ) (s : State) → is_due t s.space ≡ true → is_spent s t ≡ false → time_to t s ≡ advanced s t
-time_went t s due left = rw (due, left) refl
-
-pub time_idle : (t : ℕ) (s : State) → is_due t s.space ≡ false → time_to t s ≡ s
-time_idle t s idle = rw idle refl
-
-pub time_spent : (t : ℕ) (s : State) → is_spent s t ≡ true → time_to t s ≡ s
-time_spent t s spent = by_due (is_due t s.space)
-  where
-    by_due : (b : Bool) → cond (b && not (is_spent s t)) (advanced s t) s ≡ s
-    by_due true = rw spent refl
-    by_due false = refl
 
 -- ---- what was refused
 

@@ -18,9 +18,8 @@ use Rattle.sb_machine.specs.declared.reply.Refusal.{Refusal}
 use Rattle.sb_machine.specs.declared.reply.Refusal.TheVariants.{DiskFault}
 use Rattle.sb_machine.specs.declared.state.State.{State}
 use Rattle.sb_node.specs.Ahead.{made_events, IsMadeBy}
-use Rattle.sb_node.specs.Groups.{failed, has_fault, FollowGroups, HaveRun}
+use Rattle.sb_node.specs.Groups.{failed, has_fault, FollowGroups, HaveRun, Rests}
 use Rattle.sb_node.specs.Nodes.{StayOneOf}
-use Rattle.sb_node.specs.Serving.{Rests}
 use Rattle.sb_node.specs.Steps.{entries_with, log_of, IsStep}
 use Rattle.sb_node.proofs.ByGroups.{more_undecided}
 use Rattle.sb_node.proofs.Counts.{after_on, changing_on}
@@ -113,11 +112,11 @@ others_left s h (Replied seat reading call answer ∷ es) events are =
 
 -- ---- the moments of a group
 
-when_fault : (b : Bool) (A B : Type 0) → b ≡ true → A → MatchBool b A B
+pub when_fault : (b : Bool) (A B : Type 0) → b ≡ true → A → MatchBool b A B
 when_fault true A B is here = here
 when_fault false A B is here = absurd cc
 
-when_none : (b : Bool) (A B : Type 0) → b ≡ false → B → MatchBool b A B
+pub when_none : (b : Bool) (A B : Type 0) → b ≡ false → B → MatchBool b A B
 when_none false A B is here = here
 when_none true A B is here = absurd cc
 

@@ -1,7 +1,8 @@
 -- A history by groups of calls whose records are synced together: what a crash leaves while a group is carried out, and what a failed disk leaves of it.
-use Rattle.std.specs.Prelude.{◌≡◌, ◌||◌, ℕ, List, [], ◌∷◌, ◌++◌, Bool, true, false, Option, Some, None, Result, Err}
+use Rattle.std.specs.Prelude.{◌≡◌, ◌⊎◌, ◌||◌, ℕ, List, [], ◌∷◌, ◌++◌, Bool, true, false, Option, Some, None, Result, Err}
 use Rattle.std.specs.Bool.{MatchBool}
 use Rattle.sb_journal.specs.Disks.{Disks}
+use Rattle.sb_journal.specs.declared.found.Side.{Side}
 use Rattle.sb_machine.specs.Accounts.{changing}
 use Rattle.sb_machine.specs.Events.{replayed, AreUndecided}
 use Rattle.sb_machine.specs.History.{Log, after_entries, fresh_log, is_disk_fault}
@@ -14,8 +15,7 @@ use Rattle.sb_machine.specs.declared.reply.Refusal.{Refusal}
 use Rattle.sb_machine.specs.declared.reply.Refusal.TheVariants.{DiskFault}
 use Rattle.sb_machine.specs.declared.state.State.{State}
 use Rattle.sb_node.specs.Ahead.{made_events, IsMadeBy}
-use Rattle.sb_node.specs.Nodes.{StayOneOf}
-use Rattle.sb_node.specs.Serving.{Rests}
+use Rattle.sb_node.specs.Nodes.{StayOneOf, TurnOneOf}
 use Rattle.sb_node.specs.Steps.{entries_with, log_of, IsStep}
 
 -- whether a disk failed in these entries
@@ -43,18 +43,30 @@ abbrev pub after_groups : Log → List (List Entry) → Log
 after_groups l [] = l
 after_groups l (es ∷ rest) = after_groups (after_entries l es) rest
 
+-- Between two groups nothing is done to the disks; or, where a node goes on with new files by itself, its journal may go on with one: a
+-- crash at any moment of that leads to this state.
+abbrev pub Rests : (goes_on : Bool) → State → (was now : Disks) → Type 0
+Rests false s was now = now ≡ was
+Rests true s was now = (now ≡ was) ⊎ ((side : Side) × TurnOneOf side was now (s ∷ []))
+
 -- The moments of a history, cut at the answers of its groups: before a group the node rests, and until the group is answered a crash at any moment leads to
 -- the state before it or to that after all the events that are written for it, to none between. So what was answered stays. Behind a group
--- in which a disk failed the disks are left alone.
+-- in which a disk failed the disks are left alone, and calls are answered that it had.
 abbrev pub FollowGroups : (goes_on : Bool) → Log → List (List Entry) → (was now : Disks) → Type 0
 FollowGroups goes_on l [] was now = now ≡ was
 FollowGroups goes_on l (es ∷ rest) was now =
     (turned answered : Disks) × (events : List Event) × Rests goes_on l.state was turned × AreWritten l es events × StayOneOf turned answered (l.state ∷ replayed l.state events ∷ [])
     × MatchBool (has_fault es) (now ≡ answered) (FollowGroups goes_on (after_entries l es) rest answered now)
 
+-- none of these groups is empty
+abbrev pub AreSome : List (List Entry) → Type 0
+AreSome [] = Unit {0}
+AreSome ([] ∷ rest) = ⊥
+AreSome ((e ∷ es) ∷ rest) = AreSome rest
+
 -- the moments of a history from a state, cut into groups
 abbrev pub FollowByGroups : (goes_on : Bool) → State → List Entry → (was now : Disks) → Type 0
-FollowByGroups goes_on start h was now = (groups : List (List Entry)) × (flattened groups ≡ h) × FollowGroups goes_on (fresh_log start) groups was now
+FollowByGroups goes_on start h was now = (groups : List (List Entry)) × AreSome groups × (flattened groups ≡ h) × FollowGroups goes_on (fresh_log start) groups was now
 
 -- one group more behind those before it: carried out where no disk has failed, and else the disks stay
 abbrev pub GroupsGoOn : Type 0

@@ -1,6 +1,5 @@
 -- A node as what a desk serves: its numbers, what it found on its disks as it was opened and how it uses them, and the history that it stands for.
-use Rattle.std.specs.Prelude.{◌≡◌, ◌⊎◌, ℕ, zero, suc, ◌+◌, List, [], ◌∷◌, ◌++◌, map, length, filter, Bool, true, false, nat_lt, if◌then◌else◌, None, is_some, Result, Ok, Err}
-use Rattle.std.specs.Bool.{MatchBool}
+use Rattle.std.specs.Prelude.{◌≡◌, ◌⊎◌, ℕ, zero, suc, ◌+◌, List, [], ◌∷◌, map, length, filter, Bool, true, nat_lt, None, is_some, Result, Ok, Err}
 use Rattle.sb_desk.specs.Entries.{counted, is_refused, IsReport}
 use Rattle.sb_desk.specs.Spared.{Spares}
 use Rattle.sb_desk.specs.declared.report.DiskMoment.{DiskMoment}
@@ -9,15 +8,13 @@ use Rattle.sb_desk.specs.declared.report.Origin.{Origin}
 use Rattle.sb_desk.specs.declared.report.Report.{Report}
 use Rattle.sb_journal.specs.Disks.{Disks, OneDisk, AreHonest, AreQuiet, NoneFell, SameHonesty}
 use Rattle.sb_journal.specs.Journals.{journal_disks}
-use Rattle.sb_journal.specs.declared.found.Side.{Side}
 use Rattle.sb_machine.specs.Accounts.{changing}
 use Rattle.sb_machine.specs.Consistent.{IsConsistent}
-use Rattle.sb_machine.specs.Events.{after_event, event_at, replayed, AreUndecided, MayLeave}
-use Rattle.sb_machine.specs.History.{Log, IsLegal, after_call, after_entry, after_entries, fresh_log, is_disk_fault, settled, state_after}
+use Rattle.sb_machine.specs.Events.{replayed, AreUndecided, MayLeave}
+use Rattle.sb_machine.specs.History.{Log, IsLegal, after_entries, fresh_log, settled, state_after}
 use Rattle.sb_machine.specs.declared.call.Call.{Call}
 use Rattle.sb_machine.specs.declared.call.Event.{Event}
 use Rattle.sb_machine.specs.declared.history.Entry.{Entry}
-use Rattle.sb_machine.specs.declared.history.Entry.TheVariants.{Ticked, Answered as Replied}
 use Rattle.sb_machine.specs.declared.reply.Answered.{Answered}
 use Rattle.sb_machine.specs.declared.reply.Refusal.{Refusal}
 use Rattle.sb_machine.specs.declared.state.State.{State}
@@ -25,7 +22,8 @@ use Rattle.sb_outside.specs.Causes.{Rose}
 use Rattle.sb_outside.specs.Held.{Held}
 use Rattle.sb_outside.specs.declared.disk.Disk.{Ghosts}
 use Rattle.sb_node.specs.declared.node.Node.{Node}
-use Rattle.sb_node.specs.Nodes.{node_disks, node_log, node_stopped, IsDurable, IsKept, IsOneOf, StayOneOf, TurnOneOf}
+use Rattle.sb_node.specs.Nodes.{node_disks, node_log, node_stopped, IsDurable, IsKept, IsOneOf}
+use Rattle.sb_node.specs.Groups.{FollowByGroups}
 use Rattle.sb_node.specs.Steps.{is_spared}
 
 -- ---- numbers
@@ -38,10 +36,6 @@ node_report n = n.numbers
 abbrev pub raised : ℕ → ℕ → ℕ
 raised n zero = n
 raised n (suc k) = counted (n + suc k)
-
--- so many events more changed the state
-abbrev pub with_events : Report → List Event → Report
-with_events r events = record r { changing = raised r.changing (length events) }
 
 -- 1 for a refusal, else 0
 abbrev pub refusals : Result Answered Refusal → ℕ
@@ -100,42 +94,10 @@ IsUndecided disks s reading call = (events : List Event) × MayLeave s reading c
 abbrev pub IsLeft : Disks → State → List Entry → Type 0
 IsLeft disks start h = (events : List Event) × AreUndecided (state_after start h) h events × IsWithOrNot disks (state_after start h) events
 
--- ---- its moments
-
--- to which a crash may lead while a call is answered: the state before it, or that after its event
-abbrev pub states_at : State → (reading : ℕ) → Call → Result Answered Refusal → List State
-states_at s reading call answer = s ∷ (if is_disk_fault answer then after_event s (event_at s reading call) else after_call s reading call answer) ∷ []
-
--- Between two answers nothing is done to the disks; or, where a node goes on with new files by itself, its journal may go on with one: a
--- crash at any moment of that leads to this state.
-abbrev pub Rests : (goes_on : Bool) → State → (was now : Disks) → Type 0
-Rests false s was now = now ≡ was
-Rests true s was now = (now ≡ was) ⊎ ((side : Side) × TurnOneOf side was now (s ∷ []))
-
--- the state before a step, by the one in which its call acts and those before its tick
-abbrev pub first_of : State → List State → State
-first_of s [] = s
-first_of s (b ∷ bs) = first_of b bs
-
--- The moments of a history, cut at its answers: before a step the node rests, and until its call is answered a crash at any moment leads to
--- the state before the step, to that with the step's tick or to the one after the call. So what was answered stays, and no moment leads
--- further back than one before it. After the answer that a disk failed the disks are left alone. The list has the states before a tick
--- whose call comes next, the latest first.
-abbrev pub FollowEntries : (goes_on : Bool) → List State → Log → List Entry → (was now : Disks) → Type 0
-FollowEntries goes_on before l [] was now = now ≡ was
-FollowEntries goes_on before l (Ticked seat t ∷ es) was now = FollowEntries goes_on (l.state ∷ before) (after_entry l (Ticked seat t)) es was now
-FollowEntries goes_on before l (Replied seat reading call answer ∷ es) was now =
-    (turned answered : Disks) × Rests goes_on (first_of l.state before) was turned × StayOneOf turned answered (before ++ states_at l.state reading call answer)
-    × MatchBool (is_disk_fault answer) (now ≡ answered) (FollowEntries goes_on [] (after_entry l (Replied seat reading call answer)) es answered now)
-
--- the moments of a history from a state
-abbrev pub FollowHistory : (goes_on : Bool) → State → List Entry → (was now : Disks) → Type 0
-FollowHistory goes_on start h was now = FollowEntries goes_on [] (fresh_log start) h was now
-
 -- A node stands for a history from a state: it holds the state to which that leads, and its numbers, and has stopped where the history
--- has; of a disk's failure it answers one call alone. No spared call of it was answered with want of memory. Where its disks are honest, a crash
--- as it was opened led to the first state, a crash at any moment since leads on as `FollowHistory` says, and one now to the last state or to the one
--- with what a failed disk left undecided.
+-- has. No spared call of it was answered with want of memory. Where its disks are honest, a crash as it was opened led to the first state,
+-- a crash at any moment since leads on, group by group, as `FollowByGroups` says, and one now to the last state or to the one with what a
+-- failed disk left undecided.
 pub record StandsFor {D : Type 0} {B : Ghosts D} (n : Node D B) (start : State) (h : List Entry) : Type 0 where
   pub consistent : IsConsistent start
   pub legal : IsLegal start h
@@ -149,5 +111,5 @@ pub record StandsFor {D : Type 0} {B : Ghosts D} (n : Node D B) (start : State) 
   pub quiet : node_stopped n ≡ None → AreQuiet (opened_disks n) (node_disks n)
   pub kept : AreHonest (node_disks n) → node_stopped n ≡ None → IsKept n
   pub began : AreHonest (node_disks n) → IsDurable (opened_disks n) start
-  pub follows : AreHonest (node_disks n) → FollowHistory (node_goes_on n) start h (opened_disks n) (node_disks n)
+  pub follows : AreHonest (node_disks n) → FollowByGroups (node_goes_on n) start h (opened_disks n) (node_disks n)
   pub left : AreHonest (node_disks n) → IsLeft (node_disks n) start h

@@ -8,12 +8,12 @@ use Rattle.sb_machine.specs.declared.call.Call.{Call}
 use Rattle.sb_machine.specs.declared.call.Event.{Event}
 use Rattle.sb_machine.specs.declared.call.Event.TheVariants.{Tick, Called}
 use Rattle.sb_machine.specs.declared.history.Entry.{Entry}
-use Rattle.sb_machine.specs.declared.history.Entry.TheVariants.{Ticked, Answered as Replied}
 use Rattle.sb_machine.specs.declared.reply.Answered.{Answered}
 use Rattle.sb_machine.specs.declared.reply.Refusal.{Refusal}
 use Rattle.sb_machine.specs.declared.reply.Refusal.TheVariants.{DiskFault, OutOfMemory, Exhausted}
 use Rattle.sb_machine.specs.declared.state.State.{State}
 use Rattle.sb_engine.specs.Small.{takes_no_memory}
+use Rattle.sb_desk.specs.Entries.{made_by}
 
 -- ---- the entries of a step
 
@@ -23,27 +23,14 @@ log_of s stopped = record { state = s; stopped = is_some stopped; failing = fals
 
 -- the call of a step, and before it the tick, if time went on
 abbrev pub entries_with : Option ℕ → ℕ → ℕ → Call → Result Answered Refusal → List Entry
-entries_with None seat reading call answer = Replied seat reading call answer ∷ []
-entries_with (Some t) seat reading call answer = Ticked seat t ∷ Replied seat reading call answer ∷ []
+entries_with tick seat reading call answer = made_by seat tick reading call answer
 
--- Entries that are legal behind this place led to that one. It fails one call alone: no other call is answered by the disk's failure.
+-- Entries that are legal behind this place led to that one. What comes has no part in a disk's failure: no other call is answered so.
 pub record IsStep (before : Log) (entries : List Entry) (after : Log) : Type 0 where
   pub legal : IsLegalFrom before entries
   pub leads : after ≡ settled (after_entries before entries)
 
 -- ---- the states of a step
-
--- time goes on to a moment: something is due there, and the numbers that this gives are left
-abbrev pub is_ticking : ℕ → State → Bool
-is_ticking t s = is_due t s.space && not (is_spent s t)
-
--- the state as time comes up to a moment, where it can
-abbrev pub time_to : ℕ → State → State
-time_to t s = if is_ticking t s then advanced s t else s
-
--- the state after a call at a moment; where something is due still, it isn't made
-abbrev pub called_at : ℕ → Call → State → State
-called_at t call s = if is_due t s.space then s else state_of s t call
 
 -- the state with the tick of a step, if there was one
 abbrev pub ticked_to : Option ℕ → State → State

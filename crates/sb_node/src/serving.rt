@@ -4,8 +4,8 @@ ghost use Rattle.sb_node.specs.Serving.{node_origin, StandsFor};
 ghost use Rattle.sb_node.specs.Steps.{is_spared};
 
 use crate::Node;
-use sb_desk::{Report, Served, Stepped};
-use sb_machine::{Call, Path};
+use sb_desk::{Post, Report, Served, Stepped};
+use sb_machine::Path;
 use sb_outside::Disk;
 
 impl<D: Disk> Served for Node<D> {
@@ -21,13 +21,10 @@ impl<D: Disk> Served for Node<D> {
         sb_engine::mark_of(path)
     }
 
-    fn step(&mut self, reading: u64, call: &Call) -> Stepped {
-        let answer = self.step_on(reading, call);
-        let tick = self.ticked();
+    fn step_group(&mut self, posts: &mut [Post]) -> Stepped {
+        self.make_group(posts);
         let entered = self.take_entered();
         Stepped {
-            answer,
-            tick,
             entered,
             soonest: self.soonest(),
             sizes: self.sizes(),

@@ -8,15 +8,21 @@ use Rattle.sb_machine.specs.History.{stops}
 use Rattle.sb_machine.specs.declared.history.Entry.{Entry}
 use Rattle.sb_machine.specs.declared.reply.Answered.{Answered}
 use Rattle.sb_machine.specs.declared.reply.Refusal.{Refusal}
-use Rattle.sb_desk.specs.Desks.{Sitting}
+use Rattle.sb_desk.specs.Desks.{Asking, Sitting}
+use Rattle.sb_desk.specs.Entries.{made_by}
 use Rattle.sb_lines.specs.Replies.{answer_line}
 use Rattle.sb_lines.specs.declared.form.Form.{Form}
+use Rattle.sb_lines.specs.declared.line.Line.{Line as ScriptLine}
 use Rattle.sb_server.specs.declared.ask.Ask.TheVariants.{Lines}
 use Rattle.sb_server.specs.declared.body.LineAsk.{LineAsk}
+use Rattle.sb_server.specs.declared.body.LineAsk.TheVariants.{Call as LineCall}
+use Rattle.sb_server.specs.declared.doing.Begun.{Begun}
+use Rattle.sb_server.specs.declared.pending.Pending.{Pending}
+use Rattle.sb_server.specs.declared.pending.Pending.TheVariants.{Line as ForLine}
 use Rattle.sb_server.specs.declared.script.Script.{Script}
 use Rattle.sb_server.specs.declared.telling.Said.TheVariants.{Lines as OfLines}
 use Rattle.sb_server.specs.declared.telling.Telling.{Telling}
-use Rattle.sb_server.specs.Doings.{Answers, HasCalled, IsCallingOn, IsSaying, IsDue, telling_of}
+use Rattle.sb_server.specs.Doings.{Answers, HasCalled, IsCallingOn, IsSaying, IsDue, IsNext, IsPosted, doing_by, telling_of, went_by}
 use Rattle.sb_server.specs.Responds.{LineCalled, IsLineCalled, AreCalled, form_of, replies_to, any_stops, lines_bytes, turn_of}
 use Rattle.sb_server.specs.Talks.{Start, Here, ending_of}
 use Rattle.sb_server.specs.Waiting.{GoesBy}
@@ -105,6 +111,18 @@ called_next IsReading s h after old new c form a left text stopped closes goes c
   is,
   refl,
 )
+
+-- its call is posted
+pub line_posted : (IsReading : ℕ → Type 0) (s : Start) (h : Here) (a : Asking) (pending : Pending) (old new : Script) (line : ScriptLine) (reading : ℕ)
+    → IsCallingOn IsReading s h old → old.left.items ≡ LineCall line ∷ new.left.items → new.text ≡ old.text → new.stopped ≡ old.stopped → new.closes ≡ old.closes
+    → ◌≡◌ {A = Asking} a (record { pass = h.pass; reading = reading; call = line.timed.call }) → pending ≡ ForLine new line.form → IsReading reading → IsPosted IsReading s h a pending
+line_posted IsReading s h a pending old new line reading on left text stopped closes asked is here =
+    let mine : Asking = record { pass = h.pass; reading = reading; call = line.timed.call } in
+    let goes_on : IsPosted IsReading s h mine (ForLine new line.form) = λ answer after begun goes what.
+    let c : LineCalled = record { line = LineCall line; made = made_by h.pass.seat goes.0 reading line.timed.call answer; answer = answer } in
+    subst (λ (b : Begun). IsNext IsReading s (record h { pass = after }) (went_by b) (doing_by b)) (sym what)
+    (called_next IsReading s h after old new c line.form on left text stopped closes goes.1 (goes.0, reading, here, refl) refl) in
+    subst (λ (x : Asking). IsPosted IsReading s h x pending) (sym asked) (subst (λ (x : Pending). IsPosted IsReading s h mine x) (sym is) goes_on)
 
 -- its reply stands
 pub said_next : (IsReading : ℕ → Type 0) (s : Start) (h : Here) (old new : Script) (form : Form) (answer : Result Answered Refusal)

@@ -7,10 +7,10 @@ use Rattle.atomic_table.proofs.owned.Table.TheSendSync as table
 use Rattle.matchit.proofs.tree.Node.TheLaws.TheKnot as knot
 use Rattle.matchit.specs.contracts.router.Router as router
 use Rattle.sb_desk.proofs.bells.Bells.TheSendSync as bells
+use Rattle.sb_desk.proofs.post.Post.TheSendSync as post
 use Rattle.sb_desk.specs.declared.served.Served.{Ghosts}
 use Rattle.sb_desk.specs.contracts.desk.Desk as desk
 use Rattle.sb_desk.specs.contracts.view.Held as held
-use Rattle.sb_desk.specs.contracts.view.Made as made
 use Rattle.sb_routes.proofs.routes.Route.TheSendSync as route
 use Rattle.sb_routes.specs.contracts.routes.Routes as routes
 use Rattle.sb_rest.specs.contracts.access.Access as access
@@ -28,11 +28,8 @@ access_sync = search (crosses, sendable) depth 60 fits 20000
 pub limits_sync : IsSync limits.the_row
 limits_sync = search (crosses, sendable) depth 60 fits 20000
 
-made_send : IsSend made.the_row
-made_send = search (crosses, sendable) depth 60 fits 20000
-
 held_send : (V : RattleType) → IsSend V → IsSend (held.the_row V)
-held_send V s = search (crosses, sendable, made_send) depth 60 fits 20000
+held_send V s = search (crosses, sendable, post.the_send) depth 60 fits 20000
 
 slot_send : (V : RattleType) → IsSend V → IsSend (option.the_row (held.the_row V))
 slot_send V s = search (crosses, sendable, held_send) depth 60 fits 20000

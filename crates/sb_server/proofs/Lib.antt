@@ -8,6 +8,7 @@ pub mod Turning
 pub mod Stepping
 pub mod Looking
 pub mod Calling
+pub mod Posting
 pub mod Working
 pub mod Attending
 pub mod Words

@@ -7,26 +7,23 @@ use Rattle.sb_machine.specs.declared.reply.Refusal.{Refusal}
 use Rattle.sb_desk.specs.Desks.{Sitting}
 use Rattle.sb_desk.specs.Entries.{made_by}
 use Rattle.sb_lines.specs.declared.form.Form.TheVariants.{Plain}
-use Rattle.sb_lines.specs.declared.line.Line.{Line as ScriptLine}
 use Rattle.sb_rest.specs.declared.access.Access.{Access}
 use Rattle.sb_rest.specs.declared.call.RestFault.{RestFault}
-use Rattle.sb_rest.specs.declared.call.Wanted.{Wanted}
 use Rattle.sb_http.specs.Messages.{RequestMessage}
 use Rattle.sb_server.specs.declared.telling.Turn.{Turn}
 use Rattle.sb_server.specs.declared.telling.Turn.TheVariants.{Goes, Closes, Stops}
-use Rattle.sb_server.specs.declared.telling.Said.TheVariants.{Call as OfCall, Line as OfLine, Fault as OfFault}
+use Rattle.sb_server.specs.declared.telling.Said.TheVariants.{Line as OfLine, Fault as OfFault}
 use Rattle.sb_server.specs.declared.telling.Telling.{Telling}
 use Rattle.sb_server.specs.declared.doing.Begun.{Begun}
-use Rattle.sb_server.specs.declared.doing.Begun.TheVariants.{Done, Waits, Calls}
+use Rattle.sb_server.specs.declared.doing.Begun.TheVariants.{Done, Waits, Calls, Says as WasCalled}
 use Rattle.sb_server.specs.declared.patience.Patience.{Patience}
 use Rattle.sb_server.specs.declared.ask.Ask.{Ask}
-use Rattle.sb_server.specs.declared.ask.Asker.{Asker}
 use Rattle.sb_server.specs.declared.ask.Ask.TheVariants.{Once, Patient, Line, BadLine, Lines, Fault}
 use Rattle.sb_server.specs.declared.ask.Waiter.{Waiter}
 use Rattle.sb_server.specs.declared.ask.Waiter.TheVariants.{ByRest, ByLine}
 use Rattle.sb_server.specs.Asks.{AsksFor, IsLineAsk, IsScript}
 use Rattle.sb_server.specs.Doings.{Answers, Says, Begins, IsSettled, said_of, stops_by, telling_of}
-use Rattle.sb_server.specs.Responds.{AnswersWaiter, IsInOrder, Responds, Responded, IsLast, turn_of, waiter_call}
+use Rattle.sb_server.specs.Responds.{AnswersWaiter, IsInOrder, Responds, Responded, IsLast, once, turn_of, waiter_call}
 use Rattle.sb_server.specs.Talks.{ending_of}
 use Rattle.sb_server.specs.Waiting.{GoesByCall, Waiting}
 use Rattle.sb_server.proofs.Going.{goes_by_none, waiting_done}
@@ -87,19 +84,13 @@ responds_more IsReading access seat (k ∷ ms) made out m mine first t (mine', r
 
 -- ---- what came of a request
 
--- a call was answered
-pub once_begins : (IsReading : ℕ → Type 0) (pass new : Sitting) (ask : Ask) (w : Wanted) (asker : Asker) (closes : Bool) (answer : Result Answered Refusal) (reading : ℕ) (told : Telling)
-    → ask ≡ Once w asker → GoesByCall pass reading w.call answer new → IsReading reading → told ≡ telling_of (OfCall w asker answer) closes → Answers IsReading pass ask closes new told
-once_begins IsReading pass new ask w asker closes answer reading told is goes here same =
-    subst (λ (a : Ask). Answers IsReading pass a closes new told) (sym is) (subst (λ (t : Telling). Answers IsReading pass (Once w asker) closes new t) (sym same)
-    (made_by pass.seat goes.0 reading w.call answer, turn_of closes (stops answer), goes.1, refl, λ out says. (answer, (goes.0, reading, here, refl), says, refl)))
-
--- a script line was
-pub line_begins : (IsReading : ℕ → Type 0) (pass new : Sitting) (ask : Ask) (line : ScriptLine) (closes : Bool) (answer : Result Answered Refusal) (reading : ℕ) (told : Telling)
-    → ask ≡ Line line → GoesByCall pass reading line.timed.call answer new → IsReading reading → told ≡ telling_of (OfLine line.form answer) closes → Answers IsReading pass ask closes new told
-line_begins IsReading pass new ask line closes answer reading told is goes here same =
-    subst (λ (a : Ask). Answers IsReading pass a closes new told) (sym is) (subst (λ (t : Telling). Answers IsReading pass (Line line) closes new t) (sym same)
-    (made_by pass.seat goes.0 reading line.timed.call answer, turn_of closes (stops answer), goes.1, refl, λ out says. (answer, (goes.0, reading, here, refl), says, refl)))
+-- a call was answered that is made once
+pub once_begins : (IsReading : ℕ → Type 0) (pass new : Sitting) (waiter : Waiter) (closes : Bool) (answer : Result Answered Refusal) (reading : ℕ)
+    → GoesByCall pass reading (waiter_call waiter) answer new → IsReading reading → Answers IsReading pass (once waiter) closes new (telling_of (said_of waiter answer) closes)
+once_begins IsReading pass new (ByRest w asker) closes answer reading goes here =
+    (made_by pass.seat goes.0 reading w.call answer, turn_of closes (stops answer), goes.1, refl, λ out says. (answer, (goes.0, reading, here, refl), says, refl))
+once_begins IsReading pass new (ByLine line) closes answer reading goes here =
+    (made_by pass.seat goes.0 reading line.timed.call answer, turn_of closes (stops answer), goes.1, refl, λ out says. (answer, (goes.0, reading, here, refl), says, refl))
 
 -- it was no call
 pub no_line_begins : (IsReading : ℕ → Type 0) (pass : Sitting) (ask : Ask) (closes : Bool) (answer : Result Answered Refusal) (told : Telling)
@@ -136,6 +127,7 @@ settled_begins IsReading pass new p (Done told) w x =
       λ out says. (p.answer, waits.2, said_answers p.waiter p.answer p.closes out says, refl),
     )
 settled_begins IsReading pass new p (Calls script) w x = absurd x
+settled_begins IsReading pass new p (WasCalled script form said) w x = absurd x
 settled_begins IsReading pass new p (Waits q) w x =
     subst (λ (r : Patience). Begins IsReading pass (Patient p.waiter p.limit_ms) p.closes new (Waits r)) (sym x.0)
     (refl, refl, record { waiting = w; empty = x.1; early = x.2 })

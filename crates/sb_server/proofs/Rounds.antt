@@ -6,13 +6,16 @@ use Rattle.sb_desk.specs.Desks.{Open, Sitting, IsOf}
 use Rattle.sb_rest.specs.declared.access.Access.{Access}
 use Rattle.sb_server.specs.declared.limits.Limits.{Limits}
 use Rattle.sb_server.specs.declared.job.Job.{Job}
+use Rattle.sb_server.specs.declared.seat.Seat.{Seat}
+use Rattle.sb_server.specs.declared.seat.Seat.TheVariants.{Free}
 use Rattle.sb_server.specs.declared.stage.Stage.{Stage}
 use Rattle.sb_server.specs.declared.stage.Stage.TheVariants.{Wants, Serves, Over}
 use Rattle.sb_server.specs.declared.work.Stop.{Stop}
 use Rattle.sb_server.specs.Serves.{Worker, Working, HasPass, Did, IsAtWork, HasCome}
+use Rattle.sb_server.specs.Doings.{IsFree, sitting_of}
 use Rattle.sb_server.specs.Stages.{IsAt, IsSound, IsOver, stop_at, is_over}
 use Rattle.sb_server.specs.Works.{ServesBy}
-use Rattle.sb_server.proofs.Attending.{at_first}
+use Rattle.sb_server.proofs.Attending.{at_first, free_over}
 use Rattle.sb_server.proofs.Outcomes.{stopped_seen}
 
 -- a fact of each, of which one was changed
@@ -41,6 +44,9 @@ all_of p [] e k d lt = absurd (omega (arith, lt))
 all_of p (x ∷ xs) e zero d lt = and_first (p x) (list_all p xs) e
 all_of p (x ∷ xs) e (suc k) d lt = all_of p xs (and_second (p x) (list_all p xs) e) k d (omega (arith, lt))
 
+some_same : (p q : Seat) → Some p ≡ Some q → p ≡ q
+some_same p q e = ap (λ (o : Option Seat). elim o [ Some z ↦ z | None ↦ p ]) e
+
 module _ {D X : Type 0} (IsReading : ℕ → Type 0) (access : Access) (limits : Limits) (there given : X → Option (List ℕ)) (reads writes : X → ℕ) (waiting taken : D → Option (List X)) (ended : D → Bool) (count out : D → ℕ) (most : ℕ) where
   abbrev Come : Job D X → Job D X → Type 0
   Come began now = HasCome IsReading access limits there given reads writes waiting taken ended count out most began now
@@ -49,61 +55,63 @@ module _ {D X : Type 0} (IsReading : ℕ → Type 0) (access : Access) (limits :
   pub come_first : (desk : Open) (job : Job D X) → HasPass desk most job → Come job job
   come_first desk job h = record {
     pass = h.pass;
-    pass_now = h.pass;
+    seat = Free h.pass;
     had = h.has;
     has = h.has;
-    at = subst (λ (s : Stage X). IsAt IsReading access limits there given reads writes waiting taken ended count out most h.pass job.door h.pass job.door s) (sym h.fresh) (at_first IsReading access limits there given reads writes waiting taken ended count out most h.pass job.door);
+    at = subst (λ (s : Stage X). IsAt IsReading access limits there given reads writes waiting taken ended count out most h.pass job.door (Free h.pass) job.door s) (sym h.fresh) (at_first IsReading access limits there given reads writes waiting taken ended count out most h.pass job.door);
     stop_is = sym (ap (λ (s : Stage X). stop_at s job.stop) h.fresh);
   }
 
   -- one worker made a step
-  pub come_on : (began old new : Job D X) (pass after : Sitting) → Come began old → old.pass ≡ Some pass → new.pass ≡ Some after
-      → ((p : Sitting) (d : D) → IsAt IsReading access limits there given reads writes waiting taken ended count out most p d pass old.door old.stage → IsAt IsReading access limits there given reads writes waiting taken ended count out most p d after new.door new.stage)
+  pub come_on : (began old new : Job D X) (seat after : Seat) → Come began old → old.seat ≡ Some seat → new.seat ≡ Some after
+      → ((p : Sitting) (d : D) → IsAt IsReading access limits there given reads writes waiting taken ended count out most p d seat old.door old.stage → IsAt IsReading access limits there given reads writes waiting taken ended count out most p d after new.door new.stage)
       → new.stop ≡ stop_at new.stage new.stop → Come began new
-  come_on began old new pass after c had has goes stop = record {
+  come_on began old new seat after c had has goes stop = record {
     pass = c.pass;
-    pass_now = after;
+    seat = after;
     had = c.had;
     has = has;
-    at = goes c.pass began.door (subst (λ (p : Sitting). IsAt IsReading access limits there given reads writes waiting taken ended count out most c.pass began.door p old.door old.stage) (some_same c.pass_now pass (sym c.has ∙ had)) c.at);
+    at = goes c.pass began.door (subst (λ (p : Seat). IsAt IsReading access limits there given reads writes waiting taken ended count out most c.pass began.door p old.door old.stage) (some_same c.seat seat (sym c.has ∙ had)) c.at);
     stop_is = stop;
   }
-    where
-      some_same : (p q : Sitting) → Some p ≡ Some q → p ≡ q
-      some_same p q e = ap (λ (o : Option Sitting). elim o [ Some z ↦ z | None ↦ p ]) e
 
   -- it is looked at again at another reading
   pub come_again : (began now : Job D X) (again : ℕ) → Come began now → Come began (record now { again = again })
-  come_again began now again c = record { pass = c.pass; pass_now = c.pass_now; had = c.had; has = c.has; at = c.at; stop_is = c.stop_is }
+  come_again began now again c = record { pass = c.pass; seat = c.seat; had = c.had; has = c.has; at = c.at; stop_is = c.stop_is }
 
   -- it is over
   pub come_over : (desk : Open) (began now : Job D X) → Come began now → IsAtWork out desk now → is_over now.stage ≡ true → Did (Working (ServesBy IsReading access limits there given reads writes) waiting taken ended count out desk most) began now
   come_over desk began now c w over = by now.stage refl over
     where
-      some_same : (p q : Sitting) → Some p ≡ Some q → p ≡ q
-      some_same p q e = ap (λ (o : Option Sitting). elim o [ Some z ↦ z | None ↦ p ]) e
+      same : w.seat ≡ c.seat
+      same = some_same w.seat c.seat (sym w.has ∙ c.has)
+
+      free : IsFree c.seat
+      free = free_over c.seat now.stage (out now.door) over (subst (λ (s : Seat). IsSound s now.stage (out now.door)) same w.sound)
 
       by : (stage : Stage X) → now.stage ≡ stage → is_over stage ≡ true → Did (Working (ServesBy IsReading access limits there given reads writes) waiting taken ended count out desk most) began now
       by (Wants left) is e = absurd cc
       by (Serves left guest) is e = absurd cc
       by (Over stop) is e =
-          let o : IsOver IsReading access limits there given reads writes waiting taken ended count out most c.pass began.door c.pass_now now.door stop = subst (λ (s : Stage X). IsAt IsReading access limits there given reads writes waiting taken ended count out most c.pass began.door c.pass_now now.door s) is c.at in
-          let worker : Worker D = record { pass = c.pass; door = began.door; pass_after = c.pass_now; door_after = now.door; stop = stop } in
+          let pass : Sitting = free.0 in
+          let at : IsAt IsReading access limits there given reads writes waiting taken ended count out most c.pass began.door (Free pass) now.door now.stage = subst (λ (s : Seat). IsAt IsReading access limits there given reads writes waiting taken ended count out most c.pass began.door s now.door now.stage) free.1 c.at in
+          let o : IsOver IsReading access limits there given reads writes waiting taken ended count out most c.pass began.door pass now.door stop = subst (λ (s : Stage X). IsAt IsReading access limits there given reads writes waiting taken ended count out most c.pass began.door (Free pass) now.door s) is at in
+          let worker : Worker D = record { pass = c.pass; door = began.door; pass_after = pass; door_after = now.door; stop = stop } in
           record {
             worker = worker;
             had = c.had;
             at = refl;
-            has = c.has;
+            has = c.has ∙ ap (λ (s : Seat). Some s) free.1;
             left = refl;
             over = over;
             stop = c.stop_is ∙ ap (λ (s : Stage X). stop_at s now.stop) is;
             does = record {
-              of = subst (IsOf desk) (some_same w.pass c.pass_now (sym w.has ∙ c.has)) w.of;
+              of = subst (λ (s : Seat). IsOf desk (sitting_of s)) (same ∙ free.1) w.of;
               visits = o.visits;
               works = o.works;
               stops = o.stops;
               out_is = o.out_is;
-              stopped = stopped_seen IsReading access limits there given reads writes c.pass c.pass_now o.visits stop most (ended now.door) (count began.door) (count now.door) o.works.worked o.stops;
+              stopped = stopped_seen IsReading access limits there given reads writes c.pass pass o.visits stop most (ended now.door) (count began.door) (count now.door) o.works.worked o.stops;
             };
           }
 
@@ -113,7 +121,13 @@ stop_twice (Serves left guest) stop other e = refl
 stop_twice (Over s) stop other e = e
 
 pub work_first : {D X : Type 0} (out : D → ℕ) (desk : Open) (most : ℕ) (job : Job D X) → HasPass desk most job → IsAtWork out desk job
-work_first {X = X} out desk most job h = record { pass = h.pass; has = h.has; of = h.of; sound = subst (λ (s : Stage X). IsSound s (out job.door)) (sym h.fresh) tt }
+work_first {X = X} out desk most job h = record { seat = Free h.pass; has = h.has; of = h.of; sound = subst (λ (s : Stage X). IsSound (Free h.pass) s (out job.door)) (sym h.fresh) (h.pass, refl) }
 
 pub work_again : {D X : Type 0} (out : D → ℕ) (desk : Open) (job : Job D X) (again : ℕ) → IsAtWork out desk job → IsAtWork out desk (record job { again = again })
-work_again out desk job again w = record { pass = w.pass; has = w.has; of = w.of; sound = w.sound }
+work_again out desk job again w = record { seat = w.seat; has = w.has; of = w.of; sound = w.sound }
+
+-- what it makes its calls with
+pub seat_at : {D X : Type 0} (out : D → ℕ) (desk : Open) (job : Job D X) (seat : Seat) → IsAtWork out desk job → job.seat ≡ Some seat → IsOf desk (sitting_of seat) × IsSound seat job.stage (out job.door)
+seat_at out desk job seat w is =
+    let same : w.seat ≡ seat = some_same w.seat seat (sym w.has ∙ is) in
+    (subst (λ (s : Seat). IsOf desk (sitting_of s)) same w.of, subst (λ (s : Seat). IsSound s job.stage (out job.door)) same w.sound)

@@ -7,7 +7,7 @@ use Rattle.std.proofs.lemmas.List.{take_rest}
 use Rattle.sb_machine.specs.declared.history.Entry.{Entry}
 use Rattle.sb_machine.specs.declared.reply.Answered.{Answered}
 use Rattle.sb_machine.specs.declared.reply.Refusal.{Refusal}
-use Rattle.sb_desk.specs.Desks.{Sitting}
+use Rattle.sb_desk.specs.Desks.{Asking, Sitting}
 use Rattle.sb_outside.specs.Causes.{Rose, RoseByOne}
 use Rattle.sb_outside.specs.Streams.{Gains, GainsPart, Stays, WritesSome}
 use Rattle.sb_outside.proofs.Gains.{gains-none, gains-take}
@@ -19,16 +19,17 @@ use Rattle.sb_server.specs.declared.ask.Ask.TheVariants.{Patient}
 use Rattle.sb_server.specs.declared.body.LineAsk.{LineAsk}
 use Rattle.sb_server.specs.declared.script.Script.{Script}
 use Rattle.sb_server.specs.declared.doing.Begun.{Begun}
-use Rattle.sb_server.specs.declared.doing.Begun.TheVariants.{Done, Waits, Calls}
+use Rattle.sb_server.specs.declared.doing.Begun.TheVariants.{Done, Waits, Calls, Says as WasCalled}
 use Rattle.sb_server.specs.declared.doing.Doing.{Doing}
 use Rattle.sb_server.specs.declared.doing.Doing.TheVariants.{Reads, Asks, Calls as Calling, Says as Saying, Tells, Writes}
 use Rattle.sb_server.specs.declared.doing.Outgoing.{Outgoing}
 use Rattle.sb_server.specs.declared.patience.Patience.{Patience}
+use Rattle.sb_server.specs.declared.pending.Pending.{Pending}
 use Rattle.sb_server.specs.declared.telling.Telling.{Telling}
 use Rattle.sb_server.specs.declared.ending.Ending.{Ending}
 use Rattle.sb_server.specs.declared.ending.Ending.TheVariants.{WriteFault}
 use Rattle.sb_server.specs.Asks.{AsksFor, asks_close}
-use Rattle.sb_server.specs.Doings.{Says, Answers, IsPatient, IsFresh, HasCalled, Begins, IsAsking, IsDue, Owes, IsNext, IsDoingInOrder, IsBegunInOrder, refused_by, refusing, asks, behind, went_by, doing_by, said_of, farewell}
+use Rattle.sb_server.specs.Doings.{Says, Answers, IsPatient, IsFresh, HasCalled, Begins, BeginsBy, IsAsking, IsPosted, IsDue, Owes, IsNext, IsDoingInOrder, IsBegunInOrder, refused_by, refusing, asks, behind, went_by, doing_by, said_of, farewell}
 use Rattle.sb_server.specs.Reads.{Takes, IsDone, IsGone}
 use Rattle.sb_server.specs.Responds.{AnswersWaiter, GivenUp, waiter_call}
 use Rattle.sb_server.specs.Talks.{Start, Here, Talks, Ends, TurnsTo, refusal_bytes, refusal_ending}
@@ -137,6 +138,7 @@ begun_next IsReading s h n m ask closes (Waits p) t x asks is begins same writes
   closes_is = begins.1 ∙ is;
   patient = begins.2;
 }
+begun_next IsReading s h n m ask closes (WasCalled script form answer) t x asks is begins same writes = absurd begins
 begun_next IsReading s h n m ask closes (Calls script) t x asks is begins same writes =
     let fresh : IsFresh ask closes script = begins.0 in
     let called : HasCalled IsReading h.pass fresh.0 script [] [] h.pass = fresh_called IsReading h.pass fresh.0 script fresh.2 fresh.3 fresh.4 in (
@@ -156,14 +158,21 @@ begun_next IsReading s h n m ask closes (Calls script) t x asks is begins same w
       },
     )
 
--- what waits was asked again
-pub asking_next : (IsReading : ℕ → Type 0) (s : Start) (h n : Here) (p : Patience) (begun : Begun) → IsAsking IsReading s h p → Reaches h n []
-    → ((old : Sitting) → IsPatient IsReading old p h.pass → Begins IsReading old (Patient p.waiter p.limit_ms) p.closes n.pass begun)
-    → n.written ≡ h.written → h.writes ≤ n.writes → IsNext IsReading s n (went_by begun) (doing_by begun)
-asking_next IsReading s h n p begun a x begins written writes =
-    begun_next IsReading s a.old n a.m (Patient p.waiter p.limit_ms) p.closes begun a.talks
-    (record { takes = takes_on a.old.stand h.stand n.stand (a.m ∷ []) [] a.takes x.takes; reads = omega (arith, a.reads, x.reads) })
-    a.asks a.closes_is (begins a.old.pass a.patient) (written ∙ a.written) (omega (arith, a.writes, writes))
+-- a call of it is posted
+pub posted_next : (IsReading : ℕ → Type 0) (s : Start) (h n : Here) (m : RequestMessage) (ask : Ask) (closes : Bool) (a : Asking) (pending : Pending)
+    → Talks IsReading s h Goes → Reaches h n (m ∷ []) → AsksFor s.access m ask → closes ≡ asks_close m → BeginsBy IsReading h.pass ask closes a pending → n.written ≡ h.written → h.writes ≤ n.writes
+    → IsPosted IsReading s n a pending
+posted_next IsReading s h n m ask closes a pending t x asks is begins same writes = λ answer new begun goes answered.
+    begun_next IsReading s h (record n { pass = new }) m ask closes begun t (record { takes = x.takes; reads = x.reads }) asks is (begins answer new begun goes answered) same writes
+
+-- what waits is asked again
+pub asking_next : (IsReading : ℕ → Type 0) (s : Start) (h n : Here) (p : Patience) (a : Asking) (pending : Pending) → IsAsking IsReading s h p → Reaches h n []
+    → ((old : Sitting) → IsPatient IsReading old p h.pass → BeginsBy IsReading old (Patient p.waiter p.limit_ms) p.closes a pending)
+    → n.written ≡ h.written → h.writes ≤ n.writes → IsPosted IsReading s n a pending
+asking_next IsReading s h n p a pending i x begins written writes =
+    posted_next IsReading s i.old n i.m (Patient p.waiter p.limit_ms) p.closes a pending i.talks
+    (record { takes = takes_on i.old.stand h.stand n.stand (i.m ∷ []) [] i.takes x.takes; reads = omega (arith, i.reads, x.reads) })
+    i.asks i.closes_is (begins i.old.pass i.patient) (written ∙ i.written) (omega (arith, i.writes, writes))
 
 -- ---- writing
 
@@ -214,6 +223,7 @@ pub next_in_order : (begun : Begun) → IsBegunInOrder begun → IsDoingInOrder 
 next_in_order (Done told) o = tt
 next_in_order (Waits p) o = o
 next_in_order (Calls script) o = o
+next_in_order (WasCalled script form answer) o = o
 
 -- ---- what waits
 

@@ -8,7 +8,8 @@ use Rattle.sb_machine.specs.Ordered.{IsActInOrder}
 use Rattle.sb_machine.specs.declared.history.Entry.{Entry}
 use Rattle.sb_machine.specs.declared.reply.Answered.{Answered}
 use Rattle.sb_machine.specs.declared.reply.Refusal.{Refusal}
-use Rattle.sb_desk.specs.Desks.{Sitting}
+use Rattle.sb_machine.specs.declared.call.Call.{Call}
+use Rattle.sb_desk.specs.Desks.{Asking, Sitting}
 use Rattle.sb_desk.specs.Lists.{Each}
 use Rattle.sb_outside.specs.Causes.{Rose}
 use Rattle.sb_outside.specs.Streams.{Gains, GainsPart}
@@ -20,28 +21,34 @@ use Rattle.sb_server.specs.declared.telling.Turn.TheVariants.{Goes}
 use Rattle.sb_server.specs.declared.telling.Said.{Said}
 use Rattle.sb_server.specs.declared.telling.Said.TheVariants.{Call as OfCall, Line as OfLine, Lines as OfLines, Fault as OfFault}
 use Rattle.sb_server.specs.declared.telling.Telling.{Telling}
+use Rattle.sb_server.specs.declared.answer.Asked.{Asked}
+use Rattle.sb_server.specs.declared.answer.Asked.TheVariants.{Posts as AsPosted, Begins as AsBegun}
 use Rattle.sb_server.specs.declared.ask.Ask.{Ask}
 use Rattle.sb_server.specs.declared.body.LineAsk.{LineAsk}
 use Rattle.sb_server.specs.declared.ask.Ask.TheVariants.{Patient, Lines}
 use Rattle.sb_server.specs.declared.ask.Waiter.{Waiter}
 use Rattle.sb_server.specs.declared.ask.Waiter.TheVariants.{ByRest, ByLine}
 use Rattle.sb_server.specs.declared.doing.Begun.{Begun}
-use Rattle.sb_server.specs.declared.doing.Begun.TheVariants.{Done, Waits, Calls as WillCall}
+use Rattle.sb_server.specs.declared.doing.Begun.TheVariants.{Done, Waits, Calls as WillCall, Says as WasCalled}
 use Rattle.sb_server.specs.declared.doing.Doing.{Doing}
 use Rattle.sb_server.specs.declared.doing.Doing.TheVariants.{Reads, Asks, Calls, Says as WillSay, Tells, Writes}
 use Rattle.sb_server.specs.declared.doing.Went.{Went}
 use Rattle.sb_server.specs.declared.doing.Went.TheVariants.{On, NothingYet, Blocked, Over}
 use Rattle.sb_server.specs.declared.doing.Outgoing.{Outgoing}
 use Rattle.sb_server.specs.declared.patience.Patience.{Patience}
+use Rattle.sb_server.specs.declared.pending.Pending.{Pending}
+use Rattle.sb_server.specs.declared.pending.Pending.TheVariants.{Once, Waits as ForWaiter, Line as ForLine}
 use Rattle.sb_server.specs.declared.script.Script.{Script}
+use Rattle.sb_server.specs.declared.seat.Seat.{Seat}
+use Rattle.sb_server.specs.declared.seat.Seat.TheVariants.{Free, Posts}
 use Rattle.sb_server.specs.declared.ending.Ending.{Ending}
 use Rattle.sb_server.specs.declared.ending.Ending.TheVariants.{WriteFault, OutOfMemory, Gone}
 use Rattle.sb_server.specs.Asks.{AsksFor, asks_close}
 use Rattle.sb_server.specs.Reads.{Takes}
 use Rattle.sb_server.specs.Bodies.{IsLineInOrder}
-use Rattle.sb_server.specs.Responds.{LineCalled, AreCalled, AnswersCall, RespondsTo, any_stops, fault_bytes, form_of, line_bytes, lines_bytes, replies_to, turn_of, waiter_call}
+use Rattle.sb_server.specs.Responds.{LineCalled, AreCalled, AnswersCall, RespondsTo, any_stops, fault_bytes, form_of, line_bytes, lines_bytes, replies_to, turn_of, waiter_call, waiter_of}
 use Rattle.sb_server.specs.Talks.{Start, Here, Talks, ReadsOut, Ends, TurnsTo, ending_of}
-use Rattle.sb_server.specs.Waiting.{GoesBy, Waiting, is_empty}
+use Rattle.sb_server.specs.Waiting.{GoesBy, GoesByCall, Waiting, is_empty}
 
 -- ---- what is to be told of a request
 
@@ -84,6 +91,7 @@ pub record IsPatient (IsReading : ℕ → Type 0) (pass : Sitting) (p : Patience
 abbrev pub IsSettled : Patience → Begun → Type 0
 IsSettled p (Done told) = (told ≡ telling_of (said_of p.waiter p.answer) p.closes) × (is_empty p.answer ≡ true → p.first_ms + p.limit_ms ≤ p.asked_ms)
 IsSettled p (WillCall script) = ⊥
+IsSettled p (WasCalled script form answer) = ⊥
 IsSettled p (Waits q) = (q ≡ p) × (is_empty p.answer ≡ true) × (p.asked_ms < p.first_ms + p.limit_ms)
 
 -- the pass went on by the entries of a request's calls, whose response this is to be
@@ -109,7 +117,32 @@ IsFresh ask closes script = (lines : List LineAsk) × (ask ≡ Lines lines) × (
 abbrev pub Begins : (ℕ → Type 0) → Sitting → Ask → Bool → Sitting → Begun → Type 0
 Begins IsReading pass ask closes new (Done told) = Answers IsReading pass ask closes new told
 Begins IsReading pass ask closes new (WillCall script) = IsFresh ask closes script × (new ≡ pass)
+Begins IsReading pass ask closes new (WasCalled script form answer) = ⊥
 Begins IsReading pass ask closes new (Waits p) = (ask ≡ Patient p.waiter p.limit_ms) × (p.closes ≡ closes) × IsPatient IsReading pass p new
+
+-- ---- a call that is posted
+
+-- what comes of one that is posted for this, where it is answered so
+abbrev pub IsAnswered : Pending → Call → Result Answered Refusal → Begun → Type 0
+IsAnswered (Once caller closes) call answer begun = begun ≡ Done (telling_of (said_of (waiter_of caller call) answer) closes)
+IsAnswered (ForWaiter caller limit closes first asked again) call answer begun =
+    IsSettled (record { waiter = waiter_of caller call; limit_ms = limit; closes = closes; first_ms = first; asked_ms = asked; answer = answer }) begun
+IsAnswered (ForLine script form) call answer begun = begun ≡ WasCalled script form answer
+
+-- it is of a request's calls: however it is answered, this comes of them then
+abbrev pub BeginsBy : (ℕ → Type 0) → Sitting → Ask → Bool → Asking → Pending → Type 0
+BeginsBy IsReading pass ask closes a pending =
+    (answer : Result Answered Refusal) (new : Sitting) (begun : Begun) → GoesByCall a.pass a.reading a.call answer new → IsAnswered pending a.call answer begun → Begins IsReading pass ask closes new begun
+
+-- what comes of a request's calls, or of the first of them once it is answered
+abbrev pub BeginsAs : (ℕ → Type 0) → Sitting → Ask → Bool → Asked → Type 0
+BeginsAs IsReading pass ask closes (AsBegun new begun) = Begins IsReading pass ask closes new begun
+BeginsAs IsReading pass ask closes (AsPosted sent) = BeginsBy IsReading pass ask closes sent.posted sent.pending
+
+-- the pass behind it, or that with which the call is posted
+abbrev pub pass_in : Asked → Sitting
+pass_in (AsBegun new begun) = new
+pass_in (AsPosted sent) = sent.posted.pass
 
 -- All requests but the last were answered; the last waits, and nothing was written for it.
 pub record IsAsking (IsReading : ℕ → Type 0) (s : Start) (h : Here) (p : Patience) : Type 0 where
@@ -181,14 +214,63 @@ IsNext IsReading s h NothingYet doing = ReadsOut IsReading s h × (doing ≡ Rea
 IsNext IsReading s h Blocked doing = IsDoing IsReading s h doing
 IsNext IsReading s h (Over ending) doing = Ends IsReading s h ending
 
+-- behind a request's calls
+abbrev pub went_by : Begun → Went
+went_by (Done told) = On
+went_by (Waits p) = Blocked
+went_by (WillCall script) = On
+went_by (WasCalled script form answer) = On
+
+-- what it does then
+abbrev pub doing_by : Begun → Doing
+doing_by (Done told) = Tells told
+doing_by (Waits p) = Asks p
+doing_by (WillCall script) = Calls script
+doing_by (WasCalled script form answer) = WillSay script form answer
+
+-- its call is posted: however that is answered, it goes on with what comes of it
+abbrev pub IsPosted : (ℕ → Type 0) → Start → Here → Asking → Pending → Type 0
+IsPosted IsReading s h a pending = (answer : Result Answered Refusal) (new : Sitting) (begun : Begun) → GoesByCall a.pass a.reading a.call answer new → IsAnswered pending a.call answer begun
+    → IsNext IsReading s (record h { pass = new }) (went_by begun) (doing_by begun)
+
 -- one step, however a connection of this server began
 abbrev pub Steps : (ℕ → Type 0) → Access → Here → Doing → Here → Went → Doing → Type 0
 Steps IsReading access old doing new went doing_now = (s : Start) → s.access ≡ access → IsDoing IsReading s old doing → IsNext IsReading s new went doing_now
+
+-- ---- with a pass, or with a call that is posted
+
+-- it has posted nothing
+abbrev pub IsFree : Seat → Type 0
+IsFree seat = (pass : Sitting) × (seat ≡ Free pass)
+
+-- its pass, or that with which it has posted
+abbrev pub sitting_of : Seat → Sitting
+sitting_of (Free pass) = pass
+sitting_of (Posts sent) = sent.posted.pass
+
+-- as far as it has come
+abbrev pub IsDoingAt : (ℕ → Type 0) → Start → Here → Seat → Doing → Type 0
+IsDoingAt IsReading s h (Free pass) doing = IsDoing IsReading s h doing
+IsDoingAt IsReading s h (Posts sent) doing = IsPosted IsReading s h sent.posted sent.pending
+
+-- what comes next
+abbrev pub IsNextAt : (ℕ → Type 0) → Start → Here → Seat → Went → Doing → Type 0
+IsNextAt IsReading s h (Free pass) went doing = IsNext IsReading s h went doing
+IsNextAt IsReading s h (Posts sent) went doing = IsPosted IsReading s h sent.posted sent.pending
+
+-- one step that may post a call
+abbrev pub StepsTo : (ℕ → Type 0) → Access → Here → Doing → Here → Seat → Went → Doing → Type 0
+StepsTo IsReading access old doing new seat went doing_now = (s : Start) → s.access ≡ access → IsDoing IsReading s old doing → IsNextAt IsReading s new seat went doing_now
 
 -- it goes on with this, or has ended
 abbrev pub GoesTo : (ℕ → Type 0) → Start → Here → Option Ending → Doing → Type 0
 GoesTo IsReading s h None doing = IsDoing IsReading s h doing
 GoesTo IsReading s h (Some ending) doing = Ends IsReading s h ending
+
+-- it goes on with this, or with what comes of a call that is posted, or has ended
+abbrev pub GoesToAt : (ℕ → Type 0) → Start → Here → Seat → Option Ending → Doing → Type 0
+GoesToAt IsReading s h seat None doing = IsDoingAt IsReading s h seat doing
+GoesToAt IsReading s h seat (Some ending) doing = Ends IsReading s h ending
 
 -- ---- the calls of what waits, and of lines, are in order
 
@@ -206,6 +288,23 @@ abbrev pub IsBegunInOrder : Begun → Type 0
 IsBegunInOrder (Done told) = Unit {0}
 IsBegunInOrder (Waits p) = IsActInOrder (waiter_call p.waiter).act
 IsBegunInOrder (WillCall script) = Each IsLineInOrder script.left.items
+IsBegunInOrder (WasCalled script form answer) = Each IsLineInOrder script.left.items
+
+-- that of a call that is posted for this
+abbrev pub IsPendingInOrder : Pending → Call → Type 0
+IsPendingInOrder (Once caller closes) call = Unit {0}
+IsPendingInOrder (ForWaiter caller limit closes first asked again) call = IsActInOrder call.act
+IsPendingInOrder (ForLine script form) call = Each IsLineInOrder script.left.items
+
+-- that of what came of a request
+abbrev pub IsAskedInOrder : Asked → Type 0
+IsAskedInOrder (AsBegun pass begun) = IsBegunInOrder begun
+IsAskedInOrder (AsPosted sent) = IsPendingInOrder sent.pending sent.posted.call
+
+-- that of what a connection does, or of the call that it has posted
+abbrev pub IsInOrderAt : Seat → Doing → Type 0
+IsInOrderAt (Free pass) doing = IsDoingInOrder doing
+IsInOrderAt (Posts sent) doing = IsPendingInOrder sent.pending sent.posted.call
 
 -- whether a call waits
 abbrev pub asks : Doing → Bool
@@ -252,15 +351,3 @@ saying true script form answer = Calls script
 abbrev pub behind : Option Ending → Went
 behind None = On
 behind (Some ending) = Over ending
-
--- behind a request's calls
-abbrev pub went_by : Begun → Went
-went_by (Done told) = On
-went_by (Waits p) = Blocked
-went_by (WillCall script) = On
-
--- what it does then
-abbrev pub doing_by : Begun → Doing
-doing_by (Done told) = Tells told
-doing_by (Waits p) = Asks p
-doing_by (WillCall script) = Calls script

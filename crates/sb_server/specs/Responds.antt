@@ -30,6 +30,8 @@ use Rattle.sb_server.specs.declared.ask.Asker.{Asker}
 use Rattle.sb_server.specs.declared.ask.Ask.TheVariants.{Once, Patient, Line, BadLine, Lines, Fault}
 use Rattle.sb_server.specs.declared.ask.Waiter.{Waiter}
 use Rattle.sb_server.specs.declared.ask.Waiter.TheVariants.{ByRest, ByLine}
+use Rattle.sb_server.specs.declared.caller.Caller.{Caller}
+use Rattle.sb_server.specs.declared.caller.Caller.TheVariants.{ByRest as RestCaller, ByLine as LineCaller}
 use Rattle.sb_server.specs.declared.body.LineAsk.{LineAsk}
 use Rattle.sb_server.specs.declared.body.LineAsk.TheVariants.{Call as LineCall, NoCall}
 use Rattle.sb_server.specs.declared.telling.Turn.{Turn}
@@ -68,6 +70,16 @@ line_bytes form answer closes = response_bytes (closed (closes || stops answer) 
 abbrev pub waiter_call : Waiter → Call
 waiter_call (ByRest w asker) = w.call
 waiter_call (ByLine line) = line.timed.call
+
+-- a call of the same kind that is made once
+abbrev pub once : Waiter → Ask
+once (ByRest w asker) = Once w asker
+once (ByLine line) = Line line
+
+-- what waits, where this call is put back to what asks for it
+abbrev pub waiter_of : Caller → Call → Waiter
+waiter_of (RestCaller timeout sight asker) call = ByRest (record { call = call; timeout = timeout; sight = sight }) asker
+waiter_of (LineCaller reading form wait_s) call = ByLine (record { timed = record { reading = reading; call = call }; form = form; wait_s = wait_s })
 
 -- the bytes of the response, by the answer of the last call
 abbrev pub AnswersWaiter : Waiter → Result Answered Refusal → Bool → List ℕ → Type 0

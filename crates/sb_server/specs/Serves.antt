@@ -8,9 +8,12 @@ use Rattle.sb_server.specs.declared.limits.Limits.{Limits}
 use Rattle.sb_server.specs.declared.ending.ServeEnding.{ServeEnding}
 use Rattle.sb_server.specs.declared.ending.ServeEnding.TheVariants.{Done, DoorFault, OutOfMemory}
 use Rattle.sb_server.specs.declared.job.Job.{Job}
+use Rattle.sb_server.specs.declared.seat.Seat.{Seat}
+use Rattle.sb_server.specs.declared.seat.Seat.TheVariants.{Free, Posts}
 use Rattle.sb_server.specs.declared.stage.Stage.TheVariants.{Wants}
 use Rattle.sb_server.specs.declared.work.Stop.{Stop}
 use Rattle.sb_server.specs.declared.work.Stop.TheVariants.{Fault, Stopped, OutOfMemory as NoMemory}
+use Rattle.sb_server.specs.Doings.{sitting_of}
 use Rattle.sb_server.specs.Stages.{IsAt, IsSound, stop_at, is_over}
 use Rattle.sb_server.specs.Works.{Visit, Works, StopsBy, is_stop}
 
@@ -36,35 +39,35 @@ pub record Working {D X : Type 0} (ServesOne : Sitting → Visit X → Sitting �
 -- the worker has a pass of the desk, and has served nobody yet of so many
 pub record HasPass {D X : Type 0} (desk : Open) (most : ℕ) (job : Job D X) : Type 0 where
   pub pass : Sitting
-  pub has : job.pass ≡ Some pass
+  pub has : job.seat ≡ Some (Free pass)
   pub of : IsOf desk pass
   pub fresh : job.stage ≡ Wants most
 
 -- its worker did this
 pub record Did {D X : Type 0} (Works : Worker D → Type 0) (old new : Job D X) : Type 0 where
   pub worker : Worker D
-  pub had : old.pass ≡ Some worker.pass
+  pub had : old.seat ≡ Some (Free worker.pass)
   pub at : old.door ≡ worker.door
-  pub has : new.pass ≡ Some worker.pass_after
+  pub has : new.seat ≡ Some (Free worker.pass_after)
   pub left : new.door ≡ worker.door_after
   pub stop : new.stop ≡ worker.stop
   pub over : is_over new.stage ≡ true
   pub does : Works worker
 
--- a worker that goes on: a pass of the desk, and its door's connection where it has one
+-- a worker that goes on: a pass of the desk, or a call that is posted with one, and its door's connection where it has one
 pub record IsAtWork {D X : Type 0} (out : D → ℕ) (desk : Open) (job : Job D X) : Type 0 where
-  pub pass : Sitting
-  pub has : job.pass ≡ Some pass
-  pub of : IsOf desk pass
-  pub sound : IsSound job.stage (out job.door)
+  pub seat : Seat
+  pub has : job.seat ≡ Some seat
+  pub of : IsOf desk (sitting_of seat)
+  pub sound : IsSound seat job.stage (out job.door)
 
 -- a worker as far as it has come, from how it began
 pub record HasCome {D X : Type 0} (IsReading : ℕ → Type 0) (access : Access) (limits : Limits) (there given : X → Option (List ℕ)) (reads writes : X → ℕ) (waiting taken : D → Option (List X)) (ended : D → Bool) (count out : D → ℕ) (most : ℕ) (began now : Job D X) : Type 0 where
   pub pass : Sitting
-  pub pass_now : Sitting
-  pub had : began.pass ≡ Some pass
-  pub has : now.pass ≡ Some pass_now
-  pub at : IsAt IsReading access limits there given reads writes waiting taken ended count out most pass began.door pass_now now.door now.stage
+  pub seat : Seat
+  pub had : began.seat ≡ Some (Free pass)
+  pub has : now.seat ≡ Some seat
+  pub at : IsAt IsReading access limits there given reads writes waiting taken ended count out most pass began.door seat now.door now.stage
   pub stop_is : now.stop ≡ stop_at now.stage now.stop
 
 -- each worker is over
@@ -75,17 +78,18 @@ are_over jobs = list_all (λ job. is_over job.stage) jobs
 
 -- a worker is at the door
 abbrev pub IsManned : {D X : Type 0} → ℕ → Job D X → Type 0
-IsManned most job = (pass : Sitting) × (job.pass ≡ Some pass) × (job.stage ≡ Wants most)
+IsManned most job = (pass : Sitting) × (job.seat ≡ Some (Free pass)) × (job.stage ≡ Wants most)
 
 -- the pass, where there is one, before these
-abbrev pub and_pass : Option Sitting → List Sitting → List Sitting
+abbrev pub and_pass : Option Seat → List Sitting → List Sitting
 and_pass None passes = passes
-and_pass (Some pass) passes = pass ∷ passes
+and_pass (Some (Free pass)) passes = pass ∷ passes
+and_pass (Some (Posts sent)) passes = passes
 
 -- the passes of their workers, in the order of the doors
 abbrev pub passes_in : {D X : Type 0} → List (Job D X) → List Sitting
 passes_in [] = []
-passes_in (job ∷ jobs) = passes_in jobs ++ and_pass job.pass []
+passes_in (job ∷ jobs) = passes_in jobs ++ and_pass job.seat []
 
 -- the doors, in their order
 abbrev pub doors_in : {D X : Type 0} → List (Job D X) → List D

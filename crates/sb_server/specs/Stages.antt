@@ -7,21 +7,22 @@ use Rattle.sb_outside.specs.Streams.{Stays}
 use Rattle.sb_outside.specs.declared.door.Given.TheVariants.{One}
 use Rattle.sb_rest.specs.declared.access.Access.{Access}
 use Rattle.sb_server.specs.declared.limits.Limits.{Limits}
+use Rattle.sb_server.specs.declared.seat.Seat.{Seat}
 use Rattle.sb_server.specs.declared.stage.Guest.{Guest}
 use Rattle.sb_server.specs.declared.stage.Stage.{Stage}
 use Rattle.sb_server.specs.declared.stage.Stage.TheVariants.{Wants, Serves, Over}
 use Rattle.sb_server.specs.declared.work.Stop.{Stop}
-use Rattle.sb_server.specs.Doings.{IsDoing, IsDoingInOrder}
+use Rattle.sb_server.specs.Doings.{IsDoingAt, IsFree, IsInOrderAt, sitting_of}
 use Rattle.sb_server.specs.Reads.{stand_of}
 use Rattle.sb_server.specs.Talks.{Start, Here}
 use Rattle.sb_server.specs.Times.{IsSince}
 use Rattle.sb_server.specs.Works.{Visit, Works, ServesBy, GoesOn, StopsBy}
 
--- a worker that has a connection has it of its door, and the call of what waits is in order
-abbrev pub IsSound : {X : Type 0} → Stage X → ℕ → Type 0
-IsSound (Wants left) out = Unit {0}
-IsSound (Serves left guest) out = (1 ≤ out) × IsDoingInOrder guest.doing
-IsSound (Over stop) out = Unit {0}
+-- a worker that has a connection has it of its door, and the call of what waits is in order; one that has none has posted nothing
+abbrev pub IsSound : {X : Type 0} → Seat → Stage X → ℕ → Type 0
+IsSound seat (Wants left) out = IsFree seat
+IsSound seat (Serves left guest) out = (1 ≤ out) × IsInOrderAt seat guest.doing
+IsSound seat (Over stop) out = IsFree seat
 
 -- where a worker stands behind a connection, if it may serve so many more
 abbrev pub stage_behind : {X : Type 0} → Option Stop → ℕ → Stage X
@@ -69,7 +70,7 @@ module _ {D X : Type 0} (IsReading : ℕ → Type 0) (access : Access) (limits :
     pub out_is : out e ≡ out d
 
   -- it serves a connection, the first of those that the door had left behind these
-  pub record IsServing (q : Sitting) (e : D) (left : ℕ) (guest : Guest X) : Type 0 where
+  pub record IsServing (seat : Seat) (e : D) (left : ℕ) (guest : Guest X) : Type 0 where
     pub visits : List (Visit X)
     pub mid : Sitting
     pub waited : Option (List X)
@@ -82,7 +83,7 @@ module _ {D X : Type 0} (IsReading : ℕ → Type 0) (access : Access) (limits :
     pub few : length visits + left + 1 ≡ most
     pub count_is : count e ≡ count d
     pub out_is : out e ≡ out d + 1
-    pub doing : IsDoing IsReading (start_of there given reads writes access limits mid conn) (here_of there given reads writes q guest) guest.doing
+    pub doing : IsDoingAt IsReading (start_of there given reads writes access limits mid conn) (here_of there given reads writes (sitting_of seat) guest) seat guest.doing
     pub since : IsSince IsReading guest.since
 
   -- it is over
@@ -92,8 +93,8 @@ module _ {D X : Type 0} (IsReading : ℕ → Type 0) (access : Access) (limits :
     pub stops : StopsBy stop most visits (ended e) (count d) (count e)
     pub out_is : out e ≡ out d
 
-  -- it is where its stage says, over this door with this pass
-  abbrev pub IsAt : Sitting → D → Stage X → Type 0
-  IsAt q e (Wants left) = IsWanting q e left
-  IsAt q e (Serves left guest) = IsServing q e left guest
-  IsAt q e (Over stop) = IsOver q e stop
+  -- it is where its stage says, over this door with this pass, or with a call that is posted with it
+  abbrev pub IsAt : Seat → D → Stage X → Type 0
+  IsAt seat e (Wants left) = IsWanting (sitting_of seat) e left
+  IsAt seat e (Serves left guest) = IsServing seat e left guest
+  IsAt seat e (Over stop) = IsOver (sitting_of seat) e stop

@@ -3,24 +3,32 @@ ghost use Rattle.std.specs.Prelude.{◌≡◌};
 ghost use Rattle.sb_machine.specs.Ordered.{IsActInOrder};
 ghost use Rattle.sb_desk.specs.Desks.{Sitting, IsOf};
 ghost use Rattle.sb_server.specs.declared.ask.Ask.TheVariants.{Patient as Asks};
-ghost use Rattle.sb_server.specs.Doings.{Begins, IsBegunInOrder, IsPatient, IsSettled};
+ghost use Rattle.sb_server.specs.Doings.{BeginsAs, BeginsBy, IsAskedInOrder, IsPatient, IsPendingInOrder, pass_in};
 ghost use Rattle.sb_server.specs.Responds as responds;
-ghost use Rattle.sb_server.specs.Responds.{waiter_call};
+ghost use Rattle.sb_server.specs.Responds.{once, waiter_call};
 
 use crate::ask::{Ask, Waiter};
+use crate::caller::apart;
 use crate::doing::Begun;
 use crate::lines::script_of;
 use crate::patience::Patience;
-use crate::telling::{Said, said_of, telling_of};
-use crate::waiting::{call_once, is_done};
+use crate::pending::{Pending, Sent, post};
+use crate::telling::{Said, telling_of};
 use sb_desk::{Desk, Pass, Served};
 use sb_lines::Form;
 use sb_outside::Clock;
 use std::alloc::Global;
 use std::sync::Wait;
 
-/// Makes the calls that are asked for at this pass, and says what is to be told of them; of what waits it
-/// makes the first, and of several script lines none yet.
+/// What came of a request: its call is posted, or it makes none yet.
+#[derive(Drop)]
+pub(crate) enum Asked {
+    Posts(Sent),
+    Begins(Pass, Begun),
+}
+
+/// Posts the call that is asked for with this pass, of what waits the first; of several script lines none yet. Where
+/// none is asked for, it says what is to be told.
 pub(crate) fn answer<V: Served, R: Wait, C: Clock>(
     rt: &R,
     alloc: Global,
@@ -29,48 +37,63 @@ pub(crate) fn answer<V: Served, R: Wait, C: Clock>(
     clock: &C,
     ask: Ask,
     closes: bool,
-) -> (Pass, Begun)
+) -> Asked
     requires desk { IsOf desk.now pass }
     requires order { responds.IsInOrder ask }
-    ensures begins { Begins (C.reads clock.now) pass ask closes result.0 result.1 }
-    ensures desk { IsOf desk.now result.0 }
-    ensures in_order { IsBegunInOrder result.1 }
+    ensures begins { BeginsAs (C.reads clock.now) pass ask closes result }
+    ensures desk { IsOf desk.now (pass_in result) }
+    ensures in_order { IsAskedInOrder result }
 {
     match ask {
         Ask::Once { wanted, asker } => {
-            let (pass, answer) = call_once(rt, desk, pass, clock, clock.now(), &wanted.call);
-            let said = Said::Call {
-                wanted,
-                asker,
-                answer,
-            };
-            (pass, Begun::Done(telling_of(said, closes)))
+            let waiter = Waiter::ByRest { wanted, asker };
+            Asked::Posts(post_once(rt, desk, pass, clock, waiter, closes))
         }
         Ask::Patient { waiter, limit_ms } => {
-            ask_first(rt, desk, pass, clock, waiter, limit_ms, closes)
+            let sent = post_first(rt, desk, pass, clock, waiter, limit_ms, closes);
+            Asked::Posts(sent)
         }
         Ask::Line { line } => {
-            let (pass, answer) = call_once(rt, desk, pass, clock, clock.now(), &line.timed.call);
-            let form = line.form;
-            drop(line);
-            let said = Said::Line { form, answer };
-            (pass, Begun::Done(telling_of(said, closes)))
+            let waiter = Waiter::ByLine { line };
+            Asked::Posts(post_once(rt, desk, pass, clock, waiter, closes))
         }
         Ask::BadLine { answer } => {
             let form = Form::Plain;
             let said = Said::Line { form, answer };
-            (pass, Begun::Done(telling_of(said, closes)))
+            Asked::Begins(pass, Begun::Done(telling_of(said, closes)))
         }
-        Ask::Lines { lines } => (pass, Begun::Calls(script_of(alloc, lines, closes))),
+        Ask::Lines { lines } => {
+            Asked::Begins(pass, Begun::Calls(script_of(alloc, lines, closes)))
+        }
         Ask::Fault { fault } => {
             let said = Said::Fault { fault };
-            (pass, Begun::Done(telling_of(said, closes)))
+            Asked::Begins(pass, Begun::Done(telling_of(said, closes)))
         }
     }
 }
 
+// A call that is made once.
+fn post_once<V: Served, R: Wait, C: Clock>(
+    rt: &R,
+    desk: &Desk<V>,
+    pass: Pass,
+    clock: &C,
+    waiter: Waiter,
+    closes: bool,
+) -> Sent
+    requires desk { IsOf desk.now pass }
+    requires order { IsActInOrder (waiter_call waiter).act }
+    ensures begins { BeginsBy (C.reads clock.now) pass (once waiter) closes result.posted result.pending }
+    ensures desk { IsOf desk.now result.posted.pass }
+    ensures in_order { IsPendingInOrder result.pending result.posted.call }
+{
+    let (call, caller) = apart(waiter);
+    let pending = Pending::Once(caller, closes);
+    post(rt, desk, pass, clock, clock.now(), call, pending)
+}
+
 // The first call of what waits.
-fn ask_first<V: Served, R: Wait, C: Clock>(
+fn post_first<V: Served, R: Wait, C: Clock>(
     rt: &R,
     desk: &Desk<V>,
     pass: Pass,
@@ -78,40 +101,40 @@ fn ask_first<V: Served, R: Wait, C: Clock>(
     waiter: Waiter,
     limit_ms: u64,
     closes: bool,
-) -> (Pass, Begun)
+) -> Sent
     requires desk { IsOf desk.now pass }
     requires order { IsActInOrder (waiter_call waiter).act }
-    ensures begins { Begins (C.reads clock.now) pass (Asks waiter limit_ms) closes result.0 result.1 }
-    ensures desk { IsOf desk.now result.0 }
-    ensures in_order { IsBegunInOrder result.1 }
+    ensures begins { BeginsBy (C.reads clock.now) pass (Asks waiter limit_ms) closes result.posted result.pending }
+    ensures desk { IsOf desk.now result.posted.pass }
+    ensures in_order { IsPendingInOrder result.pending result.posted.call }
 {
+    let (call, caller) = apart(waiter);
     let first_ms = clock.now();
-    let (pass, answer) = call_once(rt, desk, pass, clock, first_ms, waiter.call());
-    let patience = Patience {
-        waiter,
+    let pending = Pending::Waits {
+        caller,
         limit_ms,
         closes,
         first_ms,
         asked_ms: first_ms,
-        answer,
+        again: false,
     };
-    (pass, settle(patience))
+    post(rt, desk, pass, clock, first_ms, call, pending)
 }
 
-/// Makes the next call of what waits.
-pub(crate) fn ask_again<V: Served, R: Wait, C: Clock>(
+/// Posts the next call of what waits.
+pub(crate) fn post_again<V: Served, R: Wait, C: Clock>(
     rt: &R,
     desk: &Desk<V>,
     pass: Pass,
     clock: &C,
     patience: Patience,
-) -> (Pass, Begun)
+) -> Sent
     requires desk { IsOf desk.now pass }
     requires order { IsActInOrder (waiter_call patience.waiter).act }
     ensures begins { (old : Sitting) → IsPatient (C.reads clock.now) old patience pass
-        → Begins (C.reads clock.now) old (Asks patience.waiter patience.limit_ms) patience.closes result.0 result.1 }
-    ensures desk { IsOf desk.now result.0 }
-    ensures in_order { IsBegunInOrder result.1 }
+        → BeginsBy (C.reads clock.now) old (Asks patience.waiter patience.limit_ms) patience.closes result.posted result.pending }
+    ensures desk { IsOf desk.now result.posted.pass }
+    ensures in_order { IsPendingInOrder result.pending result.posted.call }
 {
     let Patience {
         waiter,
@@ -119,36 +142,18 @@ pub(crate) fn ask_again<V: Served, R: Wait, C: Clock>(
         closes,
         first_ms,
         asked_ms: _,
-        answer: _,
+        answer,
     } = patience;
+    drop(answer);
+    let (call, caller) = apart(waiter);
     let asked_ms = clock.now();
-    let (pass, answer) = call_once(rt, desk, pass, clock, asked_ms, waiter.call());
-    let patience = Patience {
-        waiter,
+    let pending = Pending::Waits {
+        caller,
         limit_ms,
         closes,
         first_ms,
         asked_ms,
-        answer,
+        again: true,
     };
-    (pass, settle(patience))
-}
-
-// What is to be told, where it waits no longer.
-fn settle(patience: Patience) -> Begun
-    ensures { IsSettled patience result }
-{
-    let p = patience;
-    if !is_done(&p.answer, p.first_ms, p.limit_ms, p.asked_ms) {
-        return Begun::Waits(p);
-    }
-    let Patience {
-        waiter,
-        limit_ms: _,
-        closes,
-        first_ms: _,
-        asked_ms: _,
-        answer,
-    } = p;
-    Begun::Done(telling_of(said_of(waiter, answer), closes))
+    post(rt, desk, pass, clock, asked_ms, call, pending)
 }

@@ -8,7 +8,7 @@ use crate::doing::{Doing, Went};
 use crate::ending::Ending;
 use crate::inbox::Inbox;
 use crate::limits::{Limits, Since, look};
-use crate::step::step;
+use crate::step::step_through;
 use sb_desk::{Desk, Pass, Served};
 use sb_outside::{Clock, Conn};
 use sb_rest::Access;
@@ -44,7 +44,7 @@ pub fn serve_connection<V: Served, R: Wait, C: Clock, N: Conn>(
     let mut doing = Doing::Reads;
     let mut since = Since::Never;
     for _ in rt.forever() {
-        let (next, went) = step(
+        let (next, went) = step_through(
             rt, alloc, routes, access, desk, current, clock, conn, &mut inbox, &mut doing,
         );
         current = next;

@@ -44,22 +44,15 @@ pub(crate) fn outcome_of(answer: &Answer) -> Outcome {
     }
 }
 
-/// Counts a call that waits from its first answer on.
-pub(crate) fn asked_first(board: &Board, begun: &Begun) {
-    if waits(begun) {
+/// Counts a call that waits from its first answer on, until it waits no longer.
+pub(crate) fn asked(board: &Board, again: bool, begun: &Begun) {
+    let waits = matches!(begun, Begun::Waits(_));
+    if waits && !again {
         board.waits();
     }
-}
-
-/// Counts a call that waited, and waits no longer.
-pub(crate) fn asked_again(board: &Board, begun: &Begun) {
-    if !waits(begun) {
+    if again && !waits {
         board.goes_on();
     }
-}
-
-fn waits(begun: &Begun) -> bool {
-    matches!(begun, Begun::Waits(_))
 }
 
 fn kind_of_settle(how: &How) -> Kind {

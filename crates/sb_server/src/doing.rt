@@ -44,13 +44,14 @@ pub(crate) enum Went {
     Over(Ending),
 }
 
-/// What came of a request's calls: what is to be told, a call that waits, or script lines that are to be
-/// called.
+/// What came of a request's calls: what is to be told, a call that waits, script lines that are to be
+/// called, or one that was called, answered so, and whose reply, of this form, doesn't stand yet.
 #[derive(Drop)]
 pub(crate) enum Begun {
     Done(Telling),
     Waits(Patience),
     Calls(Script),
+    Says(Script, Form, Answer),
 }
 
 /// Does this from now on.
@@ -76,6 +77,10 @@ pub(crate) fn begin(doing: &mut Doing, begun: Begun) -> Went
         }
         Begun::Calls(script) => {
             turn(doing, Doing::Calls(script));
+            Went::On
+        }
+        Begun::Says(script, form, answer) => {
+            turn(doing, Doing::Says(script, form, answer));
             Went::On
         }
     }

@@ -11,6 +11,7 @@ use crate::arrivals::tell;
 use crate::ending::ServeEnding;
 use crate::job::{Job, ending_of, pair_up, put_back};
 use crate::limits::Limits;
+use crate::seat::{Seat, sit};
 use crate::stage::{is_over, stop_at};
 use crate::work::go_on;
 use sb_desk::{Desk, Pass, Served};
@@ -24,14 +25,14 @@ use std::thread::{Threads, for_each_chunk_mut};
 // A worker makes so many steps at most before the others have their turn.
 const STEPS_EACH: usize = 8;
 
-// So many called workers go on before the clock is looked at.
-const CALLS_EACH: usize = 32;
+// So many called workers go on before the calls that they posted are collected, and the clock is looked at.
+const CALLS_EACH: usize = 256;
 
 /// Serves each door by a worker of its own with one of the last passes, at most so many connections
 /// each, within these limits of time. Each thread has as many workers as the lobby says, and goes on with
-/// those that it calls, each until it is blocked; where none may go on it waits in the lobby. Where no
-/// further thread can be made, the shares are served one after the other. Passes and doors stand in their
-/// lists as before.
+/// those that it calls, each until it is blocked or has posted a call; then it collects all that were posted, which
+/// are carried out together. Where none may go on it waits in the lobby. Where no further thread can be made, the
+/// shares are served one after the other. Passes and doors stand in their lists as before.
 pub fn serve<
     V: Served + Send,
     R: Threads + Wait + Sync,
@@ -128,7 +129,8 @@ where
     );
 }
 
-// The workers of one thread: those that are called go on until each is over, and where none may it waits.
+// The workers of one thread: those that are called go on until each is over, and where none may it waits. No call is
+// posted then but by a worker that is called, or is to be looked at at once.
 fn serve_share<V: Served, R: Wait, C: Clock, L: Lobby, D: Door>(
     rt: &R,
     alloc: Global,
@@ -185,6 +187,20 @@ pub(crate) enum Round {
 struct Looked {
     soonest: u64,
     over: bool,
+}
+
+// Nothing is known.
+const NOTHING: Looked = Looked {
+    soonest: u64::MAX,
+    over: false,
+};
+
+// What is known of workers that aren't looked at before this reading.
+fn unlooked(soonest: u64) -> Looked {
+    Looked {
+        soonest,
+        over: false,
+    }
 }
 
 // What is known of these and of those.
@@ -267,9 +283,10 @@ fn look<V: Served, R: Wait, C: Clock, L: Lobby, D: Door>(
         → HasCome (C.reads clock.now) access.now limits D.Conn.left D.Conn.given D.Conn.reads D.Conn.writes D.left D.taken D.ended D.count D.out most began (slice_index_or jobs.new i d) }
 {
     if now < soonest {
-        return drain(
-            rt, alloc, routes, access, limits, desk, clock, lobby, first, soonest, jobs,
+        let looked = drain(
+            rt, alloc, routes, access, limits, desk, clock, lobby, first, jobs,
         );
+        return both(looked, unlooked(soonest));
     }
     let due = due_by(soonest, now);
     sweep(
@@ -285,7 +302,7 @@ fn due_by(soonest: u64, now: u64) -> u64 {
     now
 }
 
-// Each worker goes on that is to be looked at by this reading.
+// Each worker goes on that is to be looked at by this reading, and then each that has posted a call.
 fn sweep<V: Served, R: Wait, C: Clock, L: Lobby, D: Door>(
     rt: &R,
     alloc: Global,
@@ -305,10 +322,36 @@ fn sweep<V: Served, R: Wait, C: Clock, L: Lobby, D: Door>(
         → HasCome (C.reads clock.now) access.now limits D.Conn.left D.Conn.given D.Conn.reads D.Conn.writes D.left D.taken D.ended D.count D.out most began (slice_index_or jobs.old i d)
         → HasCome (C.reads clock.now) access.now limits D.Conn.left D.Conn.given D.Conn.reads D.Conn.writes D.left D.taken D.ended D.count D.out most began (slice_index_or jobs.new i d) }
 {
-    let mut looked = Looked {
-        soonest: u64::MAX,
-        over: false,
-    };
+    let these = go_due(
+        rt, alloc, routes, access, limits, desk, clock, lobby, first, due, jobs,
+    );
+    let those = collect_all(
+        rt, alloc, routes, access, limits, desk, clock, lobby, first, jobs,
+    );
+    both(these, those)
+}
+
+// Each worker goes on that is to be looked at by this reading.
+fn go_due<V: Served, R: Wait, C: Clock, L: Lobby, D: Door>(
+    rt: &R,
+    alloc: Global,
+    routes: &Routes,
+    access: &Access,
+    limits: Limits,
+    desk: &Desk<V>,
+    clock: &C,
+    lobby: &L,
+    first: usize,
+    due: u64,
+    jobs: &mut [Job<D, D::Conn>],
+) -> Looked
+    requires { All (λ j. IsAtWork D.out desk.now j) jobs.old }
+    ensures work { All (λ j. IsAtWork D.out desk.now j) jobs.new }
+    ensures come { (most : ℕ) (began : Job D D.Conn) (i : ℕ) (d : Job D D.Conn) → i < length jobs.old
+        → HasCome (C.reads clock.now) access.now limits D.Conn.left D.Conn.given D.Conn.reads D.Conn.writes D.left D.taken D.ended D.count D.out most began (slice_index_or jobs.old i d)
+        → HasCome (C.reads clock.now) access.now limits D.Conn.left D.Conn.given D.Conn.reads D.Conn.writes D.left D.taken D.ended D.count D.out most began (slice_index_or jobs.new i d) }
+{
+    let mut looked = NOTHING;
     for i in 0..jobs.len() {
         let this = go_at(
             rt, alloc, routes, access, limits, desk, clock, lobby, first, due, i, jobs,
@@ -318,8 +361,39 @@ fn sweep<V: Served, R: Wait, C: Clock, L: Lobby, D: Door>(
     looked
 }
 
-// The workers that are called go on, one after the other, so many at most; the others are looked at again at
-// this reading.
+// Each worker goes on that has posted a call, the last first: so the desk takes what was posted from its list's end.
+fn collect_all<V: Served, R: Wait, C: Clock, L: Lobby, D: Door>(
+    rt: &R,
+    alloc: Global,
+    routes: &Routes,
+    access: &Access,
+    limits: Limits,
+    desk: &Desk<V>,
+    clock: &C,
+    lobby: &L,
+    first: usize,
+    jobs: &mut [Job<D, D::Conn>],
+) -> Looked
+    requires { All (λ j. IsAtWork D.out desk.now j) jobs.old }
+    ensures work { All (λ j. IsAtWork D.out desk.now j) jobs.new }
+    ensures come { (most : ℕ) (began : Job D D.Conn) (i : ℕ) (d : Job D D.Conn) → i < length jobs.old
+        → HasCome (C.reads clock.now) access.now limits D.Conn.left D.Conn.given D.Conn.reads D.Conn.writes D.left D.taken D.ended D.count D.out most began (slice_index_or jobs.old i d)
+        → HasCome (C.reads clock.now) access.now limits D.Conn.left D.Conn.given D.Conn.reads D.Conn.writes D.left D.taken D.ended D.count D.out most began (slice_index_or jobs.new i d) }
+{
+    let mut looked = NOTHING;
+    let count = jobs.len();
+    for k in 0..count {
+        let i = count - 1 - k;
+        let this = collect_at(
+            rt, alloc, routes, access, limits, desk, clock, lobby, first, i, jobs,
+        );
+        looked = both(looked, this);
+    }
+    looked
+}
+
+// The workers that are called go on, one after the other, so many at most, and then each of them that has posted
+// a call.
 fn drain<V: Served, R: Wait, C: Clock, L: Lobby, D: Door>(
     rt: &R,
     alloc: Global,
@@ -330,7 +404,6 @@ fn drain<V: Served, R: Wait, C: Clock, L: Lobby, D: Door>(
     clock: &C,
     lobby: &L,
     first: usize,
-    soonest: u64,
     jobs: &mut [Job<D, D::Conn>],
 ) -> Looked
     requires { All (λ j. IsAtWork D.out desk.now j) jobs.old }
@@ -339,15 +412,53 @@ fn drain<V: Served, R: Wait, C: Clock, L: Lobby, D: Door>(
         → HasCome (C.reads clock.now) access.now limits D.Conn.left D.Conn.given D.Conn.reads D.Conn.writes D.left D.taken D.ended D.count D.out most began (slice_index_or jobs.old i d)
         → HasCome (C.reads clock.now) access.now limits D.Conn.left D.Conn.given D.Conn.reads D.Conn.writes D.left D.taken D.ended D.count D.out most began (slice_index_or jobs.new i d) }
 {
-    let mut looked = Looked {
-        soonest,
-        over: false,
-    };
-    for _ in 0..CALLS_EACH {
+    let mut called = [usize::MAX; CALLS_EACH];
+    let these = go_called(
+        rt,
+        alloc,
+        routes,
+        access,
+        limits,
+        desk,
+        clock,
+        lobby,
+        first,
+        &mut called,
+        jobs,
+    );
+    let those = collect_called(
+        rt, alloc, routes, access, limits, desk, clock, lobby, first, &called, jobs,
+    );
+    both(these, those)
+}
+
+// The workers that are called go on, one after the other, so many as this list has room for. It says which they are.
+fn go_called<V: Served, R: Wait, C: Clock, L: Lobby, D: Door>(
+    rt: &R,
+    alloc: Global,
+    routes: &Routes,
+    access: &Access,
+    limits: Limits,
+    desk: &Desk<V>,
+    clock: &C,
+    lobby: &L,
+    first: usize,
+    called: &mut [usize],
+    jobs: &mut [Job<D, D::Conn>],
+) -> Looked
+    requires { All (λ j. IsAtWork D.out desk.now j) jobs.old }
+    ensures work { All (λ j. IsAtWork D.out desk.now j) jobs.new }
+    ensures come { (most : ℕ) (began : Job D D.Conn) (i : ℕ) (d : Job D D.Conn) → i < length jobs.old
+        → HasCome (C.reads clock.now) access.now limits D.Conn.left D.Conn.given D.Conn.reads D.Conn.writes D.left D.taken D.ended D.count D.out most began (slice_index_or jobs.old i d)
+        → HasCome (C.reads clock.now) access.now limits D.Conn.left D.Conn.given D.Conn.reads D.Conn.writes D.left D.taken D.ended D.count D.out most began (slice_index_or jobs.new i d) }
+{
+    let mut looked = NOTHING;
+    for k in 0..called.len() {
         let Some(number) = lobby.called(first) else {
             break;
         };
         let i = number.saturating_sub(first);
+        called[k] = i;
         let this = go_at(
             rt,
             alloc,
@@ -361,6 +472,37 @@ fn drain<V: Served, R: Wait, C: Clock, L: Lobby, D: Door>(
             u64::MAX,
             i,
             jobs,
+        );
+        looked = both(looked, this);
+    }
+    looked
+}
+
+// Of these workers each goes on that has posted a call, the last first.
+fn collect_called<V: Served, R: Wait, C: Clock, L: Lobby, D: Door>(
+    rt: &R,
+    alloc: Global,
+    routes: &Routes,
+    access: &Access,
+    limits: Limits,
+    desk: &Desk<V>,
+    clock: &C,
+    lobby: &L,
+    first: usize,
+    called: &[usize],
+    jobs: &mut [Job<D, D::Conn>],
+) -> Looked
+    requires { All (λ j. IsAtWork D.out desk.now j) jobs.old }
+    ensures work { All (λ j. IsAtWork D.out desk.now j) jobs.new }
+    ensures come { (most : ℕ) (began : Job D D.Conn) (i : ℕ) (d : Job D D.Conn) → i < length jobs.old
+        → HasCome (C.reads clock.now) access.now limits D.Conn.left D.Conn.given D.Conn.reads D.Conn.writes D.left D.taken D.ended D.count D.out most began (slice_index_or jobs.old i d)
+        → HasCome (C.reads clock.now) access.now limits D.Conn.left D.Conn.given D.Conn.reads D.Conn.writes D.left D.taken D.ended D.count D.out most began (slice_index_or jobs.new i d) }
+{
+    let mut looked = NOTHING;
+    for k in 0..called.len() {
+        let i = called[called.len() - 1 - k];
+        let this = collect_at(
+            rt, alloc, routes, access, limits, desk, clock, lobby, first, i, jobs,
         );
         looked = both(looked, this);
     }
@@ -389,10 +531,7 @@ fn go_at<V: Served, R: Wait, C: Clock, L: Lobby, D: Door>(
         → HasCome (C.reads clock.now) access.now limits D.Conn.left D.Conn.given D.Conn.reads D.Conn.writes D.left D.taken D.ended D.count D.out most began (slice_index_or jobs.new i d) }
 {
     if i >= jobs.len() {
-        return Looked {
-            soonest: u64::MAX,
-            over: false,
-        };
+        return NOTHING;
     }
     let number = first.saturating_add(i);
     go_job(
@@ -410,8 +549,45 @@ fn go_at<V: Served, R: Wait, C: Clock, L: Lobby, D: Door>(
     )
 }
 
-// One worker goes on until it is blocked, if it is to be looked at by this reading. Behind some steps it is
-// put behind the others that are called, where the lobby does so, and else looked at again at once.
+// The worker at this place of the list goes on, if it is there and has posted a call.
+fn collect_at<V: Served, R: Wait, C: Clock, L: Lobby, D: Door>(
+    rt: &R,
+    alloc: Global,
+    routes: &Routes,
+    access: &Access,
+    limits: Limits,
+    desk: &Desk<V>,
+    clock: &C,
+    lobby: &L,
+    first: usize,
+    i: usize,
+    jobs: &mut [Job<D, D::Conn>],
+) -> Looked
+    requires { All (λ j. IsAtWork D.out desk.now j) jobs.old }
+    ensures work { All (λ j. IsAtWork D.out desk.now j) jobs.new }
+    ensures come { (most : ℕ) (began : Job D D.Conn) (i : ℕ) (d : Job D D.Conn) → i < length jobs.old
+        → HasCome (C.reads clock.now) access.now limits D.Conn.left D.Conn.given D.Conn.reads D.Conn.writes D.left D.taken D.ended D.count D.out most began (slice_index_or jobs.old i d)
+        → HasCome (C.reads clock.now) access.now limits D.Conn.left D.Conn.given D.Conn.reads D.Conn.writes D.left D.taken D.ended D.count D.out most began (slice_index_or jobs.new i d) }
+{
+    if i >= jobs.len() {
+        return NOTHING;
+    }
+    let number = first.saturating_add(i);
+    collect_job(
+        rt,
+        alloc,
+        routes,
+        access,
+        limits,
+        desk,
+        clock,
+        lobby,
+        number,
+        &mut jobs[i],
+    )
+}
+
+// One worker goes on until it is blocked or has posted a call, if it is to be looked at by this reading.
 fn go_job<V: Served, R: Wait, C: Clock, L: Lobby, D: Door>(
     rt: &R,
     alloc: Global,
@@ -431,12 +607,56 @@ fn go_job<V: Served, R: Wait, C: Clock, L: Lobby, D: Door>(
         → HasCome (C.reads clock.now) access.now limits D.Conn.left D.Conn.given D.Conn.reads D.Conn.writes D.left D.taken D.ended D.count D.out most began job.new }
 {
     if due < job.again {
-        return Looked {
-            soonest: job.again,
-            over: false,
-        };
+        return unlooked(job.again);
     }
     let went = go_far(rt, alloc, routes, access, limits, desk, clock, job);
+    if has_posted(job) {
+        return NOTHING;
+    }
+    behind_steps(desk, lobby, number, went, job)
+}
+
+// One worker that has posted a call collects it, and goes on until it is blocked or has posted the next.
+fn collect_job<V: Served, R: Wait, C: Clock, L: Lobby, D: Door>(
+    rt: &R,
+    alloc: Global,
+    routes: &Routes,
+    access: &Access,
+    limits: Limits,
+    desk: &Desk<V>,
+    clock: &C,
+    lobby: &L,
+    number: usize,
+    job: &mut Job<D, D::Conn>,
+) -> Looked
+    requires { IsAtWork D.out desk.now job.old }
+    ensures work { IsAtWork D.out desk.now job.new }
+    ensures come { (most : ℕ) (began : Job D D.Conn) → HasCome (C.reads clock.now) access.now limits D.Conn.left D.Conn.given D.Conn.reads D.Conn.writes D.left D.taken D.ended D.count D.out most began job.old
+        → HasCome (C.reads clock.now) access.now limits D.Conn.left D.Conn.given D.Conn.reads D.Conn.writes D.left D.taken D.ended D.count D.out most began job.new }
+{
+    if !has_posted(job) {
+        return NOTHING;
+    }
+    let went = collect_far(rt, alloc, routes, access, limits, desk, clock, job);
+    behind_steps(desk, lobby, number, went, job)
+}
+
+// Whether a worker has posted a call that isn't collected yet.
+fn has_posted<D, N>(job: &Job<D, N>) -> bool {
+    matches!(&job.seat, Some(Seat::Posts(_)))
+}
+
+// What is known of a worker behind its steps. Where it may go on at once, it is put behind the others that are called,
+// where the lobby does so, and else looked at again at once.
+fn behind_steps<V: Served, L: Lobby, D, N>(
+    desk: &Desk<V>,
+    lobby: &L,
+    number: usize,
+    went: u64,
+    job: &mut Job<D, N>,
+) -> Looked
+    ensures { (again : ℕ) × (job.new ≡ record job.old { again = again }) }
+{
     tell(desk, lobby, number, &job.stage);
     let again = again_behind(lobby, number, went);
     job.again = again;
@@ -455,7 +675,8 @@ fn again_behind<L: Lobby>(lobby: &L, number: usize, went: u64) -> u64 {
     went
 }
 
-// One worker goes on until it is blocked, some steps at most. At which reading it is looked at again.
+// One worker goes on until it is blocked or has posted a call, some steps at most. At which reading it is looked
+// at again.
 fn go_far<V: Served, R: Wait, C: Clock, D: Door>(
     rt: &R,
     alloc: Global,
@@ -472,12 +693,38 @@ fn go_far<V: Served, R: Wait, C: Clock, D: Door>(
         → HasCome (C.reads clock.now) access.now limits D.Conn.left D.Conn.given D.Conn.reads D.Conn.writes D.left D.taken D.ended D.count D.out most began job.new }
 {
     for _ in 0..STEPS_EACH {
+        if has_posted(job) {
+            return 0;
+        }
         let again = go_once(rt, alloc, routes, access, limits, desk, clock, job);
         if again > 0 {
             return again;
         }
     }
     0
+}
+
+// The same, of one that collects the call that it has posted.
+fn collect_far<V: Served, R: Wait, C: Clock, D: Door>(
+    rt: &R,
+    alloc: Global,
+    routes: &Routes,
+    access: &Access,
+    limits: Limits,
+    desk: &Desk<V>,
+    clock: &C,
+    job: &mut Job<D, D::Conn>,
+) -> u64
+    requires { IsAtWork D.out desk.now job.old }
+    ensures work { IsAtWork D.out desk.now job.new }
+    ensures come { (most : ℕ) (began : Job D D.Conn) → HasCome (C.reads clock.now) access.now limits D.Conn.left D.Conn.given D.Conn.reads D.Conn.writes D.left D.taken D.ended D.count D.out most began job.old
+        → HasCome (C.reads clock.now) access.now limits D.Conn.left D.Conn.given D.Conn.reads D.Conn.writes D.left D.taken D.ended D.count D.out most began job.new }
+{
+    let again = go_once(rt, alloc, routes, access, limits, desk, clock, job);
+    if again > 0 {
+        return again;
+    }
+    go_far(rt, alloc, routes, access, limits, desk, clock, job)
 }
 
 // One worker makes one step. At which reading it is looked at again: 0 where it may go on at once.
@@ -496,22 +743,22 @@ fn go_once<V: Served, R: Wait, C: Clock, D: Door>(
     ensures come { (most : ℕ) (began : Job D D.Conn) → HasCome (C.reads clock.now) access.now limits D.Conn.left D.Conn.given D.Conn.reads D.Conn.writes D.left D.taken D.ended D.count D.out most began job.old
         → HasCome (C.reads clock.now) access.now limits D.Conn.left D.Conn.given D.Conn.reads D.Conn.writes D.left D.taken D.ended D.count D.out most began job.new }
 {
-    let Some(pass) = job.pass.take() else {
+    let Some(seat) = job.seat.take() else {
         unreachable!()
     };
-    let (pass, again) = go_on(
+    let (seat, again) = go_on(
         rt,
         alloc,
         routes,
         access,
         limits,
         desk,
-        pass,
+        seat,
         clock,
         &mut job.door,
         &mut job.stage,
     );
-    job.pass = Some(pass);
+    sit(&mut job.seat, seat);
     job.stop = stop_at(&job.stage, job.stop);
     again
 }

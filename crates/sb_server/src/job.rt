@@ -4,17 +4,19 @@ ghost use Rattle.std.specs.List.{list_any};
 ghost use Rattle.sb_desk.specs.Desks.{Sitting};
 ghost use Rattle.sb_desk.specs.Lists.{Each};
 ghost use Rattle.sb_server.specs.Serves as serves;
+ghost use Rattle.sb_server.specs.declared.seat.Seat.TheVariants.{Free};
 ghost use Rattle.sb_server.specs.declared.stage.Stage.TheVariants.{Wants};
 
 use crate::ending::ServeEnding;
+use crate::seat::Seat;
 use crate::stage::{Stage, let_go};
 use crate::work::Stop;
 use sb_desk::Pass;
 
-/// A door with its worker: that one's pass, where it stands, and why it ended.
+/// A door with its worker: what that one makes its calls with, where it stands, and why it ended.
 #[derive(Drop)]
 pub(crate) struct Job<D, N> {
-    pub(crate) pass: Option<Pass>,
+    pub(crate) seat: Option<Seat>,
     pub(crate) door: D,
     pub(crate) stage: Stage<N>,
     pub(crate) stop: Stop,
@@ -49,14 +51,14 @@ fn man<D, N>(passes: &mut Vec<Pass>, door: D, most: u64) -> Job<D, N>
     requires { 0 < length passes.old.items }
     ensures stage { result.stage ≡ Wants most }
     ensures door { result.door ≡ door }
-    ensures pass { (pass : Sitting) × (result.pass ≡ Some pass) × (passes.old.items ≡ passes.new.items ++ pass ∷ []) }
+    ensures pass { (pass : Sitting) × (result.seat ≡ Some (Free pass)) × (passes.old.items ≡ passes.new.items ++ pass ∷ []) }
     ensures capacity { vec_capacity passes.new ≡ vec_capacity passes.old }
 {
     let Some(pass) = passes.pop() else {
         unreachable!()
     };
     Job {
-        pass: Some(pass),
+        seat: Some(Seat::Free(pass)),
         door,
         stage: Stage::Wants(most),
         stop: Stop::Enough,
@@ -75,7 +77,7 @@ pub(crate) fn put_back<D, N>(jobs: Vec<Job<D, N>>, passes: &mut Vec<Pass>, doors
     let mut jobs = jobs;
     while let Some(job) = jobs.pop() {
         let Job {
-            pass,
+            seat,
             door,
             stage,
             stop: _,
@@ -83,19 +85,21 @@ pub(crate) fn put_back<D, N>(jobs: Vec<Job<D, N>>, passes: &mut Vec<Pass>, doors
         } = job;
         let_go(stage);
         doors.push_reserved(door);
-        add_pass(passes, pass);
+        add_pass(passes, seat);
     }
     jobs.destroy_empty();
 }
 
 // The pass, where there is one, behind the others.
-fn add_pass(passes: &mut Vec<Pass>, pass: Option<Pass>)
+fn add_pass(passes: &mut Vec<Pass>, seat: Option<Seat>)
     requires { length passes.old.items < vec_capacity passes.old }
-    ensures items { passes.new.items ≡ passes.old.items ++ serves.and_pass pass [] }
+    ensures items { passes.new.items ≡ passes.old.items ++ serves.and_pass seat [] }
     ensures capacity { vec_capacity passes.new ≡ vec_capacity passes.old }
 {
-    if let Some(pass) = pass {
-        passes.push_reserved(pass);
+    match seat {
+        Some(Seat::Free(pass)) => passes.push_reserved(pass),
+        Some(Seat::Posts(sent)) => drop(sent),
+        None => {}
     }
 }
 

@@ -2,7 +2,9 @@
 //!
 //! [`serve_connection`] takes the requests of one connection, makes their calls at one pass of a desk,
 //! and writes their responses, until it ends; `specs/Talks` says what was written and why it ended.
-//! [`serve`] gives each door a worker, which serves its connections one after the other.
+//! [`serve`] gives each door a worker, which serves its connections one after the other. The workers of a thread post
+//! their calls at the desk; once none of them may go on without an answer, they collect all that were posted, which
+//! the desk carries out together. So the calls of many connections share one sync.
 //! [`receive_waiting`] is a call that waits: a receive, or the accept of a session. It stands on `sb_desk` for calls,
 //! `sb_http` for the bytes of requests and responses, `sb_rest` and `sb_lines` for what they ask for,
 //! and `sb_outside` for connections and the clock. A connection whose other side is slower than its
@@ -23,6 +25,7 @@ mod answer;
 mod arrivals;
 mod ask;
 mod body;
+mod caller;
 mod came;
 mod connection;
 mod counting;
@@ -36,8 +39,10 @@ mod laws;
 mod limits;
 mod lines;
 mod patience;
+mod pending;
 mod reader;
 mod script;
+mod seat;
 mod stage;
 mod step;
 mod telling;

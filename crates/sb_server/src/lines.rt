@@ -9,17 +9,18 @@ ghost use Rattle.sb_server.specs.declared.doing.Went.TheVariants.{On};
 ghost use Rattle.sb_server.specs.Bodies.{IsLineInOrder};
 ghost use Rattle.sb_server.specs.declared.telling.Said.TheVariants.{Lines as OfLines};
 ghost use Rattle.sb_server.specs.Doings as doings;
-ghost use Rattle.sb_server.specs.Doings.{IsDoingInOrder, Steps};
+ghost use Rattle.sb_server.specs.Doings.{IsInOrderAt, Steps, StepsTo, sitting_of};
 ghost use Rattle.sb_server.specs.Reads.{Stand};
 
 use crate::body::LineAsk;
 use crate::doing::{Doing, turn};
+use crate::pending::{Pending, post};
 use crate::script::Script;
+use crate::seat::Seat;
 use crate::telling::{Said, Telling, stops, telling_of};
-use crate::waiting::call_once;
 use sb_desk::{Desk, Pass, Served};
-use sb_lines::{Form, reply_line};
-use sb_machine::Answer;
+use sb_lines::{Form, Line, reply_line};
+use sb_machine::{Answer, TimedCall};
 use sb_model::Rows;
 use sb_outside::Clock;
 use sb_rest::Access;
@@ -56,8 +57,8 @@ pub(crate) fn take_script(alloc: Global, script: &mut Script) -> Script
     mem::replace(script, none)
 }
 
-/// Calls the next line at this pass, at a reading of the clock of its own, or tells the replies where all
-/// were called. A line that is no call is answered as it says.
+/// Posts the call of the next line with this pass, at a reading of the clock of its own, or tells the replies where
+/// all were called. A line that is no call is answered as it says.
 pub(crate) fn call_on<V: Served, R: Wait, C: Clock>(
     rt: &R,
     access: &Access,
@@ -66,31 +67,34 @@ pub(crate) fn call_on<V: Served, R: Wait, C: Clock>(
     clock: &C,
     script: Script,
     doing: &mut Doing,
-) -> Pass
+) -> Seat
     requires desk { IsOf desk.now pass }
     requires order { Each IsLineInOrder script.left.items }
-    ensures steps { (stand : Stand) (written : Option (List ℕ)) (reads writes : ℕ) → Steps (C.reads clock.now) access.now (record { pass = pass; stand = stand; written = written; reads = reads; writes = writes }) (Calls script)
-        (record { pass = result; stand = stand; written = written; reads = reads; writes = writes }) On doing.new }
-    ensures desk { IsOf desk.now result }
-    ensures order { IsDoingInOrder doing.new }
+    ensures steps { (stand : Stand) (written : Option (List ℕ)) (reads writes : ℕ) → StepsTo (C.reads clock.now) access.now (record { pass = pass; stand = stand; written = written; reads = reads; writes = writes }) (Calls script)
+        (record { pass = sitting_of result; stand = stand; written = written; reads = reads; writes = writes }) result On doing.new }
+    ensures desk { IsOf desk.now (sitting_of result) }
+    ensures order { IsInOrderAt result doing.new }
 {
     let _ = access;
     let mut script = script;
     match script.left.pop_front() {
         Some(LineAsk::Call { line }) => {
-            let (pass, answer) = call_once(rt, desk, pass, clock, clock.now(), &line.timed.call);
-            let form = line.form;
-            drop(line);
-            turn(doing, Doing::Says(script, form, answer));
-            pass
+            let Line {
+                timed,
+                form,
+                wait_s: _,
+            } = line;
+            let TimedCall { reading: _, call } = timed;
+            let pending = Pending::Line(script, form);
+            Seat::Posts(post(rt, desk, pass, clock, clock.now(), call, pending))
         }
         Some(LineAsk::NoCall { answer }) => {
             turn(doing, Doing::Says(script, Form::Plain, answer));
-            pass
+            Seat::Free(pass)
         }
         None => {
             turn(doing, Doing::Tells(telling_of_all(script)));
-            pass
+            Seat::Free(pass)
         }
     }
 }

@@ -10,8 +10,8 @@ use crate::limits::Since;
 use crate::work::Stop;
 use std::mem;
 
-/// A connection that is being served: what came of it and isn't answered yet, what it does now, and since
-/// when it waits for the other side.
+/// A connection that is being served: what came of it and isn't answered yet, what it does now, but where a
+/// call is posted for it, and since when it waits for the other side.
 #[derive(Drop)]
 pub(crate) struct Guest<N> {
     pub(crate) conn: N,

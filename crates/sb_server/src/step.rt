@@ -3,17 +3,19 @@ ghost use Rattle.std.specs.Prelude.{◌≡◌, ◌<◌, ℕ, IfOk, length, true}
 ghost use Rattle.sb_desk.specs.Desks.{Sitting, IsOf};
 ghost use Rattle.sb_server.specs.declared.doing.Doing.TheVariants.{Reads, Tells, Writes};
 ghost use Rattle.sb_server.specs.Doings as doings;
-ghost use Rattle.sb_server.specs.Doings.{IsDoingInOrder, Steps};
+ghost use Rattle.sb_server.specs.Doings.{IsDoingAt, IsDoingInOrder, IsInOrderAt, IsNext, IsNextAt, IsPendingInOrder, IsPosted, Steps, StepsTo, sitting_of};
 ghost use Rattle.sb_server.specs.Reads.{Stand, stand_of};
+ghost use Rattle.sb_server.specs.Talks.{Here, Start};
 ghost use Rattle.sb_server.specs.Talks as talks;
 
-use crate::answer::{answer, ask_again};
+use crate::answer::{Asked, answer, post_again};
 use crate::came::Came;
-use crate::counting::{asked_again, asked_first};
 use crate::doing::{Doing, Outgoing, Went, begin, behind, turn};
 use crate::ending::Ending;
 use crate::inbox::Inbox;
 use crate::lines::{call_on, say_on, take_script};
+use crate::pending::{Sent, collect};
+use crate::seat::Seat;
 use crate::telling::{Said, Telling, farewell, response_to};
 use sb_desk::{Desk, Pass, Served};
 use sb_http::{HttpFault, Response, Status, write_response};
@@ -25,8 +27,40 @@ use std::alloc::{AllocError, Global};
 use std::mem;
 use std::sync::Wait;
 
-/// Goes on with what a connection does, as far as the next place where it may have to wait.
+/// Goes on with what a connection does, as far as the next place where it may have to wait. A call is posted, and
+/// collected at the next step.
 pub(crate) fn step<V: Served, R: Wait, C: Clock, N: Conn>(
+    rt: &R,
+    alloc: Global,
+    routes: &Routes,
+    access: &Access,
+    desk: &Desk<V>,
+    seat: Seat,
+    clock: &C,
+    conn: &mut N,
+    inbox: &mut Inbox,
+    doing: &mut Doing,
+) -> (Seat, Went)
+    requires desk { IsOf desk.now (sitting_of seat) }
+    requires order { IsInOrderAt seat doing.old }
+    ensures steps { (s : Start) → s.access ≡ access.now → IsDoingAt (C.reads clock.now) s (record { pass = sitting_of seat; stand = stand_of inbox.old (N.left conn.old); written = N.given conn.old; reads = N.reads conn.old; writes = N.writes conn.old }) seat doing.old
+        → IsNextAt (C.reads clock.now) s (record { pass = sitting_of result.0; stand = stand_of inbox.new (N.left conn.new); written = N.given conn.new; reads = N.reads conn.new; writes = N.writes conn.new }) result.0 result.1 doing.new }
+    ensures desk { IsOf desk.now (sitting_of result.0) }
+    ensures order { IsInOrderAt result.0 doing.new }
+{
+    match seat {
+        Seat::Free(pass) => go(
+            rt, alloc, routes, access, desk, pass, clock, conn, inbox, doing,
+        ),
+        Seat::Posts(sent) => {
+            let (pass, went) = go_behind(rt, desk, clock, sent, doing);
+            (Seat::Free(pass), went)
+        }
+    }
+}
+
+/// The same, but a call is collected at once.
+pub(crate) fn step_through<V: Served, R: Wait, C: Clock, N: Conn>(
     rt: &R,
     alloc: Global,
     routes: &Routes,
@@ -45,6 +79,53 @@ pub(crate) fn step<V: Served, R: Wait, C: Clock, N: Conn>(
     ensures desk { IsOf desk.now result.0 }
     ensures order { IsDoingInOrder doing.new }
 {
+    let (seat, went) = go(
+        rt, alloc, routes, access, desk, pass, clock, conn, inbox, doing,
+    );
+    match seat {
+        Seat::Free(pass) => (pass, went),
+        Seat::Posts(sent) => go_behind(rt, desk, clock, sent, doing),
+    }
+}
+
+// Collects a call, and goes on with what came of it.
+fn go_behind<V: Served, R: Wait, C: Clock>(
+    rt: &R,
+    desk: &Desk<V>,
+    clock: &C,
+    sent: Sent,
+    doing: &mut Doing,
+) -> (Pass, Went)
+    requires desk { IsOf desk.now sent.posted.pass }
+    requires order { IsPendingInOrder sent.pending sent.posted.call }
+    ensures steps { (s : Start) (h : Here) → IsPosted (C.reads clock.now) s h sent.posted sent.pending → IsNext (C.reads clock.now) s (record h { pass = result.0 }) result.1 doing.new }
+    ensures desk { IsOf desk.now result.0 }
+    ensures order { IsDoingInOrder doing.new }
+{
+    let (pass, begun) = collect(rt, desk, clock, sent);
+    (pass, begin(doing, begun))
+}
+
+// A step with a pass.
+fn go<V: Served, R: Wait, C: Clock, N: Conn>(
+    rt: &R,
+    alloc: Global,
+    routes: &Routes,
+    access: &Access,
+    desk: &Desk<V>,
+    pass: Pass,
+    clock: &C,
+    conn: &mut N,
+    inbox: &mut Inbox,
+    doing: &mut Doing,
+) -> (Seat, Went)
+    requires desk { IsOf desk.now pass }
+    requires order { IsDoingInOrder doing.old }
+    ensures steps { StepsTo (C.reads clock.now) access.now (record { pass = pass; stand = stand_of inbox.old (N.left conn.old); written = N.given conn.old; reads = N.reads conn.old; writes = N.writes conn.old }) doing.old
+        (record { pass = sitting_of result.0; stand = stand_of inbox.new (N.left conn.new); written = N.given conn.new; reads = N.reads conn.new; writes = N.writes conn.new }) result.0 result.1 doing.new }
+    ensures desk { IsOf desk.now (sitting_of result.0) }
+    ensures order { IsInOrderAt result.0 doing.new }
+{
     match doing {
         Doing::Reads => read_on(
             rt, alloc, routes, access, desk, pass, clock, conn, inbox, doing,
@@ -52,38 +133,37 @@ pub(crate) fn step<V: Served, R: Wait, C: Clock, N: Conn>(
         Doing::Asks(_) => wait_on(rt, alloc, access, desk, pass, clock, conn, inbox, doing),
         Doing::Calls(script) => {
             let script = take_script(alloc, script);
-            (
-                call_on(rt, access, desk, pass, clock, script, doing),
-                Went::On,
-            )
+            let seat = call_on(rt, access, desk, pass, clock, script, doing);
+            (seat, Went::On)
         }
         Doing::Says(script, form, answer) => {
             if !say_on(alloc, access, clock, script, *form, answer) {
-                return (pass, Went::Blocked);
+                return (Seat::Free(pass), Went::Blocked);
             }
             let script = take_script(alloc, script);
             turn(doing, Doing::Calls(script));
-            (pass, Went::On)
+            (Seat::Free(pass), Went::On)
         }
         Doing::Tells(telling) => match tell_on(alloc, access, desk, clock, conn, telling) {
             Some(outgoing) => {
                 turn(doing, Doing::Writes(outgoing));
-                (pass, Went::On)
+                (Seat::Free(pass), Went::On)
             }
-            None => (pass, Went::Blocked),
+            None => (Seat::Free(pass), Went::Blocked),
         },
         Doing::Writes(outgoing) => {
             if outgoing.at < outgoing.bytes.len() {
-                return (pass, write_on(access, clock, conn, outgoing));
+                let went = write_on(access, clock, conn, outgoing);
+                return (Seat::Free(pass), went);
             }
             let after = outgoing.after;
             turn(doing, Doing::Reads);
-            (pass, behind(after))
+            (Seat::Free(pass), behind(after))
         }
     }
 }
 
-// Takes the next request, where it is whole, and makes its calls, or refuses it. Where there is no memory
+// Takes the next request, where it is whole, and posts its call, or refuses it. Where there is no memory
 // for what has come, that is tried again.
 fn read_on<V: Served, R: Wait, C: Clock, N: Conn>(
     rt: &R,
@@ -96,31 +176,31 @@ fn read_on<V: Served, R: Wait, C: Clock, N: Conn>(
     conn: &mut N,
     inbox: &mut Inbox,
     doing: &mut Doing,
-) -> (Pass, Went)
+) -> (Seat, Went)
     requires desk { IsOf desk.now pass }
     requires reads { doing.old ≡ Reads }
-    ensures steps { Steps (C.reads clock.now) access.now (record { pass = pass; stand = stand_of inbox.old (N.left conn.old); written = N.given conn.old; reads = N.reads conn.old; writes = N.writes conn.old }) Reads
-        (record { pass = result.0; stand = stand_of inbox.new (N.left conn.new); written = N.given conn.new; reads = N.reads conn.new; writes = N.writes conn.new }) result.1 doing.new }
-    ensures desk { IsOf desk.now result.0 }
-    ensures order { IsDoingInOrder doing.new }
+    ensures steps { StepsTo (C.reads clock.now) access.now (record { pass = pass; stand = stand_of inbox.old (N.left conn.old); written = N.given conn.old; reads = N.reads conn.old; writes = N.writes conn.old }) Reads
+        (record { pass = sitting_of result.0; stand = stand_of inbox.new (N.left conn.new); written = N.given conn.new; reads = N.reads conn.new; writes = N.writes conn.new }) result.0 result.1 doing.new }
+    ensures desk { IsOf desk.now (sitting_of result.0) }
+    ensures order { IsInOrderAt result.0 doing.new }
 {
     match inbox.next(rt, alloc, routes, access, conn) {
-        Came::Asked(ask, closes) => {
-            let (pass, begun) = answer(rt, alloc, desk, pass, clock, ask, closes);
-            asked_first(desk.board(), &begun);
-            (pass, begin(doing, begun))
-        }
-        Came::NothingYet => (pass, Went::NothingYet),
+        Came::Asked(ask, closes) => match answer(rt, alloc, desk, pass, clock, ask, closes) {
+            Asked::Posts(sent) => (Seat::Posts(sent), Went::On),
+            Asked::Begins(pass, begun) => (Seat::Free(pass), begin(doing, begun)),
+        },
+        Came::NothingYet => (Seat::Free(pass), Went::NothingYet),
         Came::Refused(fault) => {
             let bytes = refusal_bytes(alloc, fault);
-            (pass, refusing(doing, bytes, refusal_ending(fault)))
+            let went = refusing(doing, bytes, refusal_ending(fault));
+            (Seat::Free(pass), went)
         }
-        Came::Over(ending) => (pass, Went::Over(ending)),
-        Came::NoMemory => (pass, Went::Blocked),
+        Came::Over(ending) => (Seat::Free(pass), Went::Over(ending)),
+        Came::NoMemory => (Seat::Free(pass), Went::Blocked),
     }
 }
 
-// Makes the next call of what waits, or gives it up where its caller has gone.
+// Posts the next call of what waits, or gives it up where its caller has gone.
 fn wait_on<V: Served, R: Wait, C: Clock, N: Conn>(
     rt: &R,
     alloc: Global,
@@ -131,14 +211,14 @@ fn wait_on<V: Served, R: Wait, C: Clock, N: Conn>(
     conn: &mut N,
     inbox: &mut Inbox,
     doing: &mut Doing,
-) -> (Pass, Went)
+) -> (Seat, Went)
     requires desk { IsOf desk.now pass }
     requires order { IsDoingInOrder doing.old }
     requires asks { doings.asks doing.old ≡ true }
-    ensures steps { Steps (C.reads clock.now) access.now (record { pass = pass; stand = stand_of inbox.old (N.left conn.old); written = N.given conn.old; reads = N.reads conn.old; writes = N.writes conn.old }) doing.old
-        (record { pass = result.0; stand = stand_of inbox.new (N.left conn.new); written = N.given conn.new; reads = N.reads conn.new; writes = N.writes conn.new }) result.1 doing.new }
-    ensures desk { IsOf desk.now result.0 }
-    ensures order { IsDoingInOrder doing.new }
+    ensures steps { StepsTo (C.reads clock.now) access.now (record { pass = pass; stand = stand_of inbox.old (N.left conn.old); written = N.given conn.old; reads = N.reads conn.old; writes = N.writes conn.old }) doing.old
+        (record { pass = sitting_of result.0; stand = stand_of inbox.new (N.left conn.new); written = N.given conn.new; reads = N.reads conn.new; writes = N.writes conn.new }) result.0 result.1 doing.new }
+    ensures desk { IsOf desk.now (sitting_of result.0) }
+    ensures order { IsInOrderAt result.0 doing.new }
 {
     let _ = access;
     let old = mem::replace(doing, Doing::Reads);
@@ -148,11 +228,10 @@ fn wait_on<V: Served, R: Wait, C: Clock, N: Conn>(
     if inbox.watch(alloc, conn) {
         desk.board().goes_on();
         turn(doing, Doing::Tells(farewell(patience)));
-        return (pass, Went::On);
+        return (Seat::Free(pass), Went::On);
     }
-    let (pass, begun) = ask_again(rt, desk, pass, clock, patience);
-    asked_again(desk.board(), &begun);
-    (pass, begin(doing, begun))
+    let sent = post_again(rt, desk, pass, clock, patience);
+    (Seat::Posts(sent), Went::On)
 }
 
 // Begins to write a response, if there is memory for it.

@@ -14,63 +14,66 @@ use sb_outside::Clock;
 use std::sync::Wait;
 
 /// Makes a call, and makes it again, behind a pause of the clock, while it finds nothing to receive
-/// and the limit, in ms, hasn't passed since the clock's first reading. No lock is held but in the
-/// desk's turn of each call. Where that reading and the limit are above 2^64 - 1 together, no time
-/// ends it.
+/// and the limit, in ms, hasn't passed since the clock's first reading. The call comes back with its
+/// answer. No lock is held but in the desk's turn of each call. Where that reading and the limit are above
+/// 2^64 - 1 together, no time ends it.
 pub fn receive_waiting<V: Served, R: Wait, C: Clock>(
     rt: &R,
     desk: &Desk<V>,
     pass: Pass,
     clock: &C,
     limit: u64,
-    call: &Call,
-) -> (Pass, Answer)
+    call: Call,
+) -> (Pass, Call, Answer)
     requires desk { IsOf desk.now pass }
-    requires order { IsActInOrder call.now.act }
-    ensures waits { (made : List Entry) × GoesBy pass made result.0 × Waits (C.reads clock.now) pass.seat call.now limit made result.1 }
+    requires order { IsActInOrder call.act }
+    ensures waits { (made : List Entry) × GoesBy pass made result.0 × Waits (C.reads clock.now) pass.seat call limit made result.2 }
+    ensures same { result.1 ≡ call }
     ensures legal { HasLegal result.0 }
     ensures spares { Spares V.spared result.0.start result.0.seen }
     ensures desk { IsOf desk.now result.0 }
 {
     let first = clock.now();
     let mut now = first;
-    let (mut current, mut answer) = call_once(rt, desk, pass, clock, first, call);
+    let (mut current, mut asked, mut answer) = call_once(rt, desk, pass, clock, first, call);
     for _ in rt.forever() {
         if is_done(&answer, first, limit, now) {
             break;
         }
         clock.pause();
         now = clock.now();
-        let (next, found) = call_once(rt, desk, current, clock, now, call);
+        let (next, same, found) = call_once(rt, desk, current, clock, now, asked);
         current = next;
+        asked = same;
         answer = found;
     }
-    (current, answer)
+    (current, asked, answer)
 }
 
-/// Makes a call at this pass, at a reading of the clock in ms since 1970. The desk's board counts it, with how
-/// long it took.
+/// Makes a call at this pass, at a reading of the clock in ms since 1970, and hands it back. The desk's board counts
+/// it, with how long it took.
 pub(crate) fn call_once<V: Served, R: Wait, C: Clock>(
     rt: &R,
     desk: &Desk<V>,
     pass: Pass,
     clock: &C,
     reading: u64,
-    call: &Call,
-) -> (Pass, Answer)
+    call: Call,
+) -> (Pass, Call, Answer)
     requires desk { IsOf desk.now pass }
-    requires order { IsActInOrder call.now.act }
-    ensures goes { GoesByCall pass reading call.now result.1 result.0 }
+    requires order { IsActInOrder call.act }
+    ensures goes { GoesByCall pass reading call result.2 result.0 }
+    ensures same { result.1 ≡ call }
     ensures legal { HasLegal result.0 }
     ensures spares { Spares V.spared result.0.start result.0.seen }
     ensures desk { IsOf desk.now result.0 }
 {
     let began = clock.micros();
-    let (pass, answer) = desk.call(rt, pass, reading, call);
+    let (pass, call, answer) = desk.call(rt, pass, reading, call);
     let took = clock.micros().saturating_sub(began);
     desk.board()
         .called(kind_of(&call.act), outcome_of(&answer), took);
-    (pass, answer)
+    (pass, call, answer)
 }
 
 // Whether there was nothing to receive, or no session to accept.

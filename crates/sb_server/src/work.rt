@@ -1,10 +1,11 @@
 // A worker: the connections of one door, one after the other.
-ghost use Rattle.std.specs.Prelude.{◌≡◌, ◌-◌, ◌≤◌, ◌∷◌, [], ℕ, List, Option};
+ghost use Rattle.std.specs.Prelude.{◌≡◌, ◌-◌, ◌≤◌, ◌∷◌, [], ℕ, List, Option, IfSome};
 ghost use Rattle.sb_desk.specs.Desks.{Sitting, IsOf};
 ghost use Rattle.sb_outside.specs.Streams.{Gains, Stays};
+ghost use Rattle.sb_server.specs.declared.seat.Seat.TheVariants.{Free};
 ghost use Rattle.sb_server.specs.declared.stage.Guest.{Guest};
 ghost use Rattle.sb_server.specs.declared.stage.Stage.TheVariants.{Wants, Serves};
-ghost use Rattle.sb_server.specs.Doings.{GoesTo, IsDoing, IsDoingInOrder};
+ghost use Rattle.sb_server.specs.Doings.{GoesTo, GoesToAt, IsDoingAt, IsDoingInOrder, IsFree, IsInOrderAt, IsNext, sitting_of};
 ghost use Rattle.sb_server.specs.Reads.{stand_of};
 ghost use Rattle.sb_server.specs.Stages.{IsAt, IsSound, here_of, stage_behind};
 ghost use Rattle.sb_server.specs.Talks.{Start};
@@ -15,6 +16,7 @@ use crate::doing::{Doing, Went};
 use crate::ending::Ending;
 use crate::inbox::Inbox;
 use crate::limits::{Limits, Since, look};
+use crate::seat::{Seat, pass_of};
 use crate::stage::{Guest, Stage, is_over, let_go, stage_behind, stand_at, stop_at};
 use crate::step::step;
 use sb_desk::{Desk, Pass, Served};
@@ -75,7 +77,7 @@ pub fn serve_door<V: Served, R: Wait, C: Clock, D: Door>(
     ensures out { D.out door.new ≡ D.out door.old }
     ensures desk { IsOf desk.now result.0 }
 {
-    let mut current = pass;
+    let mut current = Seat::Free(pass);
     let mut stage = Stage::Wants(most);
     for _ in rt.forever() {
         let (next, again) = go_on(
@@ -85,7 +87,7 @@ pub fn serve_door<V: Served, R: Wait, C: Clock, D: Door>(
         if is_over(&stage) {
             let stop = stop_at(&stage, Stop::Enough);
             let_go(stage);
-            return (current, stop);
+            return (pass_of(current), stop);
         }
         pause_if(clock, again > 0);
     }
@@ -99,7 +101,7 @@ fn pause_if<C: Clock>(clock: &C, waits: bool) {
 }
 
 /// Goes on with the work at a door, one step, and says at which reading the next one is to be made, if
-/// nothing else happens: 0 where it may be made at once.
+/// nothing else happens: 0 where it may be made at once. A call is posted, and collected at the next step.
 pub(crate) fn go_on<V: Served, R: Wait, C: Clock, D: Door>(
     rt: &R,
     alloc: Global,
@@ -107,38 +109,38 @@ pub(crate) fn go_on<V: Served, R: Wait, C: Clock, D: Door>(
     access: &Access,
     limits: Limits,
     desk: &Desk<V>,
-    pass: Pass,
+    seat: Seat,
     clock: &C,
     door: &mut D,
     stage: &mut Stage<D::Conn>,
-) -> (Pass, u64)
-    requires desk { IsOf desk.now pass }
-    requires sound { IsSound stage.old (D.out door.old) }
-    ensures goes { (most : ℕ) (p : Sitting) (d : D) → IsAt (C.reads clock.now) access.now limits D.Conn.left D.Conn.given D.Conn.reads D.Conn.writes D.left D.taken D.ended D.count D.out most p d pass door.old stage.old
+) -> (Seat, u64)
+    requires desk { IsOf desk.now (sitting_of seat) }
+    requires sound { IsSound seat stage.old (D.out door.old) }
+    ensures goes { (most : ℕ) (p : Sitting) (d : D) → IsAt (C.reads clock.now) access.now limits D.Conn.left D.Conn.given D.Conn.reads D.Conn.writes D.left D.taken D.ended D.count D.out most p d seat door.old stage.old
         → IsAt (C.reads clock.now) access.now limits D.Conn.left D.Conn.given D.Conn.reads D.Conn.writes D.left D.taken D.ended D.count D.out most p d result.0 door.new stage.new }
-    ensures desk { IsOf desk.now result.0 }
-    ensures sound { IsSound stage.new (D.out door.new) }
+    ensures desk { IsOf desk.now (sitting_of result.0) }
+    ensures sound { IsSound result.0 stage.new (D.out door.new) }
 {
     match stage {
         Stage::Wants(left) => {
             let next = want(alloc, access, limits, desk, clock, door, *left);
             let again = again_at(&next);
             stand_at(stage, next);
-            (pass, again)
+            (seat, again)
         }
         Stage::Serves(left, guest) => {
             let left = *left;
-            let (pass, over, again) = attend(
-                rt, alloc, routes, access, limits, desk, pass, clock, guest,
+            let (seat, over, again) = attend(
+                rt, alloc, routes, access, limits, desk, seat, clock, guest,
             );
             if let Some(ending) = over {
                 desk.board().ended();
                 give_back(door, stage, left, ending);
-                return (pass, 0);
+                return (seat, 0);
             }
-            (pass, again)
+            (seat, again)
         }
-        Stage::Over(_) => (pass, u64::MAX),
+        Stage::Over(_) => (seat, u64::MAX),
     }
 }
 
@@ -187,9 +189,9 @@ fn want<V: Served, C: Clock, D: Door>(
     door: &mut D,
     left: u64,
 ) -> Stage<D::Conn>
-    ensures goes { (most : ℕ) (p q : Sitting) (d : D) → IsAt (C.reads clock.now) access.now limits D.Conn.left D.Conn.given D.Conn.reads D.Conn.writes D.left D.taken D.ended D.count D.out most p d q door.old (Wants left)
-        → IsAt (C.reads clock.now) access.now limits D.Conn.left D.Conn.given D.Conn.reads D.Conn.writes D.left D.taken D.ended D.count D.out most p d q door.new result }
-    ensures sound { IsSound result (D.out door.new) }
+    ensures goes { (most : ℕ) (p q : Sitting) (d : D) → IsAt (C.reads clock.now) access.now limits D.Conn.left D.Conn.given D.Conn.reads D.Conn.writes D.left D.taken D.ended D.count D.out most p d (Free q) door.old (Wants left)
+        → IsAt (C.reads clock.now) access.now limits D.Conn.left D.Conn.given D.Conn.reads D.Conn.writes D.left D.taken D.ended D.count D.out most p d (Free q) door.new result }
+    ensures sound { (q : Sitting) → IsSound (Free q) result (D.out door.new) }
 {
     let _ = access;
     let _ = limits;
@@ -228,44 +230,68 @@ fn attend<V: Served, R: Wait, C: Clock, N: Conn>(
     access: &Access,
     limits: Limits,
     desk: &Desk<V>,
-    pass: Pass,
+    seat: Seat,
     clock: &C,
     guest: &mut Guest<N>,
-) -> (Pass, Option<Ending>, u64)
-    requires desk { IsOf desk.now pass }
-    requires order { IsDoingInOrder guest.old.doing }
-    ensures goes { (s : Start) → s.access ≡ access.now → s.limits ≡ limits → IsSince (C.reads clock.now) guest.old.since → IsDoing (C.reads clock.now) s (here_of N.left N.given N.reads N.writes pass guest.old) guest.old.doing
-        → GoesTo (C.reads clock.now) s (here_of N.left N.given N.reads N.writes result.0 guest.new) result.1 guest.new.doing }
+) -> (Seat, Option<Ending>, u64)
+    requires desk { IsOf desk.now (sitting_of seat) }
+    requires order { IsInOrderAt seat guest.old.doing }
+    ensures goes { (s : Start) → s.access ≡ access.now → s.limits ≡ limits → IsSince (C.reads clock.now) guest.old.since → IsDoingAt (C.reads clock.now) s (here_of N.left N.given N.reads N.writes (sitting_of seat) guest.old) seat guest.old.doing
+        → GoesToAt (C.reads clock.now) s (here_of N.left N.given N.reads N.writes (sitting_of result.0) guest.new) result.0 result.1 guest.new.doing }
     ensures since { IsSince (C.reads clock.now) guest.old.since → IsSince (C.reads clock.now) guest.new.since }
-    ensures desk { IsOf desk.now result.0 }
-    ensures order { IsDoingInOrder guest.new.doing }
+    ensures desk { IsOf desk.now (sitting_of result.0) }
+    ensures order { IsInOrderAt result.0 guest.new.doing }
+    ensures free { IfSome result.1 (λ _. IsFree result.0) }
 {
-    let (pass, went) = step(
+    let (seat, went) = step(
         rt,
         alloc,
         routes,
         access,
         desk,
-        pass,
+        seat,
         clock,
         &mut guest.conn,
         &mut guest.inbox,
         &mut guest.doing,
     );
+    match seat {
+        Seat::Free(pass) => {
+            let (over, again) = behind_step(limits, desk, clock, guest, went);
+            (Seat::Free(pass), over, again)
+        }
+        Seat::Posts(sent) => {
+            guest.since = Since::Never;
+            (Seat::Posts(sent), None, 0)
+        }
+    }
+}
+
+// Looks at a connection behind a step.
+fn behind_step<V: Served, C: Clock, N: Conn>(
+    limits: Limits,
+    desk: &Desk<V>,
+    clock: &C,
+    guest: &mut Guest<N>,
+    went: Went,
+) -> (Option<Ending>, u64)
+    requires order { IsDoingInOrder guest.old.doing }
+    ensures goes { (s : Start) (q : Sitting) → s.limits ≡ limits → IsSince (C.reads clock.now) guest.old.since → IsNext (C.reads clock.now) s (here_of N.left N.given N.reads N.writes q guest.old) went guest.old.doing
+        → GoesTo (C.reads clock.now) s (here_of N.left N.given N.reads N.writes q guest.new) result.0 guest.new.doing }
+    ensures since { IsSince (C.reads clock.now) guest.old.since → IsSince (C.reads clock.now) guest.new.since }
+    ensures order { IsDoingInOrder guest.new.doing }
+{
     let (went, since, until) = look(clock, limits, &guest.inbox, guest.since, went, &guest.doing);
     guest.since = since;
     match went {
-        Went::On => (pass, None, 0),
-        Went::NothingYet => {
-            let again = rest(clock, &mut guest.inbox, since, until);
-            (pass, None, again)
-        }
+        Went::On => (None, 0),
+        Went::NothingYet => (None, rest(clock, &mut guest.inbox, since, until)),
         Went::Blocked => {
             rest_blocked(&mut guest.inbox, &guest.doing);
             let again = asks_at(clock, desk, &guest.doing).min(until);
-            (pass, None, again)
+            (None, again)
         }
-        Went::Over(ending) => (pass, Some(ending), 0),
+        Went::Over(ending) => (Some(ending), 0),
     }
 }
 

@@ -7,6 +7,8 @@
 #[cfg(test)]
 mod checkpoint_tests;
 #[cfg(test)]
+mod desks;
+#[cfg(test)]
 mod limits_tests;
 #[cfg(test)]
 mod lines_tests;
@@ -16,6 +18,10 @@ mod linked_tests;
 mod numbers_tests;
 #[cfg(test)]
 mod patient_lines_tests;
+#[cfg(test)]
+mod posted_tests;
+#[cfg(test)]
+mod posting;
 #[cfg(test)]
 mod server_tests;
 #[cfg(test)]

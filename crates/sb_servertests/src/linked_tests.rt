@@ -1,21 +1,21 @@
 // A client whose requests are served, each as a connection of its own, and two passes of one desk over a
 // node.
-ghost use Rattle.std.specs.Prelude.{◌≡◌, ◌++◌, [], ℕ, List, Option, length, IfOk};
+ghost use Rattle.std.specs.Prelude.{◌≡◌, ◌++◌, [], ℕ, List, Option, length};
 ghost use Rattle.sb_machine.specs.Ordered.{IsActInOrder};
 ghost use Rattle.sb_machine.specs.declared.history.Entry.{Entry};
 ghost use Rattle.sb_desk.specs.Desks.{IsOf, IsNew};
 ghost use Rattle.sb_desk.specs.Entries.{made_by};
 ghost use Rattle.sb_desk.specs.Lists.{Each, IsEnd};
 
+use crate::desks::{ask, call_of, closed, node_over, put_reply};
 use crate::server_tests::{SERVE, served};
-use sb_calls::{ONE_EVENT, SALT, connection_of, disks_of, doors_of, ran_over, sink_of};
+use sb_calls::{ONE_EVENT, connection_of, doors_of, ran_over, sink_of};
 use sb_desk::{Desk, NewFault, Pass, Report, Served};
-use sb_lines::{Form, read_line, reply_line};
 use sb_machine::{Answer, TimedCall};
-use sb_node::Node;
-use sb_outside::{Bytes, MemConn, MemDisk, MemDoor, MemLink, MemSink};
+use sb_outside::{Bytes, MemConn, MemDoor, MemLink, MemSink};
 use sb_rest::Access;
-use std::alloc::{AllocError, Global};
+use std::alloc::Global;
+use std::process::Abort;
 use std::sync::Wait;
 use std::test::Fail;
 use std::thread::Threads;
@@ -152,29 +152,11 @@ fn a_client_is_served(rt: HostRuntime) -> Result<(), Fail> {
 
 const SEND: &str = "{\"at\":0,\"do\":\"send\",\"to\":\"q\",\"messages\":[{\"body\":\"hi\"}]}";
 
-const SENT: &str = "{\"numbers\":[1],\"ok\":\"sent\"}";
-
 const RECEIVE: &str = "{\"at\":0,\"do\":\"receive\",\"from\":\"q\",\"mode\":\"delete\"}";
 
-const RECEIVED: &str =
-    "{\"message\":{\"body\":\"hi\",\"delivery\":1,\"enqueued\":0,\"enqueued_seq\":1,\"props\":{},\"seq\":1,\"sys\":{}},\"ok\":\"message\"}";
-
-fn line_of(rt: &HostRuntime, line: &str) -> Result<TimedCall, Fail>
-    ensures { IfOk result (λ timed. IsActInOrder timed.call.act) }
-{
-    match read_line(rt.alloc(), line) {
-        Ok(line) => Ok(line.timed),
-        Err(_) => Err(Fail::from("the line is a call")),
-    }
-}
-
-// Whether this is the reply line of an answer.
-fn is_told(alloc: Global, answer: &Answer, told: &str) -> Result<bool, AllocError> {
-    let line = reply_line(alloc, Form::Plain, answer)?;
-    let is_told = line.as_str().trim_end() == told;
-    drop(line);
-    Ok(is_told)
-}
+// What the two are answered.
+const TOLD: &str =
+    "{\"numbers\":[1],\"ok\":\"sent\"}\n{\"message\":{\"body\":\"hi\",\"delivery\":1,\"enqueued\":0,\"enqueued_seq\":1,\"props\":{},\"seq\":1,\"sys\":{}},\"ok\":\"message\"}\n";
 
 // The first calls, the two tell each other, and then the other calls: it has seen both calls.
 fn one_then_other<V: Served, R: Wait>(
@@ -182,18 +164,18 @@ fn one_then_other<V: Served, R: Wait>(
     desk: &Desk<V>,
     one: Pass,
     other: Pass,
-    first: &TimedCall,
-    second: &TimedCall,
+    first: TimedCall,
+    second: TimedCall,
 ) -> (Pass, Pass, Answer, Answer)
     requires new { IsNew desk.now one × IsNew desk.now other }
-    requires order { IsActInOrder first.now.call.act × IsActInOrder second.now.call.act }
+    requires order { IsActInOrder first.call.act × IsActInOrder second.call.act }
     ensures seen { (t : Option ℕ) × (u : Option ℕ) × (a : List Entry) × (b : List Entry) × (result.1.seen ≡ a ++ b)
-        × IsEnd (made_by one.seat t first.now.reading first.now.call result.2) a × IsEnd (made_by other.seat u second.now.reading second.now.call result.3) b }
+        × IsEnd (made_by one.seat t first.reading first.call result.2) a × IsEnd (made_by other.seat u second.reading second.call result.3) b }
     ensures desk { IsOf desk.now result.0 × IsOf desk.now result.1 }
 {
-    let (one, sent) = desk.call(rt, one, first.reading, &first.call);
+    let (one, sent) = ask(rt, desk, one, first);
     let (one, other) = desk.tell(one, other);
-    let (other, received) = desk.call(rt, other, second.reading, &second.call);
+    let (other, received) = ask(rt, desk, other, second);
     (one, other, sent, received)
 }
 
@@ -202,11 +184,11 @@ fn two_call<V: Served, R: Wait>(
     rt: &R,
     desk: &Desk<V>,
     passes: &mut Vec<Pass>,
-    first: &TimedCall,
-    second: &TimedCall,
+    first: TimedCall,
+    second: TimedCall,
 ) -> (Answer, Answer)
     requires new { (length passes.old.items ≡ 2) × Each (IsNew desk.now) passes.old.items }
-    requires order { IsActInOrder first.now.call.act × IsActInOrder second.now.call.act }
+    requires order { IsActInOrder first.call.act × IsActInOrder second.call.act }
     ensures { (length passes.new.items ≡ 2) × Each (IsOf desk.now) passes.new.items }
 {
     let other = passes.pop().unwrap();
@@ -223,15 +205,19 @@ fn desk_told<V: Served, R: Wait>(
     rt: &R,
     alloc: Global,
     value: V,
-    first: &TimedCall,
-    second: &TimedCall,
+    first: TimedCall,
+    second: TimedCall,
 ) -> Result<(V, Answer, Answer, Report), V>
     requires stands { V.stands value (V.state value) [] }
-    requires order { IsActInOrder first.now.call.act × IsActInOrder second.now.call.act }
+    requires order { IsActInOrder first.call.act × IsActInOrder second.call.act }
 {
     let (desk, mut passes) = match Desk::new(alloc, value, 2) {
         Ok(opened) => opened,
-        Err(NewFault::OutOfMemory { value }) => return Err(value),
+        Err(NewFault::OutOfMemory { value }) => {
+            drop(first);
+            drop(second);
+            return Err(value);
+        }
     };
     let (sent, received) = two_call(rt, &desk, &mut passes, first, second);
     match desk.close(passes) {
@@ -240,76 +226,48 @@ fn desk_told<V: Served, R: Wait>(
     }
 }
 
-fn let_go(node: Node<MemDisk>) {
-    let (disk_a, disk_b) = node.close();
-    drop(disk_a);
-    drop(disk_b);
-}
-
 // So it is over a node with the queue of the one event.
-fn node_told<R: Wait>(
+fn node_told<R: Wait + Abort>(
     rt: &R,
     alloc: Global,
-    first: &TimedCall,
-    second: &TimedCall,
-) -> Result<(Answer, Answer, Report), Fail>
-    requires { IsActInOrder first.now.call.act × IsActInOrder second.now.call.act }
+    first: TimedCall,
+    second: TimedCall,
+) -> (Answer, Answer, Report)
+    requires { IsActInOrder first.call.act × IsActInOrder second.call.act }
 {
-    let (disk_a, disk_b) = disks_of(alloc, (&ONE_EVENT, &[]))?;
-    let node = match Node::open(alloc, disk_a, disk_b, SALT) {
-        Ok(node) => node,
-        Err(fault) => {
-            drop(fault);
-            return Err(Fail::from("the node opens"));
-        }
+    let Some(node) = node_over(rt, alloc, (&ONE_EVENT, &[])) else {
+        panic!(rt; "the node doesn't open")
     };
     match desk_told(rt, alloc, node, first, second) {
         Ok((node, sent, received, report)) => {
-            let_go(node);
-            Ok((sent, received, report))
+            drop(closed(node));
+            (sent, received, report)
         }
         Err(node) => {
-            let_go(node);
-            Err(Fail::from("there is a desk"))
+            drop(closed(node));
+            panic!(rt; "no memory for a desk")
         }
     }
 }
 
-// Whether the two calls are answered as they have to be, and the numbers.
-fn try_two<R: Wait>(
-    rt: &R,
-    alloc: Global,
-    first: &TimedCall,
-    second: &TimedCall,
-) -> Result<(bool, bool, Report), Fail>
-    requires { IsActInOrder first.now.call.act × IsActInOrder second.now.call.act }
-{
-    let (sent, received, report) = node_told(rt, alloc, first, second)?;
-    let is_sent = is_told(alloc, &sent, SENT);
-    drop(sent);
-    let is_received = is_told(alloc, &received, RECEIVED);
-    drop(received);
-    Ok((is_sent?, is_received?, report))
+// The reply lines of a send and a receive, and the numbers.
+fn send_and_receive<R: Wait + Abort>(rt: &R, alloc: Global) -> (String, Report) {
+    let send = call_of(rt, alloc, SEND);
+    let receive = call_of(rt, alloc, RECEIVE);
+    let (sent, received, report) = node_told(rt, alloc, send, receive);
+    let mut told = String::new(alloc);
+    put_reply(rt, alloc, &mut told, sent);
+    put_reply(rt, alloc, &mut told, received);
+    (told, report)
 }
 
 #[test]
-fn a_pass_tells_another(rt: HostRuntime) -> Result<(), Fail> {
-    let send = line_of(&rt, SEND)?;
-    let tried = match line_of(&rt, RECEIVE) {
-        Ok(receive) => {
-            let tried = try_two(&rt, rt.alloc(), &send, &receive);
-            drop(receive);
-            tried
-        }
-        Err(fail) => Err(fail),
-    };
-    drop(send);
-    let (is_sent, is_received, report) = tried?;
-    assert!(rt; is_sent);
-    assert!(rt; is_received);
+fn a_pass_tells_another(rt: HostRuntime) {
+    let (told, report) = send_and_receive(&rt, rt.alloc());
+    assert!(rt; told.as_str() == TOLD, "{}", told.as_str());
     assert_eq!(rt;
         (report.entries, report.changing, report.refused),
         (2, 2, 0)
     );
-    Ok(())
+    drop(told);
 }

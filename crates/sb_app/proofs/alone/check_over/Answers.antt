@@ -24,7 +24,7 @@ returns-clause-done g c =
     let node = c.in-Ok.node in
     let output = c.check_status-status.new.output in
     let status = c.check_status-status.result in
-    let told = subst (λ o. IsLineTold (check_line (summary_of (node_state node) (node_last node))) (output_of g.K.Sink o) (output_of g.K.Sink output) status) c.in-Ok.ensures.unsaid c.check_status-status.ensures in
+    let told = subst (λ o. IsLineTold (check_line (summary_of (node_state node) (node_last node))) (output_of g.K.Sink o) (output_of g.K.Sink output) status) c.in-Ok.ensures.unsaid (c.check_status-status.ensures c.in-Ok.ensures.running) in
     let over = check_over (g.C.Clock.reads c.args.clock.now) c.args.max_jump (IsKept node) c.args.salt (node_last node) was (node_disks node) (output_of g.K.Sink output) (node_state node) status c.in-Ok.ensures.opened (kept_numbers node c.args.salt) told in
     subst (λ a. IsCarriedOut (g.C.Clock.reads c.args.clock.now) c.args.max_jump (Some Check) c.args.salt was (outside_of g.D.Disk g.S.Source g.K.Sink a c.close-disk_a.result.1 c.args.input.now output) status) (sym c.close-disk_a.ensures.disk_a)
     (subst (λ b. IsCarriedOut (g.C.Clock.reads c.args.clock.now) c.args.max_jump (Some Check) c.args.salt was (outside_of g.D.Disk g.S.Source g.K.Sink (node_disk_a node) b c.args.input.now output) status) (sym c.close-disk_a.ensures.disk_b) over)

@@ -4,5 +4,5 @@ use Rattle.sb_app.specs.Checks.{check_line, IsLineTold}
 use Rattle.sb_app.proofs.checking.check_status.Goals as goal
 
 pub returns : goal.returns
-returns g c =
-    subst (λ s. IsLineTold (check_line s) (output_of g.K.Sink c.args.output.now) (output_of g.K.Sink c.tell_numbers.new.output) c.tell_numbers.result) c.summary.ensures.numbers c.tell_numbers.ensures
+returns g c runs =
+    subst (λ s. IsLineTold (check_line s) (output_of g.K.Sink c.args.output.now) (output_of g.K.Sink c.tell_numbers.new.output) c.tell_numbers.result) (c.summary.ensures.numbers runs) c.tell_numbers.ensures

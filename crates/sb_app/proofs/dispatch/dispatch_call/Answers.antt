@@ -6,8 +6,8 @@ use Rattle.sb_app.specs.declared.script_line.ScriptLine.TheVariants.{Request}
 use Rattle.sb_app.specs.declared.dispatch.AnswerKind.TheVariants.{Accepted, Refused, Wanting}
 use Rattle.sb_app.specs.declared.ending.RunEnd.{RunEnd}
 use Rattle.sb_app.specs.declared.ending.RunEnd.TheVariants.{DiskFault}
-use Rattle.sb_app.specs.Runs.{states_of}
-use Rattle.sb_app.proofs.Steps.{accepted_answer, refused_answer, stepped, answered_call, called_moments, still_runs_wanting}
+use Rattle.sb_app.specs.Runs.{states_left}
+use Rattle.sb_app.proofs.Steps.{accepted_answer, refused_answer, stepped, answered_call, called_left, called_moments, failed_left, still_runs_wanting, wanting_left}
 use Rattle.sb_app.proofs.Cuts.{step_at, not_failed, failed_answer, wanting_answer, disk_cut, memory_cut, reply_cut_at}
 use Rattle.sb_input.proofs.Errors.{passed_on}
 use Rattle.sb_app.proofs.Faults.{present_one}
@@ -95,45 +95,6 @@ returns-in-Failed-clause-disk_fault g c is =
     let one = c.step-answer.ensures.disk_fault (failed_answer c.step-answer.result (node_stopped c.args.node.now) c.requires.running c.step-answer.ensures.stopped (sym c.in-Failed.ensures)) in
     (one.0, one.2)
 
-pub returns-in-Failed-clause-undecided : goal.returns-in-Failed-clause-undecided
-returns-in-Failed-clause-undecided g c safe is =
-    let was = node_disks c.args.node.now in
-    let now = node_disks c.step-answer.new.self in
-    let s = node_state c.args.node.now in
-    present_one was now (states_of s (Request c.args.asked.now c.args.form)) (called_moments s c.args.asked.now c.args.form was now (c.step-answer.ensures.any_moment safe))
-
-pub returns-in_err-write_answer-in-Accepted-clause-undecided : goal.returns-in_err-write_answer-in-Accepted-clause-undecided
-returns-in_err-write_answer-in-Accepted-clause-undecided g c safe is =
-    let was = node_disks c.args.node.now in
-    let now = node_disks c.step-answer.new.self in
-    let s = node_state c.args.node.now in
-    present_one was now (states_of s (Request c.args.asked.now c.args.form)) (called_moments s c.args.asked.now c.args.form was now (c.step-answer.ensures.any_moment safe))
-
-pub returns-in_err-write_answer-in-Refused-clause-undecided : goal.returns-in_err-write_answer-in-Refused-clause-undecided
-returns-in_err-write_answer-in-Refused-clause-undecided g c safe is =
-    let was = node_disks c.args.node.now in
-    let now = node_disks c.step-answer.new.self in
-    let s = node_state c.args.node.now in
-    present_one was now (states_of s (Request c.args.asked.now c.args.form)) (called_moments s c.args.asked.now c.args.form was now (c.step-answer.ensures.any_moment safe))
-
-pub returns-in_ok-write_answer-in-Accepted-clause-any_moment : goal.returns-in_ok-write_answer-in-Accepted-clause-any_moment
-returns-in_ok-write_answer-in-Accepted-clause-any_moment g c safe = called_moments (node_state c.args.node.now) c.args.asked.now c.args.form (node_disks c.args.node.now) (node_disks c.step-answer.new.self) (c.step-answer.ensures.any_moment safe)
-
-pub returns-in_ok-write_answer-in-Refused-clause-any_moment : goal.returns-in_ok-write_answer-in-Refused-clause-any_moment
-returns-in_ok-write_answer-in-Refused-clause-any_moment g c safe = called_moments (node_state c.args.node.now) c.args.asked.now c.args.form (node_disks c.args.node.now) (node_disks c.step-answer.new.self) (c.step-answer.ensures.any_moment safe)
-
-pub returns-in-Failed-clause-any_moment : goal.returns-in-Failed-clause-any_moment
-returns-in-Failed-clause-any_moment g c safe = called_moments (node_state c.args.node.now) c.args.asked.now c.args.form (node_disks c.args.node.now) (node_disks c.step-answer.new.self) (c.step-answer.ensures.any_moment safe)
-
-pub returns-in-Wanting-clause-any_moment : goal.returns-in-Wanting-clause-any_moment
-returns-in-Wanting-clause-any_moment g c safe = called_moments (node_state c.args.node.now) c.args.asked.now c.args.form (node_disks c.args.node.now) (node_disks c.step-answer.new.self) (c.step-answer.ensures.any_moment safe)
-
-pub returns-in_err-write_answer-in-Accepted-clause-any_moment : goal.returns-in_err-write_answer-in-Accepted-clause-any_moment
-returns-in_err-write_answer-in-Accepted-clause-any_moment g c safe = called_moments (node_state c.args.node.now) c.args.asked.now c.args.form (node_disks c.args.node.now) (node_disks c.step-answer.new.self) (c.step-answer.ensures.any_moment safe)
-
-pub returns-in_err-write_answer-in-Refused-clause-any_moment : goal.returns-in_err-write_answer-in-Refused-clause-any_moment
-returns-in_err-write_answer-in-Refused-clause-any_moment g c safe = called_moments (node_state c.args.node.now) c.args.asked.now c.args.form (node_disks c.args.node.now) (node_disks c.step-answer.new.self) (c.step-answer.ensures.any_moment safe)
-
 pub returns-in-Wanting-clause-disk_quiet : goal.returns-in-Wanting-clause-disk_quiet
 returns-in-Wanting-clause-disk_quiet g c other = c.step-answer.ensures.quiet (not_failed c.step-answer.result Wanting (sym c.in-Wanting.ensures) (λ e. absurd cc))
 
@@ -168,3 +129,72 @@ returns-in-Failed-clause-consistent g c = c.step-answer.ensures.consistent c.req
 
 pub returns-in-Wanting-clause-consistent : goal.returns-in-Wanting-clause-consistent
 returns-in-Wanting-clause-consistent g c = c.step-answer.ensures.consistent c.requires.consistent
+
+pub returns-in_ok-write_answer-in-Accepted-clause-any_moment : goal.returns-in_ok-write_answer-in-Accepted-clause-any_moment
+returns-in_ok-write_answer-in-Accepted-clause-any_moment g c safe =
+    let kind = accepted_answer c.step-answer.result (sym c.in-Accepted.ensures) in
+    let step = stepped (node_state c.args.node.now) _ (node_stopped c.args.node.now) (node_stopped c.step-answer.new.self) (node_ticked c.step-answer.new.self) c.args.asked.now.reading c.args.asked.now.call c.step-answer.result c.requires.consistent c.requires.running c.step-answer.ensures.ticked (c.step-answer.ensures.step 0) kind.0 in
+    called_moments (node_state c.args.node.now) (node_state c.step-answer.new.self) c.args.asked.now c.args.form (node_disks c.args.node.now) (node_disks c.step-answer.new.self) step.leads
+    (c.step-answer.ensures.any_moment safe (not_failed c.step-answer.result Accepted (sym c.in-Accepted.ensures) (λ e. absurd cc)))
+
+pub returns-in_ok-write_answer-in-Accepted-clause-last_moments : goal.returns-in_ok-write_answer-in-Accepted-clause-last_moments
+returns-in_ok-write_answer-in-Accepted-clause-last_moments g c safe =
+    let kind = accepted_answer c.step-answer.result (sym c.in-Accepted.ensures) in
+    let step = stepped (node_state c.args.node.now) _ (node_stopped c.args.node.now) (node_stopped c.step-answer.new.self) (node_ticked c.step-answer.new.self) c.args.asked.now.reading c.args.asked.now.call c.step-answer.result c.requires.consistent c.requires.running c.step-answer.ensures.ticked (c.step-answer.ensures.step 0) kind.0 in
+    called_left (node_state c.args.node.now) (node_state c.step-answer.new.self) c.args.asked.now c.args.form (node_disks c.args.node.now) (node_disks c.step-answer.new.self) step.leads
+    (c.step-answer.ensures.any_moment safe (not_failed c.step-answer.result Accepted (sym c.in-Accepted.ensures) (λ e. absurd cc)))
+
+pub returns-in_ok-write_answer-in-Refused-clause-any_moment : goal.returns-in_ok-write_answer-in-Refused-clause-any_moment
+returns-in_ok-write_answer-in-Refused-clause-any_moment g c safe =
+    let kind = refused_answer c.step-answer.result (sym c.in-Refused.ensures) in
+    let step = stepped (node_state c.args.node.now) _ (node_stopped c.args.node.now) (node_stopped c.step-answer.new.self) (node_ticked c.step-answer.new.self) c.args.asked.now.reading c.args.asked.now.call c.step-answer.result c.requires.consistent c.requires.running c.step-answer.ensures.ticked (c.step-answer.ensures.step 0) kind.0 in
+    called_moments (node_state c.args.node.now) (node_state c.step-answer.new.self) c.args.asked.now c.args.form (node_disks c.args.node.now) (node_disks c.step-answer.new.self) step.leads
+    (c.step-answer.ensures.any_moment safe (not_failed c.step-answer.result Refused (sym c.in-Refused.ensures) (λ e. absurd cc)))
+
+pub returns-in_ok-write_answer-in-Refused-clause-last_moments : goal.returns-in_ok-write_answer-in-Refused-clause-last_moments
+returns-in_ok-write_answer-in-Refused-clause-last_moments g c safe =
+    let kind = refused_answer c.step-answer.result (sym c.in-Refused.ensures) in
+    let step = stepped (node_state c.args.node.now) _ (node_stopped c.args.node.now) (node_stopped c.step-answer.new.self) (node_ticked c.step-answer.new.self) c.args.asked.now.reading c.args.asked.now.call c.step-answer.result c.requires.consistent c.requires.running c.step-answer.ensures.ticked (c.step-answer.ensures.step 0) kind.0 in
+    called_left (node_state c.args.node.now) (node_state c.step-answer.new.self) c.args.asked.now c.args.form (node_disks c.args.node.now) (node_disks c.step-answer.new.self) step.leads
+    (c.step-answer.ensures.any_moment safe (not_failed c.step-answer.result Refused (sym c.in-Refused.ensures) (λ e. absurd cc)))
+
+pub returns-in_err-write_answer-in-Accepted-clause-last_moments : goal.returns-in_err-write_answer-in-Accepted-clause-last_moments
+returns-in_err-write_answer-in-Accepted-clause-last_moments g c safe =
+    let kind = accepted_answer c.step-answer.result (sym c.in-Accepted.ensures) in
+    let step = stepped (node_state c.args.node.now) _ (node_stopped c.args.node.now) (node_stopped c.step-answer.new.self) (node_ticked c.step-answer.new.self) c.args.asked.now.reading c.args.asked.now.call c.step-answer.result c.requires.consistent c.requires.running c.step-answer.ensures.ticked (c.step-answer.ensures.step 0) kind.0 in
+    called_left (node_state c.args.node.now) (node_state c.step-answer.new.self) c.args.asked.now c.args.form (node_disks c.args.node.now) (node_disks c.step-answer.new.self) step.leads
+    (c.step-answer.ensures.any_moment safe (not_failed c.step-answer.result Accepted (sym c.in-Accepted.ensures) (λ e. absurd cc)))
+
+pub returns-in_err-write_answer-in-Refused-clause-last_moments : goal.returns-in_err-write_answer-in-Refused-clause-last_moments
+returns-in_err-write_answer-in-Refused-clause-last_moments g c safe =
+    let kind = refused_answer c.step-answer.result (sym c.in-Refused.ensures) in
+    let step = stepped (node_state c.args.node.now) _ (node_stopped c.args.node.now) (node_stopped c.step-answer.new.self) (node_ticked c.step-answer.new.self) c.args.asked.now.reading c.args.asked.now.call c.step-answer.result c.requires.consistent c.requires.running c.step-answer.ensures.ticked (c.step-answer.ensures.step 0) kind.0 in
+    called_left (node_state c.args.node.now) (node_state c.step-answer.new.self) c.args.asked.now c.args.form (node_disks c.args.node.now) (node_disks c.step-answer.new.self) step.leads
+    (c.step-answer.ensures.any_moment safe (not_failed c.step-answer.result Refused (sym c.in-Refused.ensures) (λ e. absurd cc)))
+
+pub returns-in-Wanting-clause-last_moments : goal.returns-in-Wanting-clause-last_moments
+returns-in-Wanting-clause-last_moments g c safe =
+    let old = c.args.node.now in
+    let new = c.step-answer.new.self in
+    let wants = wanting_answer c.step-answer.result (sym c.in-Wanting.ensures) in
+    wanting_left (node_state old) (node_state new) c.args.asked.now c.args.form c.step-answer.result (node_stopped old) (node_stopped new) (node_ticked new) (node_disks old) (node_disks new) c.requires.running wants c.step-answer.ensures.ticked (c.step-answer.ensures.step 0) c.step-answer.ensures.refused
+    (c.step-answer.ensures.any_moment safe (not_failed c.step-answer.result Wanting (sym c.in-Wanting.ensures) (λ e. absurd cc)))
+
+pub returns-in-Failed-clause-last_moments : goal.returns-in-Failed-clause-last_moments
+returns-in-Failed-clause-last_moments g c safe =
+    let old = c.args.node.now in
+    let new = c.step-answer.new.self in
+    let failed = failed_answer c.step-answer.result (node_stopped old) c.requires.running c.step-answer.ensures.stopped (sym c.in-Failed.ensures) in
+    failed_left (node_state old) c.args.asked.now c.args.form (node_stopped old) (node_ticked new) c.step-answer.result (node_disks old) (node_disks new) failed (c.step-answer.ensures.undone failed).0 (c.step-answer.ensures.follows safe 0)
+
+pub returns-in-Failed-clause-undecided : goal.returns-in-Failed-clause-undecided
+returns-in-Failed-clause-undecided g c safe is =
+    present_one (node_disks c.args.node.now) (node_disks c.step-answer.new.self) (states_left (node_state c.args.node.now) (Request c.args.asked.now c.args.form)) (returns-in-Failed-clause-last_moments g c safe)
+
+pub returns-in_err-write_answer-in-Accepted-clause-undecided : goal.returns-in_err-write_answer-in-Accepted-clause-undecided
+returns-in_err-write_answer-in-Accepted-clause-undecided g c safe is =
+    present_one (node_disks c.args.node.now) (node_disks c.step-answer.new.self) (states_left (node_state c.args.node.now) (Request c.args.asked.now c.args.form)) (returns-in_err-write_answer-in-Accepted-clause-last_moments g c safe)
+
+pub returns-in_err-write_answer-in-Refused-clause-undecided : goal.returns-in_err-write_answer-in-Refused-clause-undecided
+returns-in_err-write_answer-in-Refused-clause-undecided g c safe is =
+    present_one (node_disks c.args.node.now) (node_disks c.step-answer.new.self) (states_left (node_state c.args.node.now) (Request c.args.asked.now c.args.form)) (returns-in_err-write_answer-in-Refused-clause-last_moments g c safe)

@@ -1,9 +1,10 @@
 use Rattle.std.proofs.Common.{[], sym, subst}
-use Rattle.sb_node.specs.Nodes.{node_state, node_journal, node_last, node_disks, IsOneOf, StayOneOf}
+use Rattle.std.specs.Prelude.{OnOk}
+use Rattle.sb_node.specs.Nodes.{node_state, node_journal, node_last, node_disks, IsKept, IsOneOf, StayOneOf}
 use Rattle.sb_app.specs.Outside.{output_of}
 use Rattle.sb_node.proofs.Crashes.{untouched_moments}
 use Rattle.sb_app.specs.declared.script_line.ScriptLine.{ScriptLine}
-use Rattle.sb_app.specs.Runs.{states_of}
+use Rattle.sb_app.specs.Runs.{states_left, states_of}
 use Rattle.sb_app.proofs.Cuts.{malformed_cut}
 use Rattle.sb_input.proofs.Errors.{passed_on}
 use Rattle.sb_app.proofs.dispatch.dispatch_line.Goals as goal
@@ -16,24 +17,39 @@ returns-in_err-write_answer-in-Malformed-clause-cut g c =
 pub returns-in-Request-clause-undecided : goal.returns-in-Request-clause-undecided
 returns-in-Request-clause-undecided g c safe failed =
     let s = node_state c.args.node.now in
-    subst (λ (x : ScriptLine). IsOneOf (node_disks c.dispatch_call-answered.new.node) (states_of s x)) (sym c.in-Request.is) (c.dispatch_call-answered.ensures.undecided safe failed)
+    subst (λ (x : ScriptLine). IsOneOf (node_disks c.dispatch_call-answered.new.node) (states_left s x)) (sym c.in-Request.is) (c.dispatch_call-answered.ensures.undecided safe failed)
 
 pub returns-in-Request-clause-any_moment : goal.returns-in-Request-clause-any_moment
-returns-in-Request-clause-any_moment g c safe =
+returns-in-Request-clause-any_moment g c =
+    let n = c.args.node.now in
+    subst (λ (x : ScriptLine). IsKept n → OnOk c.dispatch_call-answered.result (StayOneOf (node_disks n) (node_disks c.dispatch_call-answered.new.node) (states_of (node_state n) x))) (sym c.in-Request.is) c.dispatch_call-answered.ensures.any_moment
+
+pub returns-in-Request-clause-last_moments : goal.returns-in-Request-clause-last_moments
+returns-in-Request-clause-last_moments g c safe =
     let s = node_state c.args.node.now in
-    subst (λ (x : ScriptLine). StayOneOf (node_disks c.args.node.now) (node_disks c.dispatch_call-answered.new.node) (states_of s x)) (sym c.in-Request.is) (c.dispatch_call-answered.ensures.any_moment safe)
+    subst (λ (x : ScriptLine). StayOneOf (node_disks c.args.node.now) (node_disks c.dispatch_call-answered.new.node) (states_left s x)) (sym c.in-Request.is) (c.dispatch_call-answered.ensures.last_moments safe)
 
 pub returns-in-Blank-clause-any_moment : goal.returns-in-Blank-clause-any_moment
 returns-in-Blank-clause-any_moment g c safe =
     let n = c.args.node.now in
     subst (λ (x : ScriptLine). StayOneOf (node_disks n) (node_disks n) (states_of (node_state n) x)) (sym c.in-Blank.is) (untouched_moments (node_journal n) (node_last n) (node_state n) [] safe)
 
+pub returns-in-Blank-clause-last_moments : goal.returns-in-Blank-clause-last_moments
+returns-in-Blank-clause-last_moments g c safe =
+    let n = c.args.node.now in
+    subst (λ (x : ScriptLine). StayOneOf (node_disks n) (node_disks n) (states_left (node_state n) x)) (sym c.in-Blank.is) (untouched_moments (node_journal n) (node_last n) (node_state n) [] safe)
+
 pub returns-in_ok-write_answer-in-Malformed-clause-any_moment : goal.returns-in_ok-write_answer-in-Malformed-clause-any_moment
 returns-in_ok-write_answer-in-Malformed-clause-any_moment g c safe =
     let n = c.args.node.now in
     subst (λ (x : ScriptLine). StayOneOf (node_disks n) (node_disks n) (states_of (node_state n) x)) (sym c.in-Malformed.is) (untouched_moments (node_journal n) (node_last n) (node_state n) [] safe)
 
-pub returns-in_err-write_answer-in-Malformed-clause-any_moment : goal.returns-in_err-write_answer-in-Malformed-clause-any_moment
-returns-in_err-write_answer-in-Malformed-clause-any_moment g c safe =
+pub returns-in_ok-write_answer-in-Malformed-clause-last_moments : goal.returns-in_ok-write_answer-in-Malformed-clause-last_moments
+returns-in_ok-write_answer-in-Malformed-clause-last_moments g c safe =
     let n = c.args.node.now in
-    subst (λ (x : ScriptLine). StayOneOf (node_disks n) (node_disks n) (states_of (node_state n) x)) (sym c.in-Malformed.is) (untouched_moments (node_journal n) (node_last n) (node_state n) [] safe)
+    subst (λ (x : ScriptLine). StayOneOf (node_disks n) (node_disks n) (states_left (node_state n) x)) (sym c.in-Malformed.is) (untouched_moments (node_journal n) (node_last n) (node_state n) [] safe)
+
+pub returns-in_err-write_answer-in-Malformed-clause-last_moments : goal.returns-in_err-write_answer-in-Malformed-clause-last_moments
+returns-in_err-write_answer-in-Malformed-clause-last_moments g c safe =
+    let n = c.args.node.now in
+    subst (λ (x : ScriptLine). StayOneOf (node_disks n) (node_disks n) (states_left (node_state n) x)) (sym c.in-Malformed.is) (untouched_moments (node_journal n) (node_last n) (node_state n) [] safe)

@@ -6,7 +6,7 @@ use Rattle.sb_app.proofs.drilling.drill_status.Goals as goal
 pub returns-in-Ok-clause-done : goal.returns-in-Ok-clause-done
 returns-in-Ok-clause-done g c =
     told_over c.args.count c.args.seed c.calls_for.result (node_state c.args.node.now) (output_of g.K.Sink c.args.output.now) (output_of g.K.Sink c.tell_counts.new.output) c.make_calls.new.node c.in-Ok.so_far c.summary.result (node_last c.make_calls.new.node) c.counts_of-counts.result c.tell_counts.result
-    c.calls_for.ensures c.in-Ok.ensures.ok c.summary.ensures.numbers c.counts_of-counts.ensures c.tell_counts.ensures
+    c.calls_for.ensures c.in-Ok.ensures.ok (c.summary.ensures.numbers c.in-Ok.ensures.ok.running) c.counts_of-counts.ensures c.tell_counts.ensures
 
 pub returns-in-Err-clause-done : goal.returns-in-Err-clause-done
 returns-in-Err-clause-done g c =

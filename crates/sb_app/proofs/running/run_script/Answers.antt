@@ -119,7 +119,7 @@ returns-in_err-was_refused-clause-cut g c =
     let reads = subst (λ (o : Option PartialLine). Reads o start so_far.input (pending_of c.lines.reader) left c.next_line.new.self) c.in-Ok-Some.field-0-is (c.in-Ok-Some.ensures.reads start so_far.input so_far.at) in
     passed_on _ c.in_err-was_refused.field-0.0 c.from_residual.result c.from_residual.ensures
     (cut_at_line (g.C.Clock.reads c.args.clock.now) c.args.max_jump (IsKept c.args.node.now) (node_state c.args.node.now) (node_state c.lines.node) (node_state c.dispatch_line.new.node) was on now c.lines.reader c.next_line.new.self c.lines.refused c.in_err-was_refused.field-0.0 c.in-Ok-Some.partial c.in-Ok-parse_line.line so_far reads (c.in-Ok-parse_line.ensures.says reads.line reads.stands)
-    c.in_err-was_refused.ensures.cut c.lines.invariant.write_same (λ safe failed. c.in_err-was_refused.ensures.undecided (c.lines.invariant.safe safe) (ap Err failed)) c.lines.invariant.moments (λ safe. c.in_err-was_refused.ensures.any_moment (c.lines.invariant.safe safe)) c.lines.invariant.within c.in-Ok-hold_line.ensures.ok)
+    c.in_err-was_refused.ensures.cut c.lines.invariant.write_same (λ safe failed. c.in_err-was_refused.ensures.undecided (c.lines.invariant.safe safe) (ap Err failed)) c.lines.invariant.moments (λ safe. c.in_err-was_refused.ensures.last_moments (c.lines.invariant.safe safe)) c.lines.invariant.within c.in-Ok-hold_line.ensures.ok)
 
 pub returns-in_err-was_refused-clause-kept : goal.returns-in_err-was_refused-clause-kept
 returns-in_err-was_refused-clause-kept g c safe sound =

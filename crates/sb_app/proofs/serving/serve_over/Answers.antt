@@ -91,7 +91,7 @@ returns g c input =
     let from_here = same_found (node_goes_on last) (node_goes_on told_node) (opened_disks told_node) (opened_disks last) same ∙ as_told.origin ∙ opened.origin in
     let start = new.desk.0 ∙ as_told.state in
     let opening = subst (IsOpened (IsKept first) c.args.salt was.disks (node_disks first)) (sym start) opened.opened in
-    let moment = ap (λ (o : Summary). o.now) c.summary.ensures.numbers ∙ ap (λ (s : State). s.now) (sym start) in
+    let moment = ap (λ (o : Summary). o.now) (c.summary.ensures.numbers c.in-Ok-open_node.ensures.running) ∙ ap (λ (s : State). s.now) (sym start) in
     let settled = subst (λ (m : ℕ). IsSettled (g.C.Clock.reads c.args.clock.now) c.args.max_jump m) moment c.in-Ok-hold_server.ensures.ok in
     let closed = subst (λ b. IsClosed b c.args.salt desk.start ok.0 (node_disks first) (node_disks last) stopped) by_itself
     (subst (λ d. IsClosed (node_goes_on last) c.args.salt desk.start ok.0 d (node_disks last) stopped) from_here (closed_node last c.args.salt desk.start ok.0 ok.1)) in
@@ -124,7 +124,7 @@ returns-in-Err-hold_server g c input =
     let output = output_of g.K.Sink c.jump_status-status.new.output in
     let status = c.jump_status-status.result in
     let jump = c.in-Err-hold_server.jump in
-    let moment = ap (λ (o : Summary). o.now) c.summary.ensures.numbers in
+    let moment = ap (λ (o : Summary). o.now) (c.summary.ensures.numbers c.in-Ok-open_node.ensures.running) in
     let far = subst (λ (m : ℕ). IsOvertaken (g.C.Clock.reads c.args.clock.now) c.args.max_jump m jump) moment c.in-Err-hold_server.ensures.err in
     let told = subst (λ o. IsJumpStatus jump (output_of g.K.Sink o) output status) c.in-Ok-open_node.ensures.unsaid c.jump_status-status.ensures in
     let call = jumped_call (g.C.Clock.reads c.args.clock.now) c.args.max_jump goes_on works g.R.Door.count (IsKept node) c.args.salt was (node_disks node) output doors (node_state node) jump status c.in-Ok-open_node.ensures.opened (kept_recovers node c.args.salt) far told in

@@ -4,11 +4,11 @@ use Rattle.sb_desk.specs.Lists.{Each}
 use Rattle.sb_desk.proofs.opening.deal_out.Given as goal
 
 -- the passes dealt so far have the greatest numbers
-abbrev pub invariant-loop : goal.invariant-loop
-invariant-loop g l = record {
+abbrev pub invariant-loop-number : goal.invariant-loop-number
+invariant-loop-number g l = record {
   table : l.place.table_id ≡ l.fn.place.table_id;
   place : l.place.me ≡ (record l.fn.place.me.0 { parts = l.place.me.0.parts; spare = l.place.me.0.spare }, []);
-  count : length l.dealt.items + 1 ≡ l.counter;
+  count : length l.dealt.items + 1 ≡ l.number;
   parts : length l.dealt.items + l.place.me.0.parts ≡ l.passes;
   spare : l.place.me.0.spare + 1 ≡ l.place.me.0.parts;
   room : l.passes ≤ vec_capacity l.dealt;

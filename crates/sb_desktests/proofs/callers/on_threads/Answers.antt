@@ -1,7 +1,7 @@
 use denote.Param.{param}
 use denote.Struct.Field.{u64-field}
 use denote.Param.Send.{IsSync, sendable}
-use Rattle.std.proofs.Common.{rules, arith, ℕ, suc, List, [], ◌∷◌, ◌<◌, length, slice_index_or, IfOk, Result, Ok, Err}
+use Rattle.std.proofs.Common.{arith, ℕ, suc, List, [], ◌∷◌, ◌<◌, length, slice_index_or, IfOk, Result, Ok, Err}
 use Rattle.sb_desk.specs.Lists.{Each}
 use Rattle.std.proofs.Crossing.{crosses}
 use Rattle.sb_machine.proofs.call.Call.TheSendSync as call

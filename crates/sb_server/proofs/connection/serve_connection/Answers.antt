@@ -25,12 +25,12 @@ loop-init g c = record { desk = c.requires; order = tt; since = tt; doing = talk
 pub loop-preserved-in-On : goal.loop-preserved-in-On
 loop-preserved-in-On g c =
     let s : Start = record { access = c.args.access.now; limits = c.args.limits; pass = c.args.pass; there = g.N.Conn.left c.args.conn.now; given = g.N.Conn.given c.args.conn.now; reads = g.N.Conn.reads c.args.conn.now; writes = g.N.Conn.writes c.args.conn.now } in
-    let n : Here = record { pass = c.step-next.result.0; stand = stand_of c.step-next.new.inbox (g.N.Conn.left c.step-next.new.conn); written = g.N.Conn.given c.step-next.new.conn; reads = g.N.Conn.reads c.step-next.new.conn; writes = g.N.Conn.writes c.step-next.new.conn } in
-    let next : IsNext (g.C.Clock.reads c.args.clock.now) s n c.look-went.result.0 c.step-next.new.doing = c.look-went.ensures.next s n refl refl c.loop.invariant.since (c.step-next.ensures.steps s refl c.loop.invariant.doing) in
-    let here = subst (λ (w : Went). IsNext (g.C.Clock.reads c.args.clock.now) s n w c.step-next.new.doing) c.in-On.is next in
+    let n : Here = record { pass = c.step_through-next.result.0; stand = stand_of c.step_through-next.new.inbox (g.N.Conn.left c.step_through-next.new.conn); written = g.N.Conn.given c.step_through-next.new.conn; reads = g.N.Conn.reads c.step_through-next.new.conn; writes = g.N.Conn.writes c.step_through-next.new.conn } in
+    let next : IsNext (g.C.Clock.reads c.args.clock.now) s n c.look-went.result.0 c.step_through-next.new.doing = c.look-went.ensures.next s n refl refl c.loop.invariant.since (c.step_through-next.ensures.steps s refl c.loop.invariant.doing) in
+    let here = subst (λ (w : Went). IsNext (g.C.Clock.reads c.args.clock.now) s n w c.step_through-next.new.doing) c.in-On.is next in
     record {
-      desk = c.step-next.ensures.desk;
-      order = c.step-next.ensures.order;
+      desk = c.step_through-next.ensures.desk;
+      order = c.step_through-next.ensures.order;
       since = c.look-went.ensures.since c.loop.invariant.since;
       doing = here;
     }
@@ -38,19 +38,19 @@ loop-preserved-in-On g c =
 pub loop-preserved : goal.loop-preserved
 loop-preserved g c =
     let s : Start = record { access = c.args.access.now; limits = c.args.limits; pass = c.args.pass; there = g.N.Conn.left c.args.conn.now; given = g.N.Conn.given c.args.conn.now; reads = g.N.Conn.reads c.args.conn.now; writes = g.N.Conn.writes c.args.conn.now } in
-    let n : Here = record { pass = c.step-next.result.0; stand = stand_of c.step-next.new.inbox (g.N.Conn.left c.step-next.new.conn); written = g.N.Conn.given c.step-next.new.conn; reads = g.N.Conn.reads c.step-next.new.conn; writes = g.N.Conn.writes c.step-next.new.conn } in
-    let next : IsNext (g.C.Clock.reads c.args.clock.now) s n c.look-went.result.0 c.step-next.new.doing = c.look-went.ensures.next s n refl refl c.loop.invariant.since (c.step-next.ensures.steps s refl c.loop.invariant.doing) in
+    let n : Here = record { pass = c.step_through-next.result.0; stand = stand_of c.step_through-next.new.inbox (g.N.Conn.left c.step_through-next.new.conn); written = g.N.Conn.given c.step_through-next.new.conn; reads = g.N.Conn.reads c.step_through-next.new.conn; writes = g.N.Conn.writes c.step_through-next.new.conn } in
+    let next : IsNext (g.C.Clock.reads c.args.clock.now) s n c.look-went.result.0 c.step_through-next.new.doing = c.look-went.ensures.next s n refl refl c.loop.invariant.since (c.step_through-next.ensures.steps s refl c.loop.invariant.doing) in
     record {
-      desk = c.step-next.ensures.desk;
-      order = c.step-next.ensures.order;
+      desk = c.step_through-next.ensures.desk;
+      order = c.step_through-next.ensures.order;
       since = c.look-went.ensures.since c.loop.invariant.since;
-      doing = behind_pause (g.C.Clock.reads c.args.clock.now) s n c.look-went.result.0 c.step-next.new.doing c.in-NothingYet.is next;
+      doing = behind_pause (g.C.Clock.reads c.args.clock.now) s n c.look-went.result.0 c.step_through-next.new.doing c.in-NothingYet.is next;
     }
 
 pub returns-in-Over-clause-ends : goal.returns-in-Over-clause-ends
 returns-in-Over-clause-ends g c =
     let s : Start = record { access = c.args.access.now; limits = c.args.limits; pass = c.args.pass; there = g.N.Conn.left c.args.conn.now; given = g.N.Conn.given c.args.conn.now; reads = g.N.Conn.reads c.args.conn.now; writes = g.N.Conn.writes c.args.conn.now } in
-    let n : Here = record { pass = c.step-next.result.0; stand = stand_of c.step-next.new.inbox (g.N.Conn.left c.step-next.new.conn); written = g.N.Conn.given c.step-next.new.conn; reads = g.N.Conn.reads c.step-next.new.conn; writes = g.N.Conn.writes c.step-next.new.conn } in
-    let next : IsNext (g.C.Clock.reads c.args.clock.now) s n c.look-went.result.0 c.step-next.new.doing = c.look-went.ensures.next s n refl refl c.loop.invariant.since (c.step-next.ensures.steps s refl c.loop.invariant.doing) in
-    let here = subst (λ (w : Went). IsNext (g.C.Clock.reads c.args.clock.now) s n w c.step-next.new.doing) c.in-Over.is next in
+    let n : Here = record { pass = c.step_through-next.result.0; stand = stand_of c.step_through-next.new.inbox (g.N.Conn.left c.step_through-next.new.conn); written = g.N.Conn.given c.step_through-next.new.conn; reads = g.N.Conn.reads c.step_through-next.new.conn; writes = g.N.Conn.writes c.step_through-next.new.conn } in
+    let next : IsNext (g.C.Clock.reads c.args.clock.now) s n c.look-went.result.0 c.step_through-next.new.doing = c.look-went.ensures.next s n refl refl c.loop.invariant.since (c.step_through-next.ensures.steps s refl c.loop.invariant.doing) in
+    let here = subst (λ (w : Went). IsNext (g.C.Clock.reads c.args.clock.now) s n w c.step_through-next.new.doing) c.in-Over.is next in
     (n.stand, here)

@@ -1,8 +1,6 @@
 use Rattle.std.proofs.Common.{arith}
 use Rattle.sb_server.proofs.doors.drain.Goals as goal
 
-pub loop-preserved : goal.loop-preserved
-loop-preserved g c = record {
-  work = c.go_at-this.ensures.work;
-  come = λ most began k d lt was. c.go_at-this.ensures.come most began k d (omega (arith, lt, c.loop.auto.jobs)) (c.loop.invariant.come most began k d lt was);
-}
+pub returns-clause-come : goal.returns-clause-come
+returns-clause-come g c = λ most began k d lt was.
+    c.collect_called-those.ensures.come most began k d (omega (arith, lt, c.go_called-these.auto.jobs)) (c.go_called-these.ensures.come most began k d lt was)

@@ -1,8 +1,6 @@
 use Rattle.std.proofs.Common.{arith}
 use Rattle.sb_server.proofs.doors.sweep.Goals as goal
 
-pub loop-i-preserved : goal.loop-i-preserved
-loop-i-preserved g c = record {
-  work = c.go_at-this.ensures.work;
-  come = λ most began k d lt was. c.go_at-this.ensures.come most began k d (omega (arith, lt, c.loop-i.auto.jobs)) (c.loop-i.invariant.come most began k d lt was);
-}
+pub returns-clause-come : goal.returns-clause-come
+returns-clause-come g c = λ most began k d lt was.
+    c.collect_all-those.ensures.come most began k d (omega (arith, lt, c.go_due-these.auto.jobs)) (c.go_due-these.ensures.come most began k d lt was)

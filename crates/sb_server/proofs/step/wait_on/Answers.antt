@@ -1,13 +1,12 @@
 use Rattle.std.proofs.Common.{sym, subst, refl, [], arith, ◌∙◌}
 use Rattle.sb_server.specs.declared.doing.Doing.{Doing}
 use Rattle.sb_server.specs.declared.doing.Doing.TheVariants.{Tells}
-use Rattle.sb_server.specs.declared.doing.Went.{Went}
 use Rattle.sb_server.specs.declared.doing.Went.TheVariants.{On}
 use Rattle.sb_server.specs.declared.telling.Telling.{Telling}
-use Rattle.sb_server.specs.Doings.{IsDoing, IsNext, IsDoingInOrder, went_by}
+use Rattle.sb_server.specs.Doings.{IsDoing, IsNext}
 use Rattle.sb_server.specs.Reads.{stand_of}
 use Rattle.sb_server.specs.Talks.{Here}
-use Rattle.sb_server.proofs.Stepping.{asking_next, due_gone, next_in_order, only_waits}
+use Rattle.sb_server.proofs.Stepping.{asking_next, due_gone, only_waits}
 use Rattle.sb_server.proofs.Turning.{Reaches}
 use Rattle.sb_server.proofs.step.wait_on.Goals as goal
 
@@ -25,12 +24,8 @@ returns-then-watch-clause-steps g c = λ s same a.
 
 pub returns-clause-steps : goal.returns-clause-steps
 returns-clause-steps g c = λ s same a.
+    let sent = c.post_again-sent.result in
     let h : Here = record { pass = c.args.pass; stand = stand_of c.args.inbox.now (g.N.Conn.left c.args.conn.now); written = g.N.Conn.given c.args.conn.now; reads = g.N.Conn.reads c.args.conn.now; writes = g.N.Conn.writes c.args.conn.now } in
-    let n : Here = record { pass = c.ask_again-pass.result.0; stand = stand_of c.watch.new.self (g.N.Conn.left c.watch.new.conn); written = g.N.Conn.given c.watch.new.conn; reads = g.N.Conn.reads c.watch.new.conn; writes = g.N.Conn.writes c.watch.new.conn } in
+    let n : Here = record { pass = sent.posted.pass; stand = stand_of c.watch.new.self (g.N.Conn.left c.watch.new.conn); written = g.N.Conn.given c.watch.new.conn; reads = g.N.Conn.reads c.watch.new.conn; writes = g.N.Conn.writes c.watch.new.conn } in
     let reaches : Reaches h n [] = record { takes = c.watch.ensures.takes; reads = c.watch.ensures.later } in
-    subst (λ (w : Went). IsNext (g.C.Clock.reads c.args.clock.now) s n w c.begin.new.doing) (sym c.begin.ensures.went)
-    (subst (λ (d : Doing). IsNext (g.C.Clock.reads c.args.clock.now) s n (went_by c.ask_again-pass.result.1) d) (sym c.begin.ensures.doing)
-    (asking_next (g.C.Clock.reads c.args.clock.now) s h n c.in-Asks.patience c.ask_again-pass.result.1 (subst (λ (d : Doing). IsDoing (g.C.Clock.reads c.args.clock.now) s h d) (sym c.replace-old.ensures.value ∙ c.in-Asks.is) a) reaches c.ask_again-pass.ensures.begins c.watch.ensures.given (omega (arith, c.watch.ensures.writes))))
-
-pub returns-clause-order : goal.returns-clause-order
-returns-clause-order g c = subst IsDoingInOrder (sym c.begin.ensures.doing) (next_in_order c.ask_again-pass.result.1 c.ask_again-pass.ensures.in_order)
+    asking_next (g.C.Clock.reads c.args.clock.now) s h n c.in-Asks.patience sent.posted sent.pending (subst (λ (d : Doing). IsDoing (g.C.Clock.reads c.args.clock.now) s h d) (sym c.replace-old.ensures.value ∙ c.in-Asks.is) a) reaches c.post_again-sent.ensures.begins c.watch.ensures.given (omega (arith, c.watch.ensures.writes))

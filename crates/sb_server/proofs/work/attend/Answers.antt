@@ -1,42 +1,27 @@
-use Rattle.std.proofs.Common.{subst, sym, refl}
-use Rattle.sb_server.specs.declared.doing.Doing.{Doing}
-use Rattle.sb_server.specs.declared.doing.Went.{Went}
+use Rattle.std.proofs.Common.{subst}
+use Rattle.sb_server.specs.declared.seat.Seat.{Seat}
 use Rattle.sb_server.specs.declared.stage.Guest.{Guest}
-use Rattle.sb_server.specs.Doings.{IsDoing, IsNext}
-use Rattle.sb_server.specs.Reads.{Stand}
+use Rattle.sb_server.specs.Doings.{IsNextAt, IsInOrderAt, sitting_of}
 use Rattle.sb_server.specs.Stages.{here_of}
-use Rattle.sb_server.specs.Talks.{Here}
+use Rattle.sb_server.proofs.Attending.{free_if}
 use Rattle.sb_server.proofs.work.attend.Goals as goal
 
-pub returns-in-On-clause-goes : goal.returns-in-On-clause-goes
-returns-in-On-clause-goes g c = λ s same limits since i.
-    let new : Guest g.row.N.Denot = record { conn = c.step-pass.new.conn; inbox = c.step-pass.new.inbox; doing = c.step-pass.new.doing; since = c.look-went.result.1 } in
-    let n : Here = here_of g.N.Conn.left g.N.Conn.given g.N.Conn.reads g.N.Conn.writes c.step-pass.result.0 new in
-    let next : IsNext (g.C.Clock.reads c.args.clock.now) s n c.look-went.result.0 c.step-pass.new.doing = c.look-went.ensures.next s n limits refl since (c.step-pass.ensures.steps s same i) in
-    let here = subst (λ (w : Went). IsNext (g.C.Clock.reads c.args.clock.now) s n w c.step-pass.new.doing) c.in-On.is next in
-    here
+pub returns-in-Free-clause-goes : goal.returns-in-Free-clause-goes
+returns-in-Free-clause-goes g c = λ s same limits since i.
+    let new : Guest g.row.N.Denot = record { conn = c.step-seat.new.conn; inbox = c.step-seat.new.inbox; doing = c.step-seat.new.doing; since = c.args.guest.now.since } in
+    c.behind_step-over.ensures.goes s c.in-Free.pass limits since
+    (subst (λ (x : Seat). IsNextAt (g.C.Clock.reads c.args.clock.now) s (here_of g.N.Conn.left g.N.Conn.given g.N.Conn.reads g.N.Conn.writes (sitting_of x) new) x c.step-seat.result.1 c.step-seat.new.doing) c.in-Free.is (c.step-seat.ensures.steps s same i))
 
-pub returns-in-NothingYet-clause-goes : goal.returns-in-NothingYet-clause-goes
-returns-in-NothingYet-clause-goes g c = λ s same limits since i.
-    let new : Guest g.row.N.Denot = record { conn = c.step-pass.new.conn; inbox = c.step-pass.new.inbox; doing = c.step-pass.new.doing; since = c.look-went.result.1 } in
-    let n : Here = here_of g.N.Conn.left g.N.Conn.given g.N.Conn.reads g.N.Conn.writes c.step-pass.result.0 new in
-    let next : IsNext (g.C.Clock.reads c.args.clock.now) s n c.look-went.result.0 c.step-pass.new.doing = c.look-went.ensures.next s n limits refl since (c.step-pass.ensures.steps s same i) in
-    let here = subst (λ (w : Went). IsNext (g.C.Clock.reads c.args.clock.now) s n w c.step-pass.new.doing) c.in-NothingYet.is next in
-    let talks : IsDoing (g.C.Clock.reads c.args.clock.now) s n c.step-pass.new.doing = subst (λ (d : Doing). IsDoing (g.C.Clock.reads c.args.clock.now) s n d) (sym here.1) here.0.0 in
-    subst (λ (stand : Stand). IsDoing (g.C.Clock.reads c.args.clock.now) s (record n { stand = stand }) c.step-pass.new.doing) (sym (c.rest-again.ensures (g.N.Conn.left c.step-pass.new.conn))) talks
+pub returns-in-Posts-clause-goes : goal.returns-in-Posts-clause-goes
+returns-in-Posts-clause-goes g c = λ s same limits since i.
+    let new : Guest g.row.N.Denot = record { conn = c.step-seat.new.conn; inbox = c.step-seat.new.inbox; doing = c.step-seat.new.doing; since = c.args.guest.now.since } in
+    subst (λ (x : Seat). IsNextAt (g.C.Clock.reads c.args.clock.now) s (here_of g.N.Conn.left g.N.Conn.given g.N.Conn.reads g.N.Conn.writes (sitting_of x) new) x c.step-seat.result.1 c.step-seat.new.doing) c.in-Posts.is (c.step-seat.ensures.steps s same i)
 
-pub returns-in-Blocked-clause-goes : goal.returns-in-Blocked-clause-goes
-returns-in-Blocked-clause-goes g c = λ s same limits since i.
-    let new : Guest g.row.N.Denot = record { conn = c.step-pass.new.conn; inbox = c.step-pass.new.inbox; doing = c.step-pass.new.doing; since = c.look-went.result.1 } in
-    let n : Here = here_of g.N.Conn.left g.N.Conn.given g.N.Conn.reads g.N.Conn.writes c.step-pass.result.0 new in
-    let next : IsNext (g.C.Clock.reads c.args.clock.now) s n c.look-went.result.0 c.step-pass.new.doing = c.look-went.ensures.next s n limits refl since (c.step-pass.ensures.steps s same i) in
-    let here = subst (λ (w : Went). IsNext (g.C.Clock.reads c.args.clock.now) s n w c.step-pass.new.doing) c.in-Blocked.is next in
-    subst (λ (stand : Stand). IsDoing (g.C.Clock.reads c.args.clock.now) s (record n { stand = stand }) c.step-pass.new.doing) (sym (c.rest_blocked.ensures (g.N.Conn.left c.step-pass.new.conn))) here
+pub behind_step-over-requires : goal.behind_step-over-requires
+behind_step-over-requires g c = record { order = subst (λ (x : Seat). IsInOrderAt x c.step-seat.new.doing) c.in-Free.is c.step-seat.ensures.order }
 
-pub returns-in-Over-clause-goes : goal.returns-in-Over-clause-goes
-returns-in-Over-clause-goes g c = λ s same limits since i.
-    let new : Guest g.row.N.Denot = record { conn = c.step-pass.new.conn; inbox = c.step-pass.new.inbox; doing = c.step-pass.new.doing; since = c.look-went.result.1 } in
-    let n : Here = here_of g.N.Conn.left g.N.Conn.given g.N.Conn.reads g.N.Conn.writes c.step-pass.result.0 new in
-    let next : IsNext (g.C.Clock.reads c.args.clock.now) s n c.look-went.result.0 c.step-pass.new.doing = c.look-went.ensures.next s n limits refl since (c.step-pass.ensures.steps s same i) in
-    let here = subst (λ (w : Went). IsNext (g.C.Clock.reads c.args.clock.now) s n w c.step-pass.new.doing) c.in-Over.is next in
-    here
+pub returns-in-Posts-clause-order : goal.returns-in-Posts-clause-order
+returns-in-Posts-clause-order g c = subst (λ (x : Seat). IsInOrderAt x c.step-seat.new.doing) c.in-Posts.is c.step-seat.ensures.order
+
+pub returns-in-Free-clause-free : goal.returns-in-Free-clause-free
+returns-in-Free-clause-free g c = free_if c.behind_step-over.result.0 c.in-Free.pass

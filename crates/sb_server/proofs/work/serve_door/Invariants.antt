@@ -1,10 +1,11 @@
 use Rattle.sb_desk.specs.Desks.{IsOf}
+use Rattle.sb_server.specs.Doings.{sitting_of}
 use Rattle.sb_server.specs.Stages.{IsAt, IsSound}
 use Rattle.sb_server.proofs.work.serve_door.Given as goal
 
 abbrev pub invariant-loop : goal.invariant-loop
 invariant-loop g l = record {
-  desk : IsOf l.desk l.current;
-  sound : IsSound l.stage (g.D.Door.out l.door);
+  desk : IsOf l.desk (sitting_of l.current);
+  sound : IsSound l.current l.stage (g.D.Door.out l.door);
   at : IsAt (g.C.Clock.reads l.clock) l.access l.limits g.D.Conn.Conn.left g.D.Conn.Conn.given g.D.Conn.Conn.reads g.D.Conn.Conn.writes g.D.Door.left g.D.Door.taken g.D.Door.ended g.D.Door.count g.D.Door.out l.fn.most l.fn.pass l.fn.door l.current l.door l.stage;
 }

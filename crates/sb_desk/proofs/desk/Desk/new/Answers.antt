@@ -1,4 +1,4 @@
-use Rattle.std.proofs.Common.{rules, ◌≡◌, List, []}
+use Rattle.std.proofs.Common.{rules, List, []}
 use Rattle.std.specs.Prelude.{◌∷◌}
 use Rattle.sb_desk.specs.Lists.{Each}
 use Rattle.sb_desk.proofs.desk.Desk.new.Goals as goal

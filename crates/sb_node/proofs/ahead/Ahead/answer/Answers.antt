@@ -1,4 +1,4 @@
-use Rattle.std.proofs.Common.{◌≡◌, List, ◌++◌, Some, Result, Ok, Err, true, false, sym, ap, ◌∙◌, subst, refl}
+use Rattle.std.proofs.Common.{◌≡◌, List, ◌++◌, length, Some, Result, Ok, Err, true, false, sym, ap, ◌∙◌, subst, refl}
 use Rattle.std.proofs.Math.Logic.{∥∥₁_map}
 use Rattle.sb_engine.specs.Engines.{engine_state, carried_out}
 use Rattle.sb_machine.specs.Answers.{state_of, is_change}
@@ -13,6 +13,7 @@ use Rattle.sb_machine.specs.declared.reply.Refusal.TheVariants.{DiskFault, Stopp
 use Rattle.sb_machine.specs.declared.state.State.{State}
 use Rattle.sb_laws.proofs.StaysWhole.{stays_consistent}
 use Rattle.sb_node.specs.Ahead.{ahead_journal, StagesEvents}
+use Rattle.sb_node.specs.Serving.{raised}
 use Rattle.sb_node.specs.Steps.{call_events}
 use Rattle.sb_node.proofs.Histories.{call_changed, call_fault, call_still}
 use Rattle.sb_node.proofs.Keeping.{error_of}
@@ -158,3 +159,38 @@ returns-clause-still g c other none =
     let s = engine_state c.args.self.now.engine in
     let changing : is_change (client_of c.args.call.now) (outcome_of s c.args.t c.args.call.now) ≡ true = c.in_ok-plan.ensures.ok.0.change ∙ sym c.if-not-is_changing.ensures in
     absurd (let one = sym (call_changed c.args.t c.args.call.now s c.commit-answered.result changing) ∙ none in cc)
+
+-- ---- how many are staged
+
+pub returns-in_err-plan-clause-count : goal.returns-in_err-plan-clause-count
+returns-in_err-plan-clause-count g c other =
+    ap (λ (l : List Event). raised c.args.self.now.staged (length l)) (sym (refused_events c.args.t c.args.call.now (engine_state c.args.self.now.engine) c.in_err-plan.field-0.0 c.from_residual.result (error_of _ _ c.from_residual.ensures) c.in_err-plan.ensures.err))
+
+pub returns-then-not-is_changing-clause-count : goal.returns-then-not-is_changing-clause-count
+returns-then-not-is_changing-clause-count g c other =
+    let s = engine_state c.args.self.now.engine in
+    let still : is_change (client_of c.args.call.now) (outcome_of s c.args.t c.args.call.now) ≡ false = c.in_ok-plan.ensures.ok.0.change ∙ sym c.if-not-is_changing.ensures in
+    ap (λ (l : List Event). raised c.args.self.now.staged (length l)) (sym (call_still c.args.t c.args.call.now s (Ok c.into_answered.result) still))
+
+pub returns-in-Err-clause-count : goal.returns-in-Err-clause-count
+returns-in-Err-clause-count g c other =
+    let a = c.args.self.now in
+    let want = unstaged_want (ahead_journal a) (ahead_journal c.stage.new.self) c.in-Err.refusal c.in-Err.ensures.refused.0 (λ same. other (ap Err same)) in
+    let fault : is_fault (Err c.in-Err.refusal) ≡ true = ap (λ e. is_fault (Err e)) want.0 in
+    c.in-Err.ensures.refused.1 ∙ ap (λ (l : List Event). raised a.staged (length l)) (sym (call_fault c.args.t c.args.call.now (engine_state a.engine) (Err c.in-Err.refusal) fault))
+
+pub returns-clause-count : goal.returns-clause-count
+returns-clause-count g c other =
+    let a = c.args.self.now in
+    let s = engine_state a.engine in
+    let changing : is_change (client_of c.args.call.now) (outcome_of s c.args.t c.args.call.now) ≡ true = c.in_ok-plan.ensures.ok.0.change ∙ sym c.if-not-is_changing.ensures in
+    c.in-Ok.ensures.count ∙ ap (λ (l : List Event). raised a.staged (length l)) (sym (call_changed c.args.t c.args.call.now s c.commit-answered.result changing))
+
+-- ---- a disk that failed failed for a call that changes something
+
+pub returns-in_err-plan-clause-busy : goal.returns-in_err-plan-clause-busy
+returns-in_err-plan-clause-busy g c same =
+    absurd (refused_not c.args.t c.args.call.now (engine_state c.args.self.now.engine) c.in_err-plan.field-0.0 DiskFault c.from_residual.result (error_of _ _ c.from_residual.ensures) c.in_err-plan.ensures.err refl (λ other. absurd cc) same)
+
+pub returns-in-Err-clause-busy : goal.returns-in-Err-clause-busy
+returns-in-Err-clause-busy g c same = c.in_ok-plan.ensures.ok.0.change ∙ sym c.if-not-is_changing.ensures

@@ -1,11 +1,12 @@
-use Rattle.std.proofs.Common.{ℕ, [], ◌∷◌, false, refl, sym, subst}
+use Rattle.std.proofs.Common.{ℕ, [], ◌∷◌, false, length, refl, sym, ◌∙◌, ap, subst}
 use Rattle.sb_machine.specs.Accounts.{changing}
 use Rattle.sb_node.specs.Ahead.{ahead_disks, ahead_journal, ahead_state, StagesEvents}
 use Rattle.sb_node.specs.Nodes.{LeadsToOneOf}
-use Rattle.sb_node.specs.Posts.{group_entries}
+use Rattle.sb_desk.specs.Posts.{group_entries}
+use Rattle.sb_node.specs.Serving.{raised}
 use Rattle.sb_node.specs.Steps.{log_of}
 use Rattle.std.specs.Prelude.{None}
-use Rattle.sb_node.proofs.Grouped.{fails_early, fails_late, found_stay, in_err, in_ok, sealed_kept}
+use Rattle.sb_node.proofs.Grouped.{counts_as, fails_early, fails_late, found_stay, in_err, in_ok, sealed_kept}
 use Rattle.sb_node.proofs.Staged.{none_ahead, pairs_behind}
 use Rattle.sb_node.proofs.Together.{sealed_follows}
 use Rattle.sb_node.proofs.ahead.Ahead.carry_out.Goals as goal
@@ -52,3 +53,8 @@ returns-clause-fails g c none kept =
     (found_stay kept.file s (ahead_state mid) (ahead_disks a) (ahead_disks mid) kept.leads (c.run.ensures.any_moment kept.file [] start))
     (c.seal.ensures.any_moment kept.file events s (c.in-Ok.ensures.ahead kept.file [] start) kept.leads) in
     in_err c.seal.result (fails_late c.run.new.posts s (ahead_state mid) (ahead_disks a) (ahead_disks b) c.in-Ok.ensures.run c.in-Ok.ensures.fails stay)
+
+pub returns-clause-count : goal.returns-clause-count
+returns-clause-count g c none =
+    let events = changing (log_of (ahead_state c.args.self.now) None) (group_entries c.run.new.posts) in
+    counts_as c.seal.result c.run.new.self.staged (raised 0 (length events)) (c.in-Ok.ensures.count ∙ ap (λ (n : ℕ). raised n (length events)) none) c.seal.ensures.count

@@ -1,4 +1,7 @@
-use Rattle.std.proofs.Common.{◌≡◌, ◌<◌, ◌++◌, [], List, length, take, false, None, refl, sym, ap, ◌∙◌, subst, append_assoc, arith}
+use Rattle.std.proofs.Common.{◌≡◌, ◌<◌, ◌++◌, [], List, length, take, true, false, None, refl, sym, ap, ◌∙◌, subst, ℕ, append_assoc, length-append, arith}
+use Rattle.std.specs.List.{All}
+use Rattle.std.specs.Prelude.{is_some}
+use Rattle.std.proofs.lemmas.List.Elements.{All-nil}
 use Rattle.sb_journal.specs.Journals.{journal_disks}
 use Rattle.sb_journal.specs.Opened.{FindsFile}
 use Rattle.sb_machine.specs.Accounts.{changing}
@@ -6,12 +9,16 @@ use Rattle.sb_machine.specs.Ordered.{IsActInOrder}
 use Rattle.sb_machine.specs.declared.call.Call.{Call}
 use Rattle.sb_machine.specs.declared.call.Event.{Event}
 use Rattle.sb_machine.specs.declared.history.Entry.{Entry}
-use Rattle.sb_node.specs.declared.ahead.Post.{Post}
+use Rattle.sb_desk.specs.Posts.{asked_of, group_entries, post_entries, Asked}
+use Rattle.sb_desk.specs.Spared.{SparesFrom}
+use Rattle.sb_desk.specs.declared.post.Post.{Post}
 use Rattle.sb_node.specs.Ahead.{ahead_journal, ahead_state, IsAhead}
 use Rattle.sb_node.specs.Groups.{failed, has_fault, HaveRun}
-use Rattle.sb_node.specs.Posts.{asked_of, fault_entries, group_entries, post_entries, Asked}
-use Rattle.sb_node.specs.Steps.{log_of}
-use Rattle.sb_node.proofs.Posts.{all_set, all_taken, map_set, more_entries, more_faults, within}
+use Rattle.sb_node.specs.Posts.{fault_entries}
+use Rattle.sb_node.specs.Serving.{raised}
+use Rattle.sb_node.specs.Steps.{is_spared, log_of}
+use Rattle.sb_node.proofs.Counts.{raised_on}
+use Rattle.sb_node.proofs.Posts.{all_set, all_taken, all_taken_on, map_set, more_entries, more_faults, within}
 use Rattle.sb_node.proofs.Staged.{none_staged, pairs_behind, staged_still}
 use Rattle.sb_node.proofs.Together.{events_on, fault_on, none_runs}
 use Rattle.sb_node.proofs.Whole.{fell_on, honest_on, quiet_on}
@@ -23,6 +30,9 @@ loop-post-init g c =
     record {
       run = none_runs (ahead_state a);
       ahead = λ file events ahead. none_staged (ahead_journal a) (ahead_journal a) a.last a.last a.staged a.staged file events [] (ahead_state a) (ahead_state a) ahead refl refl refl refl refl;
+      count = refl;
+      free = tt;
+      went = All-nil (λ (p : Post). is_some p.went ≡ true);
       no_fault = refl;
       fails = refl;
       moments = λ file events ahead. staged_still (ahead_journal a) a.last a.staged file events (ahead_state a) ahead;
@@ -58,6 +68,15 @@ loop-post-preserved g c =
           ∙ ap (λ (l : List Event). events ++ l) (sym (events_on (ahead_state a) (ahead_state mid) made (post_entries post) is.run.step.leads))
           ∙ ap (λ (es : List Entry). events ++ changing (log_of (ahead_state a) None) es) (sym more))
           (c.in-Ok.ensures.ahead file (events ++ before) (is.ahead file events ahead));
+      count =
+          c.in-Ok.ensures.count
+          ∙ ap (λ (n : ℕ). raised n (length own)) is.count
+          ∙ raised_on a.staged (length before) (length own)
+          ∙ ap (raised a.staged) (sym (length-append before own))
+          ∙ ap (λ (l : List Event). raised a.staged (length l)) (sym (events_on (ahead_state a) (ahead_state mid) made (post_entries post) is.run.step.leads))
+          ∙ ap (λ (es : List Entry). raised a.staged (length (changing (log_of (ahead_state a) None) es))) (sym more);
+      free = subst (λ (es : List Entry). SparesFrom is_spared (log_of (ahead_state a) None) es) (sym more) (c.in-Ok.ensures.free (ahead_state a) made is.run is.free);
+      went = all_taken_on (λ p. is_some p.went ≡ true) posts i post lt is.went c.in-Ok.ensures.went;
       no_fault = ap has_fault more ∙ fault_on made (post_entries post) is.no_fault c.in-Ok.ensures.no_fault;
       fails = ap failed more ∙ more_faults posts i post lt is.fails c.in-Ok.ensures.fails;
       moments = λ file events ahead.
@@ -105,3 +124,19 @@ pub returns-clause-fails : goal.returns-clause-fails
 returns-clause-fails g c =
     let is = c.loop-post.invariant in
     subst (λ (posts : List Post). failed (group_entries posts) ≡ fault_entries posts) (all_taken c.loop-post.posts c.args.posts.now c.loop-post.post-index is.asked c.loop-post-test.false) is.fails
+
+pub returns-clause-count : goal.returns-clause-count
+returns-clause-count g c =
+    let is = c.loop-post.invariant in
+    let a = c.args.self.now in
+    subst (λ (posts : List Post). c.loop-post.self.staged ≡ raised a.staged (length (changing (log_of (ahead_state a) None) (group_entries posts)))) (all_taken c.loop-post.posts c.args.posts.now c.loop-post.post-index is.asked c.loop-post-test.false) is.count
+
+pub returns-clause-free : goal.returns-clause-free
+returns-clause-free g c =
+    let is = c.loop-post.invariant in
+    subst (λ (posts : List Post). SparesFrom is_spared (log_of (ahead_state c.args.self.now) None) (group_entries posts)) (all_taken c.loop-post.posts c.args.posts.now c.loop-post.post-index is.asked c.loop-post-test.false) is.free
+
+pub returns-clause-went : goal.returns-clause-went
+returns-clause-went g c =
+    let is = c.loop-post.invariant in
+    subst (λ (posts : List Post). All (λ p. is_some p.went ≡ true) posts) (all_taken c.loop-post.posts c.args.posts.now c.loop-post.post-index is.asked c.loop-post-test.false) is.went

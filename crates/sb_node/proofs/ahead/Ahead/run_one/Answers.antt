@@ -1,4 +1,11 @@
+use Rattle.std.proofs.Common.{None, subst}
+use Rattle.sb_desk.specs.Spared.{SparesFrom}
+use Rattle.sb_desk.proofs.Sparing.{spares_on}
 use Rattle.sb_engine.specs.Engines.{engine_state}
+use Rattle.sb_machine.specs.History.{Log, after_entries}
+use Rattle.sb_node.specs.Steps.{entries_with, is_spared, log_of}
+use Rattle.sb_node.proofs.Settled.{spares_settled}
+use Rattle.sb_node.proofs.Sparing.{step_spares}
 use Rattle.sb_node.proofs.Together.{failed_one, fault_one, runs_on}
 use Rattle.sb_node.proofs.ahead.Ahead.run_one.Goals as goal
 
@@ -14,3 +21,16 @@ returns-clause-no_fault g c = fault_one c.in-Ok.went.tick c.args.post.now.seat c
 
 pub returns-clause-fails : goal.returns-clause-fails
 returns-clause-fails g c = failed_one c.in-Ok.went.tick c.args.post.now.seat c.args.post.now.reading c.args.post.now.call c.in-Ok.went.answer
+
+pub returns-clause-count : goal.returns-clause-count
+returns-clause-count g c = c.in-Ok.ensures.count c.args.post.now.seat
+
+pub returns-clause-free : goal.returns-clause-free
+returns-clause-free g c start made run so_far =
+    let mid = engine_state c.args.self.now.engine in
+    let post = c.args.post.now in
+    let went = c.in-Ok.went in
+    let es = entries_with went.tick post.seat post.reading post.call went.answer in
+    spares_on is_spared (log_of start None) made es so_far
+    (spares_settled is_spared (after_entries (log_of start None) made) es
+    (subst (λ (l : Log). SparesFrom is_spared l es) run.step.leads (step_spares went.tick (log_of mid None) post.seat post.reading post.call went.answer c.in-Ok.ensures.ticked (c.in-Ok.ensures.step post.seat).legal c.in-Ok.ensures.free)))

@@ -1,18 +1,23 @@
-use Rattle.std.proofs.Common.{◌≡◌, ◌≤◌, List, ◌++◌, None, Err, refl, sym, ap, ◌∙◌, subst, ℕ, max, min, arith, append_assoc}
+use Rattle.std.proofs.Common.{◌≡◌, false, ◌≤◌, List, ◌++◌, length, Option, Some, None, Err, refl, sym, ap, ◌∙◌, subst, ℕ, max, min, arith, append_assoc, length-append}
+use Rattle.std.specs.Prelude.{IfSome}
 use Rattle.sb_journal.specs.Opened.{FindsFile}
 use Rattle.sb_journal.specs.Journals.{journal_disks}
 use Rattle.sb_journal.proofs.Holding.{fault_behind}
 use Rattle.sb_engine.specs.Engines.{engine_state}
 use Rattle.sb_machine.specs.Answers.{moment_of, max_moment}
+use Rattle.sb_machine.specs.Consistent.{IsConsistent}
 use Rattle.sb_machine.specs.declared.call.Event.{Event}
+use Rattle.sb_machine.specs.declared.state.State.{State}
 use Rattle.sb_node.specs.Ahead.{ahead_journal, made_events, StagesEvents}
-use Rattle.sb_node.specs.Steps.{tick_events, call_events}
+use Rattle.sb_node.specs.Serving.{raised}
+use Rattle.sb_node.specs.Steps.{is_still, tick_events, call_events, IsTicked}
+use Rattle.sb_node.proofs.Counts.{raised_on}
 use Rattle.sb_node.proofs.Histories.{no_changing, step_changing}
 use Rattle.sb_node.proofs.Made.{none_made, nothing_made, step_made}
 use Rattle.sb_node.proofs.Merely.{merely_now, merely_calm}
 use Rattle.sb_node.proofs.Sparing.{spared_on, spared_tick}
 use Rattle.sb_node.proofs.Staged.{other_answer, other_refusal, pairs_behind, that_answer, that_refusal, unmoved_behind, unmoved_staged}
-use Rattle.sb_node.proofs.Stepping.{calm_then, stepped, tick_failed}
+use Rattle.sb_node.proofs.Stepping.{call_busy, calm_then, stepped, tick_busy, tick_failed}
 use Rattle.sb_node.proofs.Whole.{fell_on, honest_on, quiet_on, same_quiet, step_consistent}
 use Rattle.sb_node.proofs.ahead.Ahead.step.Goals as goal
 
@@ -67,6 +72,9 @@ returns-in-Err-clause-made g c seat =
     let fact = c.in-Err.ensures.err (other_refusal c.in-Err.refusal (sym c.if-is_disk_refusal.ensures)) in
     none_made s (engine_state c.tick.new.self.engine) c.args.reading c.args.call.now (made_events s None seat c.args.reading c.args.call.now (Err c.in-Err.refusal))
     (no_changing seat c.args.reading c.max-t.result s None None c.args.call.now c.in-Err.refusal at fact.0) fact.1.state
+
+pub returns-in-Err-clause-consistent : goal.returns-in-Err-clause-consistent
+returns-in-Err-clause-consistent g c consistent = subst IsConsistent (sym (c.in-Err.ensures.err (other_refusal c.in-Err.refusal (sym c.if-is_disk_refusal.ensures))).1.state) consistent
 
 pub returns-in-Err-clause-still : goal.returns-in-Err-clause-still
 returns-in-Err-clause-still g c seat none = (c.in-Err.ensures.err (other_refusal c.in-Err.refusal (sym c.if-is_disk_refusal.ensures))).1
@@ -203,3 +211,57 @@ returns-in-Err-clause-no_fault g c = sym c.if-is_disk_refusal.ensures
 
 pub returns-clause-no_fault : goal.returns-clause-no_fault
 returns-clause-no_fault g c = sym c.if-is_disk_fault.ensures
+
+-- ---- the moment of a tick is that of its call
+
+ticked_at : (tick : Option ℕ) (t m : ℕ) (s0 s1 : State) → IsTicked tick t s0 s1 → t ≡ m → IfSome tick (λ n. n ≡ m)
+ticked_at None t m s0 s1 went at = tt
+ticked_at (Some n) t m s0 s1 went at = went.0 ∙ at
+
+pub returns-clause-ticked : goal.returns-clause-ticked
+returns-clause-ticked g c =
+    let s = engine_state c.args.self.now.engine in
+    let at = at_moment s.now c.args.reading c.min.result c.max-t.result c.max-t.ensures c.moment.ensures c.min.ensures in
+    ticked_at c.in-Ok.tick c.max-t.result (moment_of s c.args.reading) s (engine_state c.tick.new.self.engine) c.in-Ok.ensures.ok at
+
+-- ---- how many are staged
+
+pub returns-in-Err-clause-count : goal.returns-in-Err-clause-count
+returns-in-Err-clause-count g c seat =
+    let a = c.args.self.now in
+    let s = engine_state a.engine in
+    let at = at_moment s.now c.args.reading c.min.result c.max-t.result c.max-t.ensures c.moment.ensures c.min.ensures in
+    let fact = c.in-Err.ensures.err (other_refusal c.in-Err.refusal (sym c.if-is_disk_refusal.ensures)) in
+    fact.1.staged ∙ ap (λ (l : List Event). raised a.staged (length l)) (sym (no_changing seat c.args.reading c.max-t.result s None None c.args.call.now c.in-Err.refusal at fact.0))
+
+pub returns-clause-count : goal.returns-clause-count
+returns-clause-count g c seat =
+    let a = c.args.self.now in
+    let s = engine_state a.engine in
+    let s1 = engine_state c.tick.new.self.engine in
+    let t = c.max-t.result in
+    let tick = c.in-Ok.tick in
+    let answer = c.answer-answer.result in
+    let own = call_events t c.args.call.now s1 answer in
+    let at = at_moment s.now c.args.reading c.min.result t c.max-t.ensures c.moment.ensures c.min.ensures in
+    let calm = calm_then tick t s s1 c.in-Ok.ensures.ok (merely_calm s t c.args.self.now.consistent) in
+    c.answer-answer.ensures.count (other_answer answer (sym c.if-is_disk_fault.ensures))
+    ∙ ap (λ (n : ℕ). raised n (length own)) c.in-Ok.ensures.count
+    ∙ raised_on a.staged (length (tick_events tick)) (length own)
+    ∙ ap (raised a.staged) (sym (length-append (tick_events tick) own))
+    ∙ ap (λ (l : List Event). raised a.staged (length l)) (sym (step_changing tick seat c.args.reading t s s1 None c.args.call.now answer at c.in-Ok.ensures.ok calm))
+
+-- ---- a disk that failed failed for something that changes
+
+pub returns-then-is_disk_refusal-clause-busy : goal.returns-then-is_disk_refusal-clause-busy
+returns-then-is_disk_refusal-clause-busy g c =
+    let s = engine_state c.args.self.now.engine in
+    let at = at_moment s.now c.args.reading c.min.result c.max-t.result c.max-t.ensures c.moment.ensures c.min.ensures in
+    subst (λ (m : ℕ). is_still m c.args.call.now s ≡ false) at (tick_busy c.max-t.result c.args.call.now s c.in-Err.ensures.due (c.in-Err.ensures.busy (that_refusal c.in-Err.refusal (sym c.if-is_disk_refusal.ensures))))
+
+pub returns-then-is_disk_fault-clause-busy : goal.returns-then-is_disk_fault-clause-busy
+returns-then-is_disk_fault-clause-busy g c =
+    let s = engine_state c.args.self.now.engine in
+    let at = at_moment s.now c.args.reading c.min.result c.max-t.result c.max-t.ensures c.moment.ensures c.min.ensures in
+    subst (λ (m : ℕ). is_still m c.args.call.now s ≡ false) at
+    (call_busy c.in-Ok.tick c.max-t.result c.args.call.now s (engine_state c.tick.new.self.engine) c.in-Ok.ensures.ok (c.answer-answer.ensures.busy (that_answer c.answer-answer.result (sym c.if-is_disk_fault.ensures))))

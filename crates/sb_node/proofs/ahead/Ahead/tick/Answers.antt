@@ -90,3 +90,11 @@ returns-clause-ahead g c file events ahead =
 
 pub commit-answered-requires : goal.commit-answered-requires
 commit-answered-requires g c = record { room = c.in-Ok.ensures.room c.args.t c.in_ok-plan.ensures.ok.2 }
+
+-- ---- a disk that failed failed for a tick that could be made
+
+pub returns-in_err-plan-clause-busy : goal.returns-in_err-plan-clause-busy
+returns-in_err-plan-clause-busy g c = unplanned_not c.in_err-plan.field-0.0 c.from_residual.result _ _ (error_of _ _ c.from_residual.ensures) c.in_err-plan.ensures.err
+
+pub returns-in-Err-clause-busy : goal.returns-in-Err-clause-busy
+returns-in-Err-clause-busy g c same = c.in_ok-plan.ensures.ok.1

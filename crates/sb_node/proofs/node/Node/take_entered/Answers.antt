@@ -1,5 +1,5 @@
-use Rattle.sb_node.proofs.Alike.{alike}
+use Rattle.sb_node.proofs.Alike.{alike_stands}
 use Rattle.sb_node.proofs.node.Node.take_entered.Goals as goal
 
-pub returns : goal.returns
-returns g c = record { same = alike c.args.self.now c.take_entered.new.self _ _ c.take_entered.ensures.same }
+pub returns-clause-stands : goal.returns-clause-stands
+returns-clause-stands g c start h is = alike_stands c.args.self.now c.take_entered.new.self _ _ _ _ start h c.take_entered.ensures.same is

@@ -1,0 +1,13 @@
+use Rattle.std.proofs.Common.{ℕ, ◌<◌, length}
+use Rattle.std.specs.Prelude.{All, slice_index_or}
+use Rattle.sb_server.specs.declared.job.Job.{Job}
+use Rattle.sb_server.specs.Serves.{IsAtWork, HasCome}
+use Rattle.sb_server.proofs.doors.go_called.Given as goal
+
+abbrev pub invariant-loop-k : goal.invariant-loop-k
+invariant-loop-k g l = record {
+  work : All (λ j. IsAtWork g.D.Door.out l.desk j) l.jobs;
+  come : (most : ℕ) (began : Job g.row.D.Denot g.row.D-Conn.Denot) (i : ℕ) (d : Job g.row.D.Denot g.row.D-Conn.Denot) → i < length l.fn.jobs
+      → HasCome (g.C.Clock.reads l.clock) l.access l.limits g.D.Conn.Conn.left g.D.Conn.Conn.given g.D.Conn.Conn.reads g.D.Conn.Conn.writes g.D.Door.left g.D.Door.taken g.D.Door.ended g.D.Door.count g.D.Door.out most began (slice_index_or l.fn.jobs i d)
+      → HasCome (g.C.Clock.reads l.clock) l.access l.limits g.D.Conn.Conn.left g.D.Conn.Conn.given g.D.Conn.Conn.reads g.D.Conn.Conn.writes g.D.Door.left g.D.Door.taken g.D.Door.ended g.D.Door.count g.D.Door.out most began (slice_index_or l.jobs i d);
+}
