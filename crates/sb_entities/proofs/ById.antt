@@ -2,13 +2,13 @@
 use Rattle.std.proofs.Common.{◌≡◌, ℕ, ◌≤◌, Bool, true, false, List, [], ◌∷◌, length, map, take, filter, Option, Bor, refl}
 use Rattle.std.specs.List.{insert, prefix_len}
 use Rattle.std.specs.List.Sorted.{IsPartitionedBy, IsPartitionPoint}
-use Rattle.sb_machine.specs.Each.{Each, Pairs}
+use Rattle.sb_machine.specs.Each.{Each}
 use Rattle.sb_machine.specs.Looks.{is_behind}
 use Rattle.sb_machine.specs.Names.{is_before}
 use Rattle.sb_machine.specs.declared.state.Session.{Session}
 use Rattle.sb_sessions.specs.Sessions.{AreSorted}
 use Rattle.sb_entities.specs.SessionList.{AreById, first_remembered, with_id}
-use Rattle.sb_entities.proofs.ByName.{down, each_implied, not_behind}
+use Rattle.sb_entities.proofs.ByName.{down, not_behind}
 use Rattle.sb_entities.proofs.Cutting.{pairs_cut}
 use Rattle.sb_entities.proofs.Lists.{each_filter}
 use Rattle.sb_entities.proofs.Ordered as ordered

@@ -4,8 +4,7 @@ use Rattle.std.specs.List.{fold, insert, prefix_len}
 use Rattle.std.specs.Prelude.{◌&&◌, if◌then◌else◌, is_none, bytes_eq}
 use Rattle.std.proofs.lemmas.List.{take-map}
 use Rattle.std.proofs.lemmas.Slice.Eq.{bytes_eq-Decides}
-use Rattle.sb_machine.specs.Each.{Each, Pairs}
-use Rattle.sb_machine.specs.Keyed.{with_sorted}
+use Rattle.sb_machine.specs.Each.{Each}
 use Rattle.sb_machine.specs.Leaves.{has_id, session_in}
 use Rattle.sb_machine.specs.Looks.{is_behind, is_first_of, is_only_sign, is_ready_of, only_signs, session_of, session_shown, sessions_of, sessions_shown, with_session}
 use Rattle.sb_machine.specs.Messages.{text_of}
@@ -16,7 +15,7 @@ use Rattle.sb_machine.specs.declared.state.Session.{Session}
 use Rattle.sb_machine.specs.declared.state.StoredCopy.{StoredCopy}
 use Rattle.sb_model.specs.declared.message.SystemName.TheVariants.{SessionId}
 use Rattle.sb_sessions.specs.Sessions.{AreSorted}
-use Rattle.sb_entities.specs.SessionList.{behind_with, bytes_of, first_ids, first_remembered, is_remembered, shown_of, sign_with, until_of, with_id}
+use Rattle.sb_entities.specs.SessionList.{behind_with, bytes_of, first_ids, shown_of, sign_with, until_of, with_id}
 use Rattle.sb_entities.proofs.ByName.{down, each_implied, each_inserted, not_behind}
 use Rattle.sb_entities.proofs.Cutting.{cut_with, each_cut}
 use Rattle.sb_entities.proofs.Lists.{each_filter}

@@ -1,5 +1,5 @@
 -- The ids of a part's sessions, in order, and what is shown of the session of one.
-use Rattle.std.specs.Prelude.{◌≡◌, ℕ, Bool, false, List, [], filter, length, map, take, is_some, if◌then◌else◌, Option, Some, None}
+use Rattle.std.specs.Prelude.{◌≡◌, ℕ, Bool, false, List, filter, length, map, take, is_some, if◌then◌else◌, Option, Some, None}
 use Rattle.std.specs.List.{fold}
 use Rattle.std.specs.Option.{option_map}
 use Rattle.sb_machine.specs.Each.{Pairs}

@@ -91,12 +91,28 @@ impl EntityStore {
             dead,
             transfer,
         } = entity;
+        let Ok(ids) = Window::from_rows(alloc, ids) else {
+            drop((about, main, dead, transfer));
+            return Err(AllocError);
+        };
+        let Ok(main) = PartStore::from_leaf(alloc, true, main) else {
+            drop((about, ids, dead, transfer));
+            return Err(AllocError);
+        };
+        let Ok(dead) = PartStore::from_leaf(alloc, false, dead) else {
+            drop((about, ids, main, transfer));
+            return Err(AllocError);
+        };
+        let Ok(transfer) = PartStore::from_leaf(alloc, false, transfer) else {
+            drop((about, ids, main, dead));
+            return Err(AllocError);
+        };
         Ok(EntityStore {
             listing: Listing::new(alloc, about),
-            ids: Window::from_rows(alloc, ids)?,
-            main: PartStore::from_leaf(alloc, true, main)?,
-            dead: PartStore::from_leaf(alloc, false, dead)?,
-            transfer: PartStore::from_leaf(alloc, false, transfer)?,
+            ids,
+            main,
+            dead,
+            transfer,
         })
     }
 

@@ -77,7 +77,10 @@ fn add(alloc: Global, made: &mut Entities, entity: Entity) -> Result<(), AllocEr
     ensures last { OnOk result (made.new.last ≡ number_of entity) }
 {
     let entity = EntityStore::from_entity(alloc, entity)?;
-    made.reserve()?;
+    let Ok(()) = made.reserve() else {
+        drop(entity);
+        return Err(AllocError);
+    };
     put(made, entity);
     Ok(())
 }

@@ -1,4 +1,4 @@
-use Rattle.std.proofs.Common.{ℕ, List, map, take, ap, sym, subst, ◌∙◌, Bor}
+use Rattle.std.proofs.Common.{ℕ, List, take, ap, sym, subst, ◌∙◌, Bor}
 use Rattle.std.proofs.lemmas.List.{take-map}
 use Rattle.sb_entities.specs.SessionList.{AreById}
 use Rattle.sb_entities.proofs.ById.{remembered_by_id, seen}

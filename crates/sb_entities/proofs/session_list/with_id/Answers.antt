@@ -1,4 +1,4 @@
-use Rattle.std.proofs.Common.{ℕ, List, map, ap, sym, subst, ◌∙◌, Bor}
+use Rattle.std.proofs.Common.{ℕ, List, ap, sym, subst, ◌∙◌, Bor}
 use Rattle.std.specs.List.{prefix_len}
 use Rattle.sb_entities.specs.SessionList.{AreById}
 use Rattle.sb_entities.proofs.ById.{is_first, kept_order, placed, seen}

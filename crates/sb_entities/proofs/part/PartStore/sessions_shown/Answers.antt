@@ -1,7 +1,6 @@
 use Rattle.std.proofs.Common.{◌≡◌, List, map, IfOk, ap, sym, subst, ◌∙◌}
 use Rattle.sb_machine.specs.Looks.{sessions_shown}
 use Rattle.sb_machine.specs.declared.look.SessionShown.{SessionShown}
-use Rattle.sb_machine.specs.declared.state.Session.{Session}
 use Rattle.sb_sessions.specs.Sessions.{AreSorted}
 use Rattle.sb_entities.specs.SessionList.{first_ids, shown_of}
 use Rattle.sb_entities.specs.Stores.{leaf_in}
