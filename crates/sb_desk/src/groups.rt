@@ -62,7 +62,7 @@ fn add_post(posts: &mut Vec<Post>, post: Post)
     ensures items { posts.new.items ≡ posts.old.items ++ post ∷ [] }
     ensures room { vec_capacity posts.old ≤ vec_capacity posts.new }
 {
-    let _ = posts.push(post);
+    drop(posts.push(post));
 }
 
 /// Takes the answer to the call that this seat has posted, with the call. The seat waits for its turn, and has none when it returns.

@@ -131,7 +131,7 @@ fn add(passes: &mut Vec<Pass>, pass: Pass)
     ensures items { passes.new.items ≡ passes.old.items ++ pass ∷ [] }
     ensures room { vec_capacity passes.old ≤ vec_capacity passes.new }
 {
-    let _ = passes.push(pass);
+    drop(passes.push(pass));
 }
 
 // One more seat, with one part of those that this seat has, and the last number.
