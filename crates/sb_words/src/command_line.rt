@@ -24,23 +24,38 @@ fn command_line<'a>(alloc: Global) -> Result<clap::Command<'a>, AllocError>
     ensures { IfOk result (λ c. app_of c ≡ line.program) }
 {
     let commands = folder_commands(alloc)?;
-    let client = client_command(alloc)?;
-    let serve = serve_command(alloc)?;
-    let drill = drill_command(alloc)?;
-    commands
-        .subcommand(client)?
-        .subcommand(serve)?
-        .subcommand(drill)
+    let Ok(client) = client_command(alloc) else {
+        drop(commands);
+        return Err(AllocError);
+    };
+    let commands = commands.subcommand(client)?;
+    let Ok(serve) = serve_command(alloc) else {
+        drop(commands);
+        return Err(AllocError);
+    };
+    let commands = commands.subcommand(serve)?;
+    let Ok(drill) = drill_command(alloc) else {
+        drop(commands);
+        return Err(AllocError);
+    };
+    commands.subcommand(drill)
 }
 
 // The commands over a folder alone.
 fn folder_commands<'a>(alloc: Global) -> Result<clap::Command<'a>, AllocError>
     ensures { IfOk result (λ c. app_of c ≡ line.folder_commands) }
 {
-    let run = run_command(alloc)?;
-    let check = check_command(alloc)?;
     let bus = bus_command(alloc)?;
-    bus.subcommand(run)?.subcommand(check)
+    let Ok(run) = run_command(alloc) else {
+        drop(bus);
+        return Err(AllocError);
+    };
+    let bus = bus.subcommand(run)?;
+    let Ok(check) = check_command(alloc) else {
+        drop(bus);
+        return Err(AllocError);
+    };
+    bus.subcommand(check)
 }
 
 // The program without its commands.
@@ -85,17 +100,16 @@ fn run_command<'a>(alloc: Global) -> Result<clap::Command<'a>, AllocError>
     ensures shape { IfOk result (λ c. shape_of c ≡ line.run_command) }
     ensures local { IfOk result (λ c. (fields_of c).has_globals ≡ false) }
 {
-    let max_jump = value_option(
-        alloc,
-        "max-jump",
-        "DAYS",
-        "The most days that the time of a line may be beyond the clock of the system: 0 to 100000; 0 is any number [default: 0]",
-    );
     let about = "Answer the script lines of the input";
     let example = "Example: bus run --data data < orders.script";
     described(alloc, "run", about, example)
         .arg(data_option(alloc))?
-        .arg(max_jump)?
+        .arg(value_option(
+            alloc,
+            "max-jump",
+            "DAYS",
+            "The most days that the time of a line may be beyond the clock of the system: 0 to 100000; 0 is any number [default: 0]",
+        ))?
         .arg(checkpoint_option(alloc))
 }
 
@@ -103,47 +117,46 @@ fn check_command<'a>(alloc: Global) -> Result<clap::Command<'a>, AllocError>
     ensures shape { IfOk result (λ c. shape_of c ≡ line.check_command) }
     ensures local { IfOk result (λ c. (fields_of c).has_globals ≡ false) }
 {
-    let look = flag_option(
-        alloc,
-        "look",
-        "Write nothing: look at the files as they stand, beside a server too",
-    );
     let about = "Tell the numbers of the namespace";
     let example = "Example: bus check --data data";
     described(alloc, "check", about, example)
         .arg(data_option(alloc))?
-        .arg(look)
+        .arg(flag_option(
+            alloc,
+            "look",
+            "Write nothing: look at the files as they stand, beside a server too",
+        ))
 }
 
 fn client_command<'a>(alloc: Global) -> Result<clap::Command<'a>, AllocError>
     ensures shape { IfOk result (λ c. shape_of c ≡ line.client_command) }
     ensures local { IfOk result (λ c. (fields_of c).has_globals ≡ false) }
 {
-    let patience = value_option(
-        alloc,
-        "patience",
-        "S",
-        "After how many seconds a server that says nothing is given up: 1 to 7200 [default: 120]",
-    );
     let about = "Have a server answer the script lines of the input";
     let example = "Example: bus client --port 8080 < orders.script";
     described(alloc, "client", about, example)
         .arg(port_option(alloc))?
         .arg(key_option(alloc))?
-        .arg(patience)
+        .arg(value_option(
+            alloc,
+            "patience",
+            "S",
+            "After how many seconds a server that says nothing is given up: 1 to 7200 [default: 120]",
+        ))
 }
 
 fn serve_command<'a>(alloc: Global) -> Result<clap::Command<'a>, AllocError>
     ensures shape { IfOk result (λ c. shape_of c ≡ line.serve_command) }
     ensures local { IfOk result (λ c. (fields_of c).has_globals ≡ false) }
 {
-    let host = list_option(
-        alloc,
-        "host",
-        "NAME",
-        "A name by which the server may be called, beside localhost: up to 8 times, each of 1 to 255 visible characters [default: any name]",
-    );
-    timed_server(alloc)?.arg(host)?.arg(key_option(alloc))
+    timed_server(alloc)?
+        .arg(list_option(
+            alloc,
+            "host",
+            "NAME",
+            "A name by which the server may be called, beside localhost: up to 8 times, each of 1 to 255 visible characters [default: any name]",
+        ))?
+        .arg(key_option(alloc))
 }
 
 // The same server with its limits of time.
@@ -151,19 +164,19 @@ fn timed_server<'a>(alloc: Global) -> Result<clap::Command<'a>, AllocError>
     ensures app { IfOk result (λ c. app_of c ≡ line.timed_server) }
     ensures local { IfOk result (λ c. (fields_of c).has_globals ≡ false) }
 {
-    let request_time = value_option(
-        alloc,
-        "request-time",
-        "S",
-        "For how many seconds a request may take, and its response: 1 to 86400; each KiB of it allows one more [default: 60]",
-    );
-    let idle_time = value_option(
-        alloc,
-        "idle-time",
-        "S",
-        "For how many seconds a connection is kept without a request: 1 to 86400 [default: 600]",
-    );
-    saving_server(alloc)?.arg(request_time)?.arg(idle_time)
+    saving_server(alloc)?
+        .arg(value_option(
+            alloc,
+            "request-time",
+            "S",
+            "For how many seconds a request may take, and its response: 1 to 86400; each KiB of it allows one more [default: 60]",
+        ))?
+        .arg(value_option(
+            alloc,
+            "idle-time",
+            "S",
+            "For how many seconds a connection is kept without a request: 1 to 86400 [default: 600]",
+        ))
 }
 
 // The server with its limits, whether each call is told, and when it makes checkpoints.
@@ -171,14 +184,13 @@ fn saving_server<'a>(alloc: Global) -> Result<clap::Command<'a>, AllocError>
     ensures app { IfOk result (λ c. app_of c ≡ line.saving_server) }
     ensures local { IfOk result (λ c. (fields_of c).has_globals ≡ false) }
 {
-    let checkpoint_after = value_option(
-        alloc,
-        "checkpoint-after",
-        "BYTES",
-        "Make a checkpoint once the records behind the last one take more than BYTES, and at least twice the bytes of its base: 0 to 4611686018427387904; 0 is never [default: 268435456]",
-    );
     limited_server(alloc)?
-        .arg(checkpoint_after)?
+        .arg(value_option(
+            alloc,
+            "checkpoint-after",
+            "BYTES",
+            "Make a checkpoint once the records behind the last one take more than BYTES, and at least twice the bytes of its base: 0 to 4611686018427387904; 0 is never [default: 268435456]",
+        ))?
         .arg(checkpoint_option(alloc))
 }
 
@@ -187,23 +199,20 @@ fn limited_server<'a>(alloc: Global) -> Result<clap::Command<'a>, AllocError>
     ensures app { IfOk result (λ c. app_of c ≡ line.limited_server) }
     ensures local { IfOk result (λ c. (fields_of c).has_globals ≡ false) }
 {
-    let connections = value_option(
-        alloc,
-        "connections",
-        "K",
-        "After how many connections a worker ends: 1 to 1000000 [default: it doesn't end]",
-    );
-    let max_jump = value_option(
-        alloc,
-        "max-jump",
-        "DAYS",
-        "The most days that the clock may be ahead of the journal as it opens: 0 to 100000; 0 is any number [default: 400]",
-    );
-    let log = flag_option(alloc, "log", "Tell each call in a line on standard error");
     plain_server(alloc)?
-        .arg(connections)?
-        .arg(max_jump)?
-        .arg(log)
+        .arg(value_option(
+            alloc,
+            "connections",
+            "K",
+            "After how many connections a worker ends: 1 to 1000000 [default: it doesn't end]",
+        ))?
+        .arg(value_option(
+            alloc,
+            "max-jump",
+            "DAYS",
+            "The most days that the clock may be ahead of the journal as it opens: 0 to 100000; 0 is any number [default: 400]",
+        ))?
+        .arg(flag_option(alloc, "log", "Tell each call in a line on standard error"))
 }
 
 // The server with its folder, its port, its workers and its threads.
@@ -211,48 +220,44 @@ fn plain_server<'a>(alloc: Global) -> Result<clap::Command<'a>, AllocError>
     ensures app { IfOk result (λ c. app_of c ≡ line.plain_server) }
     ensures local { IfOk result (λ c. (fields_of c).has_globals ≡ false) }
 {
-    let workers = value_option(
-        alloc,
-        "workers",
-        "N",
-        "How many connections are served at once: 1 to 65535 [default: 1024]",
-    );
-    let threads = value_option(
-        alloc,
-        "threads",
-        "M",
-        "In how many threads, each with its share of them: 1 to 64 [default: 1]",
-    );
     let about = "Answer the requests of connections";
     let example = "Example: bus serve --data data --port 8080";
     described(alloc, "serve", about, example)
         .arg(data_option(alloc))?
         .arg(port_option(alloc))?
-        .arg(workers)?
-        .arg(threads)
+        .arg(value_option(
+            alloc,
+            "workers",
+            "N",
+            "How many connections are served at once: 1 to 65535 [default: 1024]",
+        ))?
+        .arg(value_option(
+            alloc,
+            "threads",
+            "M",
+            "In how many threads, each with its share of them: 1 to 64 [default: 1]",
+        ))
 }
 
 fn drill_command<'a>(alloc: Global) -> Result<clap::Command<'a>, AllocError>
     ensures shape { IfOk result (λ c. shape_of c ≡ line.drill_command) }
     ensures local { IfOk result (λ c. (fields_of c).has_globals ≡ false) }
 {
-    let count = argument(
-        alloc,
-        "count",
-        "COUNT",
-        "How many calls to make behind the five that set the namespace up: 0 to 1000000",
-    );
-    let seed = argument(
-        alloc,
-        "seed",
-        "SEED",
-        "What the calls are drawn from: 0 to 18446744073709551615; the same seed asks the same",
-    );
     let about = "Try generated calls on an empty namespace in memory, and tell their counts";
     let example = "Example: bus drill 2000 7";
     described(alloc, "drill", about, example)
-        .arg(count)?
-        .arg(seed)
+        .arg(argument(
+            alloc,
+            "count",
+            "COUNT",
+            "How many calls to make behind the five that set the namespace up: 0 to 1000000",
+        ))?
+        .arg(argument(
+            alloc,
+            "seed",
+            "SEED",
+            "What the calls are drawn from: 0 to 18446744073709551615; the same seed asks the same",
+        ))
 }
 
 fn data_option<'a>(alloc: Global) -> Arg<'a>
