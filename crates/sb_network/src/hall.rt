@@ -1,6 +1,7 @@
 // The hall of one thread: the seats of its workers, and their wait.
 use crate::arrivals::{Arrivals, Kinds};
 use crate::queue::Queue;
+use crate::rounds::Rounds;
 use crate::seat::Seat;
 use mio::{Events, Poll, Registry, Token, Waker};
 use sb_outside::Clock;
@@ -24,6 +25,9 @@ const TRIES_AGAIN_MS: u64 = 100;
 // who are served waiting for a short time.
 const GREETS_EACH: u64 = 16;
 
+// So often those who have come are looked at anew at most, while they wait for others.
+const LOOKS_AT_ONCE: u64 = 1000;
+
 /// The token of the listener; a seat's is one more than its place.
 pub(crate) const LISTENER: Token = Token(0);
 
@@ -46,6 +50,7 @@ pub(crate) struct Hall<R: std::rt::Clock + Drop> {
     // The last place that was given was of those for which something has come.
     served: AtomicBool,
     arrivals: Arrivals,
+    rounds: Rounds,
     // Behind the place that was rung for last.
     next_rung: AtomicUsize,
     // Ends the wait from another thread.
@@ -96,6 +101,7 @@ impl<R: std::rt::Clock + Drop> Hall<R> {
             greeters,
             served: AtomicBool::new(false),
             arrivals: Arrivals::new(),
+            rounds: Rounds::new(),
             next_rung: AtomicUsize::new(0),
             waker,
             callers: AtomicBool::new(true),
@@ -121,9 +127,14 @@ impl<R: std::rt::Clock + Drop> Hall<R> {
 
     /// The milliseconds since the hall was made.
     pub(crate) fn now_ms(&self) -> u64 {
+        self.now_us() / 1000
+    }
+
+    // The microseconds since the hall was made.
+    fn now_us(&self) -> u64 {
         let passed = self.start.elapsed(&self.system).unwrap_or(Duration::ZERO);
-        let whole_ms = passed.as_secs().saturating_mul(1000);
-        whole_ms.saturating_add(u64::from(passed.subsec_millis()))
+        let whole_us = passed.as_secs().saturating_mul(1_000_000);
+        whole_us.saturating_add(u64::from(passed.subsec_micros()))
     }
 
     /// Whether a connection may be taken before the next look.
@@ -201,9 +212,22 @@ impl<R: std::rt::Clock + Drop> Hall<R> {
         match self.called.take() {
             Some(place) => {
                 self.served.store(true, Ordering::SeqCst);
+                self.leaves(place);
                 Some(place)
             }
             None => self.greeters.take(),
+        }
+    }
+
+    // The worker at this place is called in this round.
+    fn leaves(&self, place: usize) {
+        let round = self.rounds.number();
+        if self
+            .seats
+            .get(place)
+            .is_some_and(|seat| seat.call_in(round))
+        {
+            self.rounds.leave();
         }
     }
 
@@ -276,13 +300,28 @@ impl<R: std::rt::Clock + Drop> Hall<R> {
     }
 
     /// Waits until something comes, or this reading does, or a second has gone; not at all where somebody
-    /// is called. Whether the hall doesn't say who may go on.
+    /// is called. Who comes right behind a round waits for the others of it, for a short time: calls that are
+    /// made together share their syncs. Whether the hall doesn't say who may go on.
     pub(crate) fn wait<C: Clock>(&self, clock: &C, until_ms: u64) -> bool {
+        let ended_us = self.now_us();
         if self.watch_for(self.longest_ms(clock, until_ms)) {
+            self.gather(self.rounds.until_us(ended_us));
             return false;
         }
         clock.pause();
         true
+    }
+
+    // Waits for those of the last round for whom nothing has come yet, until so many microseconds since the
+    // hall was made. Then the next round begins.
+    fn gather(&self, until_us: u64) {
+        for _ in 0..LOOKS_AT_ONCE {
+            if self.rounds.is_whole() || self.now_us() >= until_us {
+                break;
+            }
+            self.watch_for(0);
+        }
+        self.rounds.next(self.now_us());
     }
 
     // Whether callers are left, or a place is called.
@@ -334,6 +373,9 @@ impl<R: std::rt::Clock + Drop> Hall<R> {
             } else if let Some(seat) = self.seats.get(number - 1) {
                 let has_ended = event.is_read_closed() || event.is_error();
                 seat.come(event.is_readable(), has_ended);
+                if seat.comes_again(self.rounds.number()) {
+                    self.rounds.come();
+                }
                 self.called.put_last(number - 1);
             }
         }

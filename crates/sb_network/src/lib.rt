@@ -13,6 +13,7 @@ mod hall;
 mod halls;
 mod place;
 mod queue;
+mod rounds;
 mod seat;
 mod span;
 

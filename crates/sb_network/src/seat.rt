@@ -25,6 +25,8 @@ pub(crate) struct Seat {
     kind: AtomicU64,
     // Some of them came.
     rung: AtomicBool,
+    // In which round its worker was called, if nothing has come for it since; else 0.
+    called_in: AtomicU64,
     // A write of its connection waits.
     stall: Span,
     // Its connection rests between two requests.
@@ -42,6 +44,7 @@ impl Seat {
             mark: AtomicU64::new(0),
             kind: AtomicU64::new(0),
             rung: AtomicBool::new(false),
+            called_in: AtomicU64::new(0),
             stall: Span::new(),
             rest: Span::new(),
         }
@@ -88,6 +91,16 @@ impl Seat {
     /// Whether some came since this was last asked.
     pub(crate) fn take_rung(&self) -> bool {
         self.rung.load(Ordering::SeqCst) && self.rung.swap(false, Ordering::SeqCst)
+    }
+
+    /// Its worker is called in this round. Whether it wasn't called in it yet, or something has come for it since.
+    pub(crate) fn call_in(&self, round: u64) -> bool {
+        self.called_in.swap(round, Ordering::SeqCst) != round
+    }
+
+    /// Something has come for its worker. Whether that was called in this round, and nothing had come for it since.
+    pub(crate) fn comes_again(&self, round: u64) -> bool {
+        self.called_in.swap(0, Ordering::SeqCst) == round
     }
 
     /// It has a new connection.
