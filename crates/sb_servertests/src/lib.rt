@@ -9,6 +9,8 @@ mod checkpoint_tests;
 #[cfg(test)]
 mod desks;
 #[cfg(test)]
+mod failed_seal_tests;
+#[cfg(test)]
 mod limits_tests;
 #[cfg(test)]
 mod lines_tests;

@@ -67,7 +67,7 @@ const NO_HEAD: &str = "x\r\n\r\n";
 
 const BAD: &str = "HTTP/1.1 400 Bad Request\r\nContent-Length: 0\r\nConnection: close\r\n\r\n";
 
-const FAILED: &str =
+pub(crate) const FAILED: &str =
     "HTTP/1.1 500 Internal Server Error\r\nContent-Type: application/json\r\nContent-Length: 23\r\nConnection: close\r\n\r\n{\"refused\":\"DiskFault\"}";
 
 // A server over one door: what its connections send, in pieces of so many bytes, and what comes.
@@ -183,7 +183,7 @@ const CASES: [Case<'static>; 10] = [
 
 // Whether connections and doors answer at once, or say "nothing yet" every other time.
 #[derive(Clone, Copy, PartialEq, Eq)]
-enum Pace {
+pub(crate) enum Pace {
     Even,
     Hesitant,
 }
@@ -204,7 +204,8 @@ fn paced(source: MemSource, sink: MemSink, pace: Pace) -> MemConn {
     }
 }
 
-fn connection(
+// A connection that makes these requests, in pieces of so many bytes.
+pub(crate) fn connection(
     rt: &HostRuntime,
     requests: &[&str],
     piece: usize,
@@ -349,7 +350,7 @@ pub(crate) fn served<T: Threads + Wait + Sync>(
 }
 
 // Whether a connection was given just these.
-fn is_given(conn: &MemConn, responses: &[&str]) -> bool {
+pub(crate) fn is_given(conn: &MemConn, responses: &[&str]) -> bool {
     let mut left = conn.bytes();
     for response in responses {
         let Some(rest) = left.strip_prefix(response.as_bytes()) else {
