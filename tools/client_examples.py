@@ -131,7 +131,7 @@ def came_late(port, session, known):
         turn = {"do": "together", "entity": "readings", "operations": [completed, remembered]}
         calls = [("DELETE", place, b""), ("POST", "/$together", json.dumps(turn).encode())]
         answers = [caller.ask(method, path, body)[::2] for method, path, body in calls]
-    lib.wants(answers == [(200, b""), (404, b'{"refused":"SessionLost"}')], f"a session's holder was answered {answers}")
+    lib.wants(answers == [(200, b""), (404, b'{"part":0,"refused":"SessionLost"}')], f"a session's holder was answered {answers}")
 
 
 def readings(port):

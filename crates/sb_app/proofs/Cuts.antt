@@ -6,6 +6,7 @@ use Rattle.sb_outside.specs.Causes.{RoseByOne}
 use Rattle.sb_outside.specs.Streams.{Gains, GainsPart}
 use Rattle.sb_outside.proofs.Gains.{gains-gains, gains-none}
 use Rattle.sb_machine.specs.Answers.{moment_of}
+use Rattle.sb_machine.specs.Parts.{at_part_or_whole}
 use Rattle.sb_machine.specs.History.{Log, is_fault, fresh_log, state_after}
 use Rattle.sb_machine.specs.declared.call.TimedCall.{TimedCall}
 use Rattle.sb_machine.specs.declared.reply.Answered.{Answered}
@@ -94,9 +95,15 @@ reply_cut_at s after x tick answer was now DiskFault is sound leads cut = absurd
 reply_cut_at s after x tick answer was now LongInput is sound leads cut = absurd cut
 reply_cut_at s after x tick answer was now TimeJump is sound leads cut = absurd cut
 
+-- the refusal of a key at fault is the machine's
+sound_key : (part : Option ℕ) (key : List ℕ) → is_fault (Err (at_part_or_whole part (BadCall key))) ≡ false
+sound_key None key = refl
+sound_key (Some i) key = refl
+
 -- the same of a line that is no call
-pub malformed_cut : (s : State) (x : ScriptLine) (key : List ℕ) (was now : Output) (end : RunEnd) → x ≡ Malformed key → IsReplyCut (answer_line Plain (Err (BadCall key))) was now end → IsCutAt s x was now s end
-malformed_cut s x key was now end is cut = subst (λ (y : ScriptLine). IsCutAt s y was now s end) (sym is) (reply_cut_at s s (Malformed key) None (Err (BadCall key)) was now end (refl, refl) refl refl cut)
+pub malformed_cut : (s : State) (x : ScriptLine) (part : Option ℕ) (key : List ℕ) (was now : Output) (end : RunEnd) → x ≡ Malformed part key → IsReplyCut (answer_line Plain (Err (at_part_or_whole part (BadCall key)))) was now end → IsCutAt s x was now s end
+malformed_cut s x part key was now end is cut =
+    subst (λ (y : ScriptLine). IsCutAt s y was now s end) (sym is) (reply_cut_at s s (Malformed part key) None (Err (at_part_or_whole part (BadCall key))) was now end (refl, refl) (sound_key part key) refl cut)
 
 -- a step of a running node
 pub step_at : (s after : State) (before stopped tick : Option ℕ) (asked : TimedCall) (form : Form) (a : Result Answered Refusal) → before ≡ None → IfSome tick (λ t. t ≡ moment_of s asked.reading) → IsStep (log_of s before) (entries_with tick 0 asked.reading asked.call a) (log_of after stopped)

@@ -39,7 +39,7 @@ legal_to s ls (Some last) part before now end consistent ends = at_line last.lin
   where
     at_line : (x : ScriptLine) → IsAnswer (state_after_all s ls) x last.tick last.answer → IsLegal s (history_of s ls ++ entries_by x last.tick last.answer)
     at_line Blank is = absurd is
-    at_line (Malformed key) is = legal_on s ls [] consistent refl
+    at_line (Malformed part key) is = legal_on s ls [] consistent refl
     at_line (Request a form) is = legal_on s ls (entries_by (Request a form) last.tick last.answer) consistent is.1
 
 spares_all : (s : State) (ls : List ScriptLine) (more : List Entry) → IsConsistent s → Spares is_spared (state_after_all s ls) more → Spares is_spared s (history_of s ls ++ more)
@@ -53,7 +53,7 @@ spares_to s ls (Some last) part before now end consistent ends = at_line last.li
   where
     at_line : (x : ScriptLine) → IsAnswer (state_after_all s ls) x last.tick last.answer → Spares is_spared s (history_of s ls ++ entries_by x last.tick last.answer)
     at_line Blank is = absurd is
-    at_line (Malformed key) is = spares_all s ls [] consistent tt
+    at_line (Malformed part key) is = spares_all s ls [] consistent tt
     at_line (Request a form) is = spares_all s ls (entries_by (Request a form) last.tick last.answer) consistent is.2
 
 -- ---- the run

@@ -62,7 +62,7 @@ machine_goes s reading call = by_tests (is_due t s.space) (is_spent s t) refl re
 pub led_log : (s : State) (ls : List ScriptLine) → after_entries (fresh_log s) (history_of s ls) ≡ fresh_log (state_after_all s ls)
 led_log s [] = refl
 led_log s (Blank ∷ ls) = led_log s ls
-led_log s (Malformed key ∷ ls) = led_log s ls
+led_log s (Malformed part key ∷ ls) = led_log s ls
 led_log s (Request a form ∷ ls) =
     let here = entries_at 0 s a.reading a.call in
     let after = state_after s here in

@@ -4,6 +4,7 @@ use Rattle.sb_outside.specs.Causes.{RoseByOne}
 use Rattle.sb_outside.specs.Streams.{Gains}
 use Rattle.sb_machine.specs.History.{IsLegal, is_fault, state_after}
 use Rattle.sb_machine.specs.Answers.{moment_of}
+use Rattle.sb_machine.specs.Parts.{at_part_or_whole}
 use Rattle.sb_machine.specs.declared.call.TimedCall.{TimedCall}
 use Rattle.sb_machine.specs.declared.history.Entry.{Entry}
 use Rattle.sb_machine.specs.declared.reply.Answered.{Answered}
@@ -64,14 +65,14 @@ pub record LastLine : Type 0 where
 -- what a line with this tick and this answer adds to a history
 abbrev pub entries_by : ScriptLine → Option ℕ → Result Answered Refusal → List Entry
 entries_by Blank tick answer = []
-entries_by (Malformed key) tick answer = []
+entries_by (Malformed part key) tick answer = []
 entries_by (Request a form) tick answer = entries_with tick 0 a.reading a.call answer
 
 -- A line got this answer, behind this tick: a call the machine's, or a fault, but want of memory only where the call isn't spared; what is
 -- no call the key at fault.
 abbrev pub IsAnswer : State → ScriptLine → Option ℕ → Result Answered Refusal → Type 0
 IsAnswer s Blank tick answer = ⊥
-IsAnswer s (Malformed key) tick answer = (tick ≡ None) × (answer ≡ Err (BadCall key))
+IsAnswer s (Malformed part key) tick answer = (tick ≡ None) × (answer ≡ Err (at_part_or_whole part (BadCall key)))
 IsAnswer s (Request a form) tick answer = IfSome tick (λ t. t ≡ moment_of s a.reading) × IsLegal s (entries_with tick 0 a.reading a.call answer) × Spares is_spared s (entries_with tick 0 a.reading a.call answer)
 
 -- A run ends at a line for this answer and so much of its line in the form that was asked for. After a failed disk, or want of memory in the call, the line of

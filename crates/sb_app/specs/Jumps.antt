@@ -23,7 +23,7 @@ jump_line moment reading = codes "{\"moment\":" ++ (decimal moment ++ (codes ",\
 -- the clock read so that the moment of a line isn't too far ahead; what is no call has none
 abbrev pub IsWithin : (reads : ℕ → Type 0) → (days : ℕ) → ScriptLine → Type 0
 IsWithin reads days Blank = Unit {0}
-IsWithin reads days (Malformed key) = Unit {0}
+IsWithin reads days (Malformed part key) = Unit {0}
 IsWithin reads days (Request a form) = (reading : ℕ) × reads reading × (is_far_ahead days reading a.reading ≡ false)
 
 -- each of these lines

@@ -4,6 +4,7 @@ use Rattle.sb_machine.specs.Answers.{answer_of, moment_of}
 use Rattle.sb_machine.specs.Due.{is_due}
 use Rattle.sb_machine.specs.Events.{replayed, tick_at}
 use Rattle.sb_machine.specs.History.{advanced, is_spent, entries_at, entries_of, state_after}
+use Rattle.sb_machine.specs.Parts.{at_part_or_whole}
 use Rattle.sb_machine.specs.declared.call.Call.{Call}
 use Rattle.sb_machine.specs.declared.call.TimedCall.{TimedCall}
 use Rattle.sb_machine.specs.declared.history.Entry.{Entry}
@@ -48,31 +49,31 @@ answer_at s reading call =
 -- the reply line to a line, if it has one
 abbrev pub reply_to : State → ScriptLine → List ℕ
 reply_to s Blank = []
-reply_to s (Malformed key) = answer_line Plain (Err (BadCall key))
+reply_to s (Malformed part key) = answer_line Plain (Err (at_part_or_whole part (BadCall key)))
 reply_to s (Request a form) = answer_line form (answer_at s a.reading a.call)
 
 -- the state after a line: a call's, behind the tick that is due first
 abbrev pub state_by : State → ScriptLine → State
 state_by s Blank = s
-state_by s (Malformed key) = s
+state_by s (Malformed part key) = s
 state_by s (Request a form) = state_after s (entries_at 0 s a.reading a.call)
 
 -- whether a line is refused; a blank one never is
 abbrev pub refuses_it : State → ScriptLine → Bool
 refuses_it s Blank = false
-refuses_it s (Malformed key) = true
+refuses_it s (Malformed part key) = true
 refuses_it s (Request a form) = is_err (answer_at s a.reading a.call)
 
 -- the states to which a crash may lead while a line is answered: the one before it and the one after it
 abbrev pub states_of : State → ScriptLine → List State
 states_of s Blank = s ∷ []
-states_of s (Malformed key) = s ∷ []
+states_of s (Malformed part key) = s ∷ []
 states_of s (Request a form) = s ∷ state_by s (Request a form) ∷ []
 
 -- where the run ends at the line also that with the tick which is due first, since a disk may fail or memory be wanting behind it
 abbrev pub states_left : State → ScriptLine → List State
 states_left s Blank = s ∷ []
-states_left s (Malformed key) = s ∷ []
+states_left s (Malformed part key) = s ∷ []
 states_left s (Request a form) = s ∷ replayed s (tick_at s (moment_of s a.reading)) ∷ state_by s (Request a form) ∷ []
 
 -- the line was answered: its reply was written, and the state is the one after it
@@ -102,7 +103,7 @@ any_refused s (l ∷ ls) = refuses_it s l || any_refused (state_by s l) ls
 abbrev pub calls_in : List ScriptLine → List TimedCall
 calls_in [] = []
 calls_in (Blank ∷ ls) = calls_in ls
-calls_in (Malformed key ∷ ls) = calls_in ls
+calls_in (Malformed part key ∷ ls) = calls_in ls
 calls_in (Request a form ∷ ls) = a ∷ calls_in ls
 
 -- what they add to a history: for each call an entry of seat 0 with the machine's answer, and before it a tick where one is due

@@ -17,7 +17,7 @@ use crate::ending::RunEnd;
 use crate::final_line::write_final_line;
 use crate::script_line::ScriptLine;
 use sb_lines::{Form, disk_fault_line, out_of_memory_line, reply_line};
-use sb_machine::{Answer, Refusal, TimedCall};
+use sb_machine::{Answer, Refusal, TimedCall, at_part_or_whole};
 use sb_model::Text;
 use sb_node::Node;
 use sb_outside::{Disk, Sink, write_all};
@@ -144,8 +144,8 @@ pub fn dispatch_line<D: Disk, K: Sink>(
 {
     match line {
         ScriptLine::Blank => Ok(false),
-        ScriptLine::Malformed(key) => {
-            let answer = Err(Refusal::BadCall { key });
+        ScriptLine::Malformed { part, key } => {
+            let answer = Err(at_part_or_whole(part, Refusal::BadCall { key }));
             write_answer(alloc, Form::Plain, answer, output)?;
             Ok(true)
         }

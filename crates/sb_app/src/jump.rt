@@ -32,7 +32,7 @@ pub fn hold_line<C: Clock>(clock: &C, days: u32, line: &ScriptLine) -> Result<()
     ensures err { IfErr result (IsTooFar (C.reads clock.now) days line.now) }
 {
     match line {
-        ScriptLine::Blank | ScriptLine::Malformed(_) => Ok(()),
+        ScriptLine::Blank | ScriptLine::Malformed { .. } => Ok(()),
         ScriptLine::Request(asked, _) => hold_moment(clock, days, asked.reading),
     }
 }

@@ -1,6 +1,6 @@
 -- An act that passed the machine's tests may be written, and so may its event.
 use Rattle.std.proofs.Common.{◌≡◌, ◌≤◌, ℕ, List, [], ◌∷◌, length, Bool, true, false, ◌&&◌, nat_le, Option, Some, None, refl, arith}
-use Rattle.std.specs.Prelude.{IfSome, is_none}
+use Rattle.std.specs.Prelude.{IfSome, codes, is_none}
 use Rattle.std.specs.List.{sum_by}
 use Rattle.std.specs.Option.{option_map}
 use Rattle.std.specs.Str.{chars}
@@ -9,7 +9,7 @@ use Rattle.std.proofs.lemmas.List.Sums.{sum_by-cons}
 use Rattle.std.proofs.lemmas.Str.{IsUtf8-from_is_utf8}
 use Rattle.sb_machine.specs.Administration.{filter_of, action_of, large_filter, conditions_size, read_as}
 use Rattle.sb_machine.specs.Each.{Each, is_read}
-use Rattle.sb_machine.specs.Fields.{bad_in_act, bad_in_by, bad_in_how, bad_in_id, bad_in_filter, bad_in_step, bad_in_steps, are_set_once, max_steps, is_short, takes_number, is_between}
+use Rattle.sb_machine.specs.Fields.{bad_in_act, bad_in_by, bad_in_entity, bad_in_whole, unless, bad_in_how, bad_in_id, bad_in_filter, bad_in_step, bad_in_steps, are_set_once, max_steps, is_short, takes_number, is_between}
 use Rattle.sb_machine.specs.Messages.{large_size, large_one, above}
 use Rattle.sb_machine.specs.Names.{is_name, is_short_name, is_rule_name, is_address}
 use Rattle.sb_machine.specs.Ordered.{IsActInOrder, IsFilterInOrder, IsStepInOrder, asked_of}
@@ -149,8 +149,8 @@ pub record AreFew (steps : List Step) : Type 0 where
 
 pub few_steps : (is_via : Bool) (entity : Path) (steps : List Step) → bad_in_act is_via (Together entity steps) ≡ None → has_sizes (Together entity steps) ≡ true → AreFew steps
 few_steps is_via entity steps good sizes =
-    let keys = first_none _ _ (first_none _ _ good).1 in
-    let count = both (is_between 1 max_steps (length steps)) (are_set_once steps) (unless_none _ _ keys.0) in
+    let keys = first_none (bad_in_whole entity steps) (bad_in_steps steps) good in
+    let count = both (is_between 1 max_steps (length steps)) (are_set_once steps) (unless_none _ _ (first_none (bad_in_entity entity) (unless (is_between 1 max_steps (length steps) && are_set_once steps) (codes "operations")) keys.0).1) in
     let fits = both (nat_le (sum_by step_weight steps) max_operations) (is_none (large_steps steps)) sizes in
     let sums = first_size_none (above 262144 (sum_by step_bytes steps)) (above 262144 (sum_by state_bytes steps)) (none_is (large_steps steps) fits.1) in
     record {

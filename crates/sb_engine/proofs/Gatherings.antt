@@ -13,6 +13,7 @@ use Rattle.sb_machine.specs.Fields.{bad_in_messages}
 use Rattle.sb_machine.specs.Leases.{held_session, leased}
 use Rattle.sb_machine.specs.Names.{is_address, is_same_entity, is_same_option}
 use Rattle.sb_machine.specs.Namespace.{entity_at, leaf_of}
+use Rattle.sb_machine.specs.Parts.{at_part}
 use Rattle.sb_machine.specs.Queueing.{has_room, queueing}
 use Rattle.sb_machine.specs.Rows.{Row, answers, asks, at_receivable, refuses}
 use Rattle.sb_machine.specs.SendRow.{have_sessions_at, is_destination, queued_send}
@@ -167,38 +168,48 @@ gathers_refused (Err y) x os new cs later row given (inr is) = inr (λ next. ap 
 
 -- ---- all of them
 
-steps_more : (s : Space) (t : ℕ) (path : Path) (e : Entity) (os : List Operation) (cs : List Change) (x : Step) (xs : List Step) (last : Next) → read_steps s t path e os cs (x ∷ xs) last ≡ gathered_on os cs (read_step s t path e os x) (λ os cs. read_steps s t path e os cs xs last)
-steps_more s t path e os cs x xs last = at (read_step s t path e os x) where
-  at : (row : Row) → elim row [ refuses r ↦ refuses r | answers reply ds ↦ read_steps s t path e (os ++ operations_in ds) (cs ++ unqueued ds) xs last ] ≡ gathered_on os cs row (λ os cs. read_steps s t path e os cs xs last)
-  at (refuses r) = refl
-  at (answers reply ds) = refl
+-- one that answers, and then those behind it
+step_answers : (i : ℕ) (s : Space) (t : ℕ) (path : Path) (e : Entity) (os new : List Operation) (cs later : List Change) (x : Step) (xs : List Step) (last : Next)
+    → ((next : Next) → gathered_on os cs (read_step s t path e os x) next ≡ next new later) → read_steps i s t path e os cs (x ∷ xs) last ≡ read_steps (i + 1) s t path e new later xs last
+step_answers i s t path e os new cs later x xs last = at (read_step s t path e os x) where
+  at : (row : Row) → ((next : Next) → gathered_on os cs row next ≡ next new later)
+      → elim row [ refuses r ↦ refuses (at_part i r) | answers reply ds ↦ read_steps (i + 1) s t path e (os ++ operations_in ds) (cs ++ unqueued ds) xs last ] ≡ read_steps (i + 1) s t path e new later xs last
+  at (refuses r) one = let never : refuses r ≡ answers Done [] = one (λ os cs. answers Done []) in absurd cc
+  at (answers reply ds) one = one (λ os cs. read_steps (i + 1) s t path e os cs xs last)
+
+-- one that is refused, with its place
+step_refuses : (i : ℕ) (s : Space) (t : ℕ) (path : Path) (e : Entity) (os : List Operation) (cs : List Change) (x : Step) (xs : List Step) (last : Next) (refusal : Refusal)
+    → ((next : Next) → gathered_on os cs (read_step s t path e os x) next ≡ refuses refusal) → read_steps i s t path e os cs (x ∷ xs) last ≡ refuses (at_part i refusal)
+step_refuses i s t path e os cs x xs last refusal = at (read_step s t path e os x) where
+  at : (row : Row) → ((next : Next) → gathered_on os cs row next ≡ refuses refusal)
+      → elim row [ refuses r ↦ refuses (at_part i r) | answers reply ds ↦ read_steps (i + 1) s t path e (os ++ operations_in ds) (cs ++ unqueued ds) xs last ] ≡ refuses (at_part i refusal)
+  at (refuses r) one = let same : refuses r ≡ refuses refusal = one (λ os cs. answers Done []) in let own : r ≡ refusal = cc in ap (λ (y : Refusal). refuses (at_part i y)) own
+  at (answers reply ds) one = let never : answers Done [] ≡ refuses refusal = one (λ os cs. answers Done []) in absurd cc
 
 -- what is left gives all
 abbrev pub IsGathering : Space → ℕ → Path → Entity → List Step → ℕ → (Next → Row) → List Operation → List Change → Type 0
-IsGathering s t path e xs i all os cs = (last : Next) → read_steps s t path e os cs (drop i xs) last ≡ all last
+IsGathering s t path e xs i all os cs = (last : Next) → read_steps i s t path e os cs (drop i xs) last ≡ all last
 
 steps_at : (s : Space) (t : ℕ) (path : Path) (e : Entity) (os : List Operation) (cs : List Change) (xs : List Step) (i : ℕ) (x : Step) (last : Next) → i < length xs → x ≡ get_or xs i x
-    → read_steps s t path e os cs (drop i xs) last ≡ gathered_on os cs (read_step s t path e os x) (λ os cs. read_steps s t path e os cs (drop (i + 1) xs) last)
+    → read_steps i s t path e os cs (drop i xs) last ≡ read_steps i s t path e os cs (x ∷ drop (i + 1) xs) last
 steps_at s t path e os cs xs i x last within here =
-    ap (λ (l : List Step). read_steps s t path e os cs l last) (drop_more xs i x within ∙ ap (λ (y : Step). y ∷ drop (i + 1) xs) (sym here))
-    ∙ steps_more s t path e os cs x (drop (i + 1) xs) last
+    ap (λ (l : List Step). read_steps i s t path e os cs l last) (drop_more xs i x within ∙ ap (λ (y : Step). y ∷ drop (i + 1) xs) (sym here))
 
 pub steps_next : (s : Space) (t : ℕ) (path : Path) (e : Entity) (xs : List Step) (i : ℕ) (x : Step) (all : Next → Row) (os new : List Operation) (cs later : List Change) → i < length xs → x ≡ get_or xs i x
     → IsGathering s t path e xs i all os cs → ((next : Next) → gathered_on os cs (read_step s t path e os x) next ≡ next new later) → IsGathering s t path e xs (i + 1) all new later
 steps_next s t path e xs i x all os new cs later within here way one last =
-    sym (one (λ os cs. read_steps s t path e os cs (drop (i + 1) xs) last))
+    sym (step_answers i s t path e os new cs later x (drop (i + 1) xs) last one)
     ∙ sym (steps_at s t path e os cs xs i x last within here)
     ∙ way last
 
-pub steps_refuse : {X : Type 0} (s : Space) (t : ℕ) (path : Path) (e : Entity) (xs : List Step) (i : ℕ) (x : Step) (all : Next → Row) (os new : List Operation) (cs later : List Change) (r : Result X Refusal) (refusal : Refusal) → i < length xs → x ≡ get_or xs i x
-    → IsGathering s t path e xs i all os cs → IsErr r × IsErrAnd r (λ y. y ≡ refusal) → (refusal ≡ OutOfMemory) ⊎ ((next : Next) → gathered_on os cs (read_step s t path e os x) next ≡ refuses refusal) → Gathers r all new later
-steps_refuse s t path e xs i x all os new cs later (Ok y) refusal within here way given is = absurd given.1
-steps_refuse s t path e xs i x all os new cs later (Err y) refusal within here way given (inl memory) = inl (given.1 ∙ memory)
-steps_refuse s t path e xs i x all os new cs later (Err y) refusal within here way given (inr is) =
-    inr (λ last. sym (way last) ∙ steps_at s t path e os cs xs i x last within here ∙ is (λ os cs. read_steps s t path e os cs (drop (i + 1) xs) last) ∙ ap refuses (sym given.1))
+pub steps_refuse : (s : Space) (t : ℕ) (path : Path) (e : Entity) (xs : List Step) (i : ℕ) (x : Step) (all : Next → Row) (os : List Operation) (cs : List Change) (refusal placed : Refusal) → i < length xs → x ≡ get_or xs i x
+    → IsGathering s t path e xs i all os cs → placed ≡ at_part i refusal → (refusal ≡ OutOfMemory) ⊎ ((next : Next) → gathered_on os cs (read_step s t path e os x) next ≡ refuses refusal) → (placed ≡ OutOfMemory) ⊎ ((next : Next) → all next ≡ refuses placed)
+steps_refuse s t path e xs i x all os cs refusal placed within here way is (inl memory) = inl (is ∙ ap (λ (r : Refusal). at_part i r) memory)
+steps_refuse s t path e xs i x all os cs refusal placed within here way is (inr refused) =
+    inr (λ last. sym (way last) ∙ steps_at s t path e os cs xs i x last within here ∙ step_refuses i s t path e os cs x (drop (i + 1) xs) last refusal refused ∙ ap refuses (sym is))
 
 pub steps_end : (s : Space) (t : ℕ) (path : Path) (e : Entity) (xs : List Step) (i : ℕ) (all : Next → Row) (os : List Operation) (cs : List Change) → length xs ≤ i → IsGathering s t path e xs i all os cs → (last : Next) → all last ≡ last os cs
-steps_end s t path e xs i all os cs past way last = sym (way last) ∙ ap (λ (l : List Step). read_steps s t path e os cs l last) (drop_all i xs past)
+steps_end s t path e xs i all os cs past way last = sym (way last) ∙ ap (λ (l : List Step). read_steps i s t path e os cs l last) (drop_all i xs past)
 
 -- ---- what is queued
 

@@ -7,7 +7,7 @@ use Rattle.sb_laws.proofs.Rows.{Of, answered_so, asked, found, of_numbered, refu
 use Rattle.sb_machine.specs.Acts.{act_row, bad_call, is_via_in, row_of}
 use Rattle.sb_machine.specs.Answers.{answer_of}
 use Rattle.sb_machine.specs.Claims.{asks_holder, asks_session, claiming, has_sessions}
-use Rattle.sb_machine.specs.Fields.{bad_field, takes_number}
+use Rattle.sb_machine.specs.Fields.{bad_field, bad_part, takes_number}
 use Rattle.sb_machine.specs.Leases.{held_session, leased}
 use Rattle.sb_machine.specs.Namespace.{leaf_of}
 use Rattle.sb_machine.specs.Queueing.{transaction_of}
@@ -154,7 +154,7 @@ module _ (s : Space) (t : ℕ) where
   small_row : (by : Option By) (act : Act) → is_small act ≡ true → AddsNothing (row_of s t by act)
   small_row by act small =
       of_numbered t s Refuses AddsNone AddsNone _ tt (λ reply cs is none. none)
-      (refusing (bad_call (bad_field (is_via_in s act) act by)) (act_row s t act) (λ r is. tt) (λ fine. row_small act small))
+      (refusing (bad_call (bad_part act) (bad_field (is_via_in s act) act by)) (act_row s t act) (λ r is. tt) (λ fine. row_small act small))
 
 -- a plan that keeps nothing and adds to no list
 abbrev IsBare : Planned → Type 0

@@ -80,16 +80,16 @@ commit_refused s t e steps os cs front txn r is same (inr refused) = inr (commit
 -- ---- from the beginning
 
 pub gathered_first : (s : Space) (t : ℕ) (path : Path) (e : Entity) (steps : List Step) (os later : List Operation) (cs new : List Change) (last : Next) → os ≡ [] → cs ≡ Begins e.about.number (t + 120000) ∷ []
-    → ((next : Next) → read_steps s t path e os cs steps next ≡ next later new) → read_steps s t path e [] (Begins e.about.number (t + 120000) ∷ []) steps last ≡ last later new
+    → ((next : Next) → read_steps 0 s t path e os cs steps next ≡ next later new) → read_steps 0 s t path e [] (Begins e.about.number (t + 120000) ∷ []) steps last ≡ last later new
 gathered_first s t path e steps os later cs new last none begins gathers =
-    ap (λ (l : List Operation). read_steps s t path e l (Begins e.about.number (t + 120000) ∷ []) steps last) (sym none)
-    ∙ ap (λ (l : List Change). read_steps s t path e os l steps last) (sym begins)
+    ap (λ (l : List Operation). read_steps 0 s t path e l (Begins e.about.number (t + 120000) ∷ []) steps last) (sym none)
+    ∙ ap (λ (l : List Change). read_steps 0 s t path e os l steps last) (sym begins)
     ∙ gathers last
 
 pub refused_first : (s : Space) (t : ℕ) (path : Path) (e : Entity) (steps : List Step) (os : List Operation) (cs : List Change) (last : Next) (r : Refusal) → os ≡ [] → cs ≡ Begins e.about.number (t + 120000) ∷ []
-    → (r ≡ OutOfMemory) ⊎ ((next : Next) → read_steps s t path e os cs steps next ≡ refuses r) → (r ≡ OutOfMemory) ⊎ (read_steps s t path e [] (Begins e.about.number (t + 120000) ∷ []) steps last ≡ refuses r)
+    → (r ≡ OutOfMemory) ⊎ ((next : Next) → read_steps 0 s t path e os cs steps next ≡ refuses r) → (r ≡ OutOfMemory) ⊎ (read_steps 0 s t path e [] (Begins e.about.number (t + 120000) ∷ []) steps last ≡ refuses r)
 refused_first s t path e steps os cs last r none begins (inl memory) = inl memory
 refused_first s t path e steps os cs last r none begins (inr refused) = inr (
-    ap (λ (l : List Operation). read_steps s t path e l (Begins e.about.number (t + 120000) ∷ []) steps last) (sym none)
-    ∙ ap (λ (l : List Change). read_steps s t path e os l steps last) (sym begins)
+    ap (λ (l : List Operation). read_steps 0 s t path e l (Begins e.about.number (t + 120000) ∷ []) steps last) (sym none)
+    ∙ ap (λ (l : List Change). read_steps 0 s t path e os l steps last) (sym begins)
     ∙ refused last)

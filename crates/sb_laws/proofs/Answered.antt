@@ -8,7 +8,7 @@ use Rattle.sb_machine.specs.Acts.{act_row, bad_call, is_via_in, row_of}
 use Rattle.sb_machine.specs.Answers.{answer_in, answer_of, changes_of, moment_of}
 use Rattle.sb_machine.specs.Changes.{is_numbered}
 use Rattle.sb_machine.specs.Due.{is_due}
-use Rattle.sb_machine.specs.Fields.{Key, bad_field}
+use Rattle.sb_machine.specs.Fields.{Key, bad_field, bad_part}
 use Rattle.sb_machine.specs.History.{IsAllowed, IsAnswer, Log, is_end, is_fault, is_spent, is_stopped, stops}
 use Rattle.sb_machine.specs.Repeats.{Outcome, acted, by_number, client_of, for_client, forgot, kept_for, max_clients, of_answer, of_row, outcome_of, refused, repeated, with_clients}
 use Rattle.sb_machine.specs.Rows.{Row, answers, numbered, refused_by, refuses}
@@ -109,13 +109,13 @@ pub record Accepted (s : Space) (t : ℕ) (by : Option By) (act : Act) (reply : 
 
 pub accepted_so : (s : Space) (t : ℕ) (by : Option By) (act : Act) (reply : Reply) (cs : List Change) → row_of s t by act ≡ answers reply cs → Accepted s t by act reply cs
 accepted_so s t by act reply cs is =
-    let counted = numbered_so t s (refused_by (bad_call (bad_field (is_via_in s act) act by)) (act_row s t act)) reply cs is in
-    let judged = unrefused (bad_call (bad_field (is_via_in s act) act by)) (act_row s t act) reply cs counted.0 in
-    record { fields = no_key (bad_field (is_via_in s act) act by) judged.0; numbers = counted.1; row = judged.1 }
+    let counted = numbered_so t s (refused_by (bad_call (bad_part act) (bad_field (is_via_in s act) act by)) (act_row s t act)) reply cs is in
+    let judged = unrefused (bad_call (bad_part act) (bad_field (is_via_in s act) act by)) (act_row s t act) reply cs counted.0 in
+    record { fields = no_key (bad_part act) (bad_field (is_via_in s act) act by) judged.0; numbers = counted.1; row = judged.1 }
 
 -- an act whose fields are in range and whose numbers fit comes to what its row says
-pub row_goes : (s : Space) (t : ℕ) (key : Key) (row : Row) (reply : Reply) (cs : List Change) → key ≡ None → row ≡ answers reply cs → is_numbered t cs s ≡ true → numbered t s (refused_by (bad_call key) row) ≡ answers reply cs
-row_goes s t key row reply cs good is fits = ap (λ (k : Key). numbered t s (refused_by (bad_call k) row)) good ∙ ap (numbered t s) is ∙ ap (λ (b : Bool). if b then answers reply cs else refuses Exhausted) fits
+pub row_goes : (s : Space) (t : ℕ) (part : Option ℕ) (key : Key) (row : Row) (reply : Reply) (cs : List Change) → key ≡ None → row ≡ answers reply cs → is_numbered t cs s ≡ true → numbered t s (refused_by (bad_call part key) row) ≡ answers reply cs
+row_goes s t part key row reply cs good is fits = ap (λ (k : Key). numbered t s (refused_by (bad_call part k) row)) good ∙ ap (numbered t s) is ∙ ap (λ (b : Bool). if b then answers reply cs else refuses Exhausted) fits
 
 -- what holds of what a row answers
 pub answered_in : (R : Refusal → Type 0) (P : Reply → List Change → Type 0) (row : Row) (reply : Reply) (cs : List Change) → Of R P row → row ≡ answers reply cs → P reply cs

@@ -23,9 +23,10 @@ use Rattle.sb_machine.specs.Fields.{are_set_once, sets_session}
 use Rattle.sb_machine.specs.Keyed.{AreRising}
 use Rattle.sb_machine.specs.Names.{is_address, is_same_entity}
 use Rattle.sb_machine.specs.Namespace.{entity_at, is_entity, leaf_of, with_leaf}
+use Rattle.sb_machine.specs.Parts.{at_part}
 use Rattle.sb_machine.specs.Queueing.{deadline_with, max_operations, queueing, txn_life}
 use Rattle.sb_machine.specs.Rows.{Row, answers, asks, found_or, refused_by, refuses}
-use Rattle.sb_machine.specs.Together.{are_addressed, behind, commit_steps, filling, fitting, large_steps, step_weight, steps_row, then_row, together_row, unqueued}
+use Rattle.sb_machine.specs.Together.{are_addressed, behind, commit_steps, filling, fitting, large_steps, step_weight, steps_row, then_row, together_row, unaddressed, unqueued}
 use Rattle.sb_machine.specs.Transactions.{is_lost, max_transactions}
 use Rattle.sb_machine.specs.declared.call.Path.{Path}
 use Rattle.sb_machine.specs.declared.call.Step.{Step}
@@ -49,7 +50,7 @@ behind_both cs ds (answers reply es) = ap (λ (l : List Change). answers reply l
 
 behind_fitting : (cs : List Change) (steps : List Step) (row : Row) → behind cs (fitting steps row) ≡ fitting steps (behind cs row)
 behind_fitting cs steps row = at (are_addressed steps) (nat_le (sum_by step_weight steps) max_operations) (large_steps steps) where
-  at : (a b : Bool) (o : Option ℕ) → behind cs (asks a BadName (asks b TxnFull (refused_by (option_map (λ size. TooLarge size) o) row))) ≡ asks a BadName (asks b TxnFull (refused_by (option_map (λ size. TooLarge size) o) (behind cs row)))
+  at : (a b : Bool) (o : Option ℕ) → behind cs (asks a (unaddressed steps) (asks b TxnFull (refused_by (option_map (λ size. TooLarge size) o) row))) ≡ asks a (unaddressed steps) (asks b TxnFull (refused_by (option_map (λ size. TooLarge size) o) (behind cs row)))
   at true true None = refl
   at true true (Some size) = refl
   at true false o = refl
@@ -128,40 +129,40 @@ module _ (s : Space) (t : ℕ) (e : Entity) (read : IsRead s e) where
     abbrev n : ℕ
     n = gathering_number s
 
-    abbrev filled : List Step → Space → Row
-    filled xs v = steps_row t path n (commit_steps t n steps) xs v
+    abbrev filled : ℕ → List Step → Space → Row
+    filled i xs v = steps_row i t path n (commit_steps t n steps) xs v
 
     abbrev Kept : List Operation → Type 0
     Kept os = Each (λ o. is_lost s t e o ≡ false) os
 
     -- the changes so far in front of what the rest comes to is what they come to as they are read
-    abbrev Fills : List Step → Type 0
-    Fills xs = (os : List Operation) (cs : List Change) (w : Space) → IsGathering s t e cs (left_in xs) w → Kept os → are_set_once xs ≡ true → behind cs (filled xs (gathered_in s t e os w)) ≡ read_steps s t path e os cs xs (read_commit s t e steps)
+    abbrev Fills : ℕ → List Step → Type 0
+    Fills i xs = (os : List Operation) (cs : List Change) (w : Space) → IsGathering s t e cs (left_in xs) w → Kept os → are_set_once xs ≡ true → behind cs (filled i xs (gathered_in s t e os w)) ≡ read_steps i s t path e os cs xs (read_commit s t e steps)
 
-    all_filled : (xs : List Step) → Fills xs
-    all_filled [] os cs w h kept once =
+    all_filled : (xs : List Step) (i : ℕ) → Fills i xs
+    all_filled [] i os cs w h kept once =
         let own = own_written s t e os w (left_in []) read h.prepared in
         commit_same s t e os w (left_in []) cs read h steps own.0 own.1 own.2 kept
-    all_filled (one ∷ xs) os cs w h kept once =
-        ap (λ (row : Row). behind cs (filling t (gathered_in s t e os w) row (filled xs))) (step_same s t e os w (left_in (one ∷ xs)) read h.prepared path one (first_left one xs))
-        ∙ go (read_step s t path e os one) (step_form s t e os read path one) (all_filled xs)
+    all_filled (one ∷ xs) i os cs w h kept once =
+        ap (λ (row : Row). behind cs (filling i t (gathered_in s t e os w) row (filled (i + 1) xs))) (step_same s t e os w (left_in (one ∷ xs)) read h.prepared path one (first_left one xs))
+        ∙ go (read_step s t path e os one) (step_form s t e os read path one) (all_filled xs (i + 1))
       where
-        on : (ds : List Change) → Gathers s t e os one ds → Fills xs → behind (cs ++ unqueued ds) (filled xs (after_all t ds (gathered_in s t e os w))) ≡ read_steps s t path e (os ++ operations_in ds) (cs ++ unqueued ds) xs (read_commit s t e steps)
+        on : (ds : List Change) → Gathers s t e os one ds → Fills (i + 1) xs → behind (cs ++ unqueued ds) (filled (i + 1) xs (after_all t ds (gathered_in s t e os w))) ≡ read_steps (i + 1) s t path e (os ++ operations_in ds) (cs ++ unqueued ds) xs (read_commit s t e steps)
         on _ changes_nothing ih =
-            ap (λ (z : Space). behind (cs ++ []) (filled xs z)) (unmoved os w)
+            ap (λ (z : Space). behind (cs ++ []) (filled (i + 1) xs z)) (unmoved os w)
             ∙ ih (os ++ []) (cs ++ []) w (gathering_goes (left_in (one ∷ xs)) (left_in xs) cs w (still_left one xs) h) (each_append (λ o. is_lost s t e o ≡ false) os [] kept tt) (once_after one xs once)
         on _ (queues_one o there) ih =
-            ap (λ (z : Space). behind (cs ++ []) (filled xs z)) (queued_so os o w)
+            ap (λ (z : Space). behind (cs ++ []) (filled (i + 1) xs z)) (queued_so os o w)
             ∙ ih (os ++ o ∷ []) (cs ++ []) w (gathering_goes (left_in (one ∷ xs)) (left_in xs) cs w (still_left one xs) h) (each_append (λ o. is_lost s t e o ≡ false) os (o ∷ []) kept (there, tt)) (once_after one xs once)
         on _ (writes_state key lock state is) ih =
-            ap (λ (z : Space). behind (cs ++ InLeaf key (Writes lock state) ∷ []) (filled xs z)) (unmoved os (after t (InLeaf key (Writes lock state)) w))
+            ap (λ (z : Space). behind (cs ++ InLeaf key (Writes lock state) ∷ []) (filled (i + 1) xs z)) (unmoved os (after t (InLeaf key (Writes lock state)) w))
             ∙ ih (os ++ []) (cs ++ InLeaf key (Writes lock state) ∷ []) (after t (InLeaf key (Writes lock state)) w)
             (gathering_writes (left_in (one ∷ xs)) (left_in xs) cs w key lock state (still_left one xs) (set_no_more one xs lock once is) h) (each_append (λ o. is_lost s t e o ≡ false) os [] kept tt) (once_after one xs once)
 
-        go : (row : Row) → Form s t e os one row → Fills xs → behind cs (filling t (gathered_in s t e os w) row (filled xs))
-            ≡ elim row as (λ _. Row) [ refuses r ↦ refuses r | answers reply ds ↦ read_steps s t path e (os ++ operations_in ds) (cs ++ unqueued ds) xs (read_commit s t e steps) ]
+        go : (row : Row) → Form s t e os one row → Fills (i + 1) xs → behind cs (filling i t (gathered_in s t e os w) row (filled (i + 1) xs))
+            ≡ elim row as (λ _. Row) [ refuses r ↦ refuses (at_part i r) | answers reply ds ↦ read_steps (i + 1) s t path e (os ++ operations_in ds) (cs ++ unqueued ds) xs (read_commit s t e steps) ]
         go (refuses r) form ih = refl
-        go (answers reply ds) (answered_so g) ih = behind_both cs (unqueued ds) (filled xs (after_all t ds (gathered_in s t e os w))) ∙ on ds g ih
+        go (answers reply ds) (answered_so g) ih = behind_both cs (unqueued ds) (filled (i + 1) xs (after_all t ds (gathered_in s t e os w))) ∙ on ds g ih
 
 -- ---- the whole
 
@@ -185,13 +186,13 @@ pub gathers_as_read : (s : Space) (t : ℕ) (path : Path) (steps : List Step) �
     → together_row s t path steps ≡ gathered_row s t path steps
 gathers_as_read s t path steps entities transactions once = at (is_address path) (entity_at path s) refl (nat_lt (length s.transactions) max_transactions) where
   at : (a : Bool) (o : Option Entity) → entity_at path s ≡ o → (b : Bool)
-      → then_row t s (asks a BadName (found_or o EntityNotFound (λ e. asks b TxnsFull (answers (Begun (gathering_number s)) (Begins e.about.number (t + txn_life) ∷ []))))) (λ begun. fitting steps (steps_row t path (gathering_number s) (commit_steps t (gathering_number s) steps) steps begun))
-      ≡ asks a BadName (found_or o EntityNotFound (λ e. asks b TxnsFull (fitting steps (read_steps s t path e [] (Begins e.about.number (t + txn_life) ∷ []) steps (read_commit s t e steps)))))
+      → then_row t s (asks a BadName (found_or o EntityNotFound (λ e. asks b TxnsFull (answers (Begun (gathering_number s)) (Begins e.about.number (t + txn_life) ∷ []))))) (λ begun. fitting steps (steps_row 0 t path (gathering_number s) (commit_steps t (gathering_number s) steps) steps begun))
+      ≡ asks a BadName (found_or o EntityNotFound (λ e. asks b TxnsFull (fitting steps (read_steps 0 s t path e [] (Begins e.about.number (t + txn_life) ∷ []) steps (read_commit s t e steps)))))
   at false o there b = refl
   at true None there b = refl
   at true (Some e) there false = refl
   at true (Some e) there true =
       let read : IsRead s e = read_at s path e entities transactions there in
       let begins = Begins e.about.number (t + txn_life) in
-      behind_fitting (begins ∷ []) steps (steps_row t path (gathering_number s) (commit_steps t (gathering_number s) steps) steps (after t begins s))
-      ∙ ap (λ (row : Row). fitting steps row) (all_filled s t e read path steps steps [] (begins ∷ []) (after t begins s) (gathering_starts s t e read (left_in steps)) tt once)
+      behind_fitting (begins ∷ []) steps (steps_row 0 t path (gathering_number s) (commit_steps t (gathering_number s) steps) steps (after t begins s))
+      ∙ ap (λ (row : Row). fitting steps row) (all_filled s t e read path steps steps 0 [] (begins ∷ []) (after t begins s) (gathering_starts s t e read (left_in steps)) tt once)

@@ -8,7 +8,7 @@ use Rattle.sb_laws.proofs.Ways.{NoFault, Way, tells}
 use Rattle.sb_machine.specs.Acts.{act_row, bad_call, is_via_in, row_of}
 use Rattle.sb_machine.specs.Answers.{answer_in, answer_of, is_change, keeping, max_moment, moment_of, state_in, state_of}
 use Rattle.sb_machine.specs.Changes.{after_all, is_numbered}
-use Rattle.sb_machine.specs.Fields.{Key, bad_field, bad_in_act, bad_in_by, first_some, is_client_name, is_number, takes_number, unless}
+use Rattle.sb_machine.specs.Fields.{Key, bad_field, bad_part, bad_in_act, bad_in_by, first_some, is_client_name, is_number, takes_number, unless}
 use Rattle.sb_machine.specs.History.{is_fault}
 use Rattle.sb_machine.specs.Repeats.{Outcome, acted, by_number, client_of, clients_shown, for_client, forgot, kept_for, max_clients, of_answer, of_row, outcome_of, refused, repeated}
 use Rattle.sb_machine.specs.Rows.{Row, answers, numbered, refused_by, refuses}
@@ -20,8 +20,9 @@ use Rattle.sb_machine.specs.declared.call.Call.{Call}
 use Rattle.sb_machine.specs.declared.change.Change.{Change}
 use Rattle.sb_machine.specs.declared.look.Look.TheVariants as look
 use Rattle.sb_machine.specs.declared.look.View.TheVariants as seen
+use Rattle.sb_machine.specs.declared.reply.PartRefusal.TheVariants as why
 use Rattle.sb_machine.specs.declared.reply.Refusal.{Refusal}
-use Rattle.sb_machine.specs.declared.reply.Refusal.TheVariants.{BadCall, ClientNotFound, ClientsFull, Exhausted, NumberReused, StaleNumber}
+use Rattle.sb_machine.specs.declared.reply.Refusal.TheVariants.{BadCall, ClientNotFound, ClientsFull, Exhausted, InPart, NumberReused, StaleNumber}
 use Rattle.sb_machine.specs.declared.reply.Reply.{Reply}
 use Rattle.sb_machine.specs.declared.reply.Reply.TheVariants.{Done, Seen}
 use Rattle.sb_machine.specs.declared.state.Kept.{Kept}
@@ -34,20 +35,21 @@ pub record Fits (s : Space) (t : ℕ) (by : Option By) (act : Act) (reply : Repl
   pub numbers : is_numbered t cs s ≡ true
   pub does : Does s t act reply cs
 
-bad_key : (key : Key) (r : Refusal) → bad_call key ≡ Some r → NoFault r
-bad_key None r e = absurd cc
-bad_key (Some key) r e = let it : BadCall key ≡ r = cc in subst NoFault it refl
+bad_key : (part : Option ℕ) (key : Key) (r : Refusal) → bad_call part key ≡ Some r → NoFault r
+bad_key part None r e = absurd cc
+bad_key None (Some key) r e = let it : BadCall key ≡ r = cc in subst NoFault it refl
+bad_key (Some i) (Some key) r e = let it : InPart i (why.BadCall key) ≡ r = cc in subst NoFault it refl
 
-pub no_key : (key : Key) → bad_call key ≡ None → key ≡ None
-no_key None e = refl
-no_key (Some key) e = absurd cc
+pub no_key : (part : Option ℕ) (key : Key) → bad_call part key ≡ None → key ≡ None
+no_key part None e = refl
+no_key part (Some key) e = absurd cc
 
 pub row_fits : (s : Space) (t : ℕ) (by : Option By) (act : Act) → Of NoFault (Fits s t by act) (row_of s t by act)
 row_fits s t by act =
-    of_numbered t s NoFault (λ reply cs. (bad_field (is_via_in s act) act by ≡ None) × Does s t act reply cs) (Fits s t by act) (refused_by (bad_call (bad_field (is_via_in s act) act by)) (act_row s t act)) refl
+    of_numbered t s NoFault (λ reply cs. (bad_field (is_via_in s act) act by ≡ None) × Does s t act reply cs) (Fits s t by act) (refused_by (bad_call (bad_part act) (bad_field (is_via_in s act) act by)) (act_row s t act)) refl
     (λ reply cs is h. record { fields = h.0; numbers = is; does = h.1 })
-    (refusing (bad_call (bad_field (is_via_in s act) act by)) (act_row s t act) (bad_key (bad_field (is_via_in s act) act by))
-    (λ none. implied (Does s t act) (λ reply cs. (bad_field (is_via_in s act) act by ≡ None) × Does s t act reply cs) (λ reply cs so. (no_key (bad_field (is_via_in s act) act by) none, so)) (does s t act)))
+    (refusing (bad_call (bad_part act) (bad_field (is_via_in s act) act by)) (act_row s t act) (bad_key (bad_part act) (bad_field (is_via_in s act) act by))
+    (λ none. implied (Does s t act) (λ reply cs. (bad_field (is_via_in s act) act by ≡ None) × Does s t act reply cs) (λ reply cs so. (no_key (bad_part act) (bad_field (is_via_in s act) act by) none, so)) (does s t act)))
 
 -- by whom an act is accepted: by nobody with a number, by a client that has none yet, or with a number above the one that is kept
 pub data IsNewer (clients : List Kept) : Option By → Type 0 where

@@ -3,7 +3,7 @@ use Rattle.std.proofs.Common.{Bool, List, None, Option, Some, [], arith, false, 
 use Rattle.std.proofs.lemmas.Bool.Decides.{nat_tests}
 use Rattle.std.proofs.lemmas.List.{length-append}
 use Rattle.std.specs.Prelude.{codes, if◌then◌else◌}
-use Rattle.sb_laws.proofs.Consistency.{first_none, then_none}
+use Rattle.sb_laws.proofs.Consistency.{first_none, passed}
 use Rattle.sb_laws.proofs.Eachs.{each_found, each_implied}
 use Rattle.sb_laws.proofs.Ordering.{HasPoints, way_points}
 use Rattle.sb_laws.proofs.PlacedCalls.{placed_way}
@@ -16,7 +16,7 @@ use Rattle.sb_machine.specs.Acts.{is_via_in}
 use Rattle.sb_machine.specs.Changes.{after, after_all, is_numbered, is_transaction}
 use Rattle.sb_machine.specs.Consistent.{IsReply, IsStepReply}
 use Rattle.sb_machine.specs.Each.{Each}
-use Rattle.sb_machine.specs.Fields.{are_set_once, bad_in_act, bad_in_entity, bad_in_steps, bad_in_together, first_some, is_between, max_messages, max_steps, unless}
+use Rattle.sb_machine.specs.Fields.{are_set_once, bad_in_act, bad_in_entity, bad_in_steps, bad_in_together, bad_in_whole, is_between, max_messages, max_steps, unless}
 use Rattle.sb_machine.specs.Names.{is_same_entity}
 use Rattle.sb_machine.specs.Namespace.{entity_of, listed}
 use Rattle.sb_machine.specs.Queueing.{transaction_of, txn_life}
@@ -127,8 +127,9 @@ united_reply t s path steps reply cs points placed good numbers u = subst IsRepl
 
   most : length steps ≤ max_steps
   most =
-      let front = first_none (bad_in_entity path) (first_some (unless (is_between 1 max_steps (length steps) && are_set_once steps) (codes "operations")) (bad_in_steps steps)) good in
-      between (length steps) (are_set_once steps) (then_none (is_between 1 max_steps (length steps) && are_set_once steps) (codes "operations") (bad_in_steps steps) front.1).0
+      let front = first_none (bad_in_whole path steps) (bad_in_steps steps) good in
+      let tests = first_none (bad_in_entity path) (unless (is_between 1 max_steps (length steps) && are_set_once steps) (codes "operations")) front.0 in
+      between (length steps) (are_set_once steps) (passed (is_between 1 max_steps (length steps) && are_set_once steps) (codes "operations") tests.1)
     where
       between : (n : ℕ) (b : Bool) → (is_between 1 max_steps n && b) ≡ true → n ≤ max_steps
       between n b e = grind (arith, nat_tests)

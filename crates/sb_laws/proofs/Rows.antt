@@ -5,6 +5,7 @@ use Rattle.sb_machine.specs.Administration.{read_or}
 use Rattle.sb_machine.specs.Changes.{after_all, is_numbered}
 use Rattle.sb_machine.specs.Names.{is_address}
 use Rattle.sb_machine.specs.Namespace.{entity_at, live}
+use Rattle.sb_machine.specs.Parts.{at_part}
 use Rattle.sb_machine.specs.Rows.{Row, absent_or, answers, asks, at_entity, at_receivable, found_or, is_beyond, is_receivable, numbered, refused_by, refuses, within_quota}
 use Rattle.sb_machine.specs.Together.{behind, filling, then_row, unqueued}
 use Rattle.sb_machine.specs.declared.call.Path.{Path}
@@ -83,6 +84,6 @@ module _ {R : Refusal → Type 0} where
   of_then t s (refuses r) next (refused_so h) later = refused_so h
   of_then {P = P} t s (answers reply cs) next (answered_so h) later = of_behind {P = P} cs (next (after_all t cs s)) (later reply cs h)
 
-  pub of_filling : {P Q : Reply → List Change → Type 0} (t : ℕ) (s : Space) (row : Row) (next : Space → Row) → Of R Q row → ((reply : Reply) (cs : List Change) → Q reply cs → Of R (λ told ds. P told (unqueued cs ++ ds)) (next (after_all t cs s))) → Of R P (filling t s row next)
-  of_filling t s (refuses r) next (refused_so h) later = refused_so h
-  of_filling {P = P} t s (answers reply cs) next (answered_so h) later = of_behind {P = P} (unqueued cs) (next (after_all t cs s)) (later reply cs h)
+  pub of_filling : {P Q : Reply → List Change → Type 0} (i t : ℕ) (s : Space) (row : Row) (next : Space → Row) → ((r : Refusal) → R r → R (at_part i r)) → Of R Q row → ((reply : Reply) (cs : List Change) → Q reply cs → Of R (λ told ds. P told (unqueued cs ++ ds)) (next (after_all t cs s))) → Of R P (filling i t s row next)
+  of_filling i t s (refuses r) next of_part (refused_so h) later = refused_so (of_part r h)
+  of_filling {P = P} i t s (answers reply cs) next of_part (answered_so h) later = of_behind {P = P} (unqueued cs) (next (after_all t cs s)) (later reply cs h)

@@ -16,7 +16,7 @@ use Rattle.sb_laws.specs.InTurn.{act_of, filled_by, stands_for}
 use Rattle.sb_machine.specs.Acts.{is_via_in}
 use Rattle.sb_machine.specs.Changes.{after, after_all, is_numbered, is_transaction, max_number, numbers_given, numbers_in, with_operation}
 use Rattle.sb_machine.specs.Each.{Each}
-use Rattle.sb_machine.specs.Fields.{are_set_once, bad_in_act, bad_in_by, bad_in_entity, bad_in_how, bad_in_id, bad_in_messages, bad_in_step, bad_in_steps, bad_in_together, bad_in_which, first_some, is_between, is_between_or_none, is_number, max_messages, max_steps, unless}
+use Rattle.sb_machine.specs.Fields.{are_set_once, bad_in_act, bad_in_by, bad_in_entity, bad_in_how, bad_in_id, bad_in_messages, bad_in_step, bad_in_steps, bad_in_together, bad_in_which, bad_in_whole, first_some, is_between, is_between_or_none, is_number, max_messages, max_steps, unless}
 use Rattle.sb_machine.specs.Keyed.{changed}
 use Rattle.sb_machine.specs.Namespace.{made}
 use Rattle.sb_machine.specs.Ordered.{IsActInOrder, IsStepInOrder}
@@ -267,8 +267,8 @@ module _ (s : Space) (t : ℕ) where
 
       pub parts : (bad_in_entity path ≡ None) × (bad_in_steps steps ≡ None)
       parts =
-          let front = first_none (bad_in_entity path) (first_some (unless (is_between 1 max_steps (length steps) && are_set_once steps) (codes "operations")) (bad_in_steps steps)) good in
-          (front.0, (then_none (is_between 1 max_steps (length steps) && are_set_once steps) (codes "operations") (bad_in_steps steps) front.1).1)
+          let front = first_none (bad_in_whole path steps) (bad_in_steps steps) good in
+          ((first_none (bad_in_entity path) (unless (is_between 1 max_steps (length steps) && are_set_once steps) (codes "operations")) front.0).0, front.1)
 
       united_led : Led s t (Together path steps) cs
       united_led = record {

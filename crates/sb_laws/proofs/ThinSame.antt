@@ -12,7 +12,7 @@ use Rattle.sb_machine.specs.Answers.{answer_in, is_change, keeping, moment_of, s
 use Rattle.sb_machine.specs.Changes.{after_all}
 use Rattle.sb_machine.specs.Due.{is_due, tick_changes}
 use Rattle.sb_machine.specs.Events.{after_event, replayed, thin_act, thin_call, thinned}
-use Rattle.sb_machine.specs.Fields.{bad_field}
+use Rattle.sb_machine.specs.Fields.{bad_field, bad_part}
 use Rattle.sb_machine.specs.History.{IsAllowed, IsLegal, IsLegalFrom, Log, after_entries, after_entry, fresh_log, is_fault, state_after}
 use Rattle.sb_machine.specs.Repeats.{Outcome, acted, client_of, forgot, kept_for, of_answer, of_row, outcome_of, refused, repeated, with_clients}
 use Rattle.sb_machine.specs.Rows.{Row, answers, refuses}
@@ -64,7 +64,7 @@ outcome_thin a s t call reply cs like is =
     let told = told_row s t call reply cs is in
     let row = accepted_so s.space t call.by call.act told.answer cs told.row_is in
     let moves : Moves (act_row s.space t (thin_act reply call.act)) cs = subst (λ (act : Act). Moves (act_row s.space t act) cs) (same_thin s.clients call.act told.answer reply cs told.told) (row_thin s.space t call.act told.answer cs row.row) in
-    let goes : row_of s.space t call.by (thin_act reply call.act) ≡ answers moves.reply cs = row_goes s.space t (bad_field (is_via_in s.space (thin_act reply call.act)) (thin_act reply call.act) call.by) (act_row s.space t (thin_act reply call.act)) moves.reply cs (fields_thin s.space reply call.act call.by row.fields) moves.is row.numbers in
+    let goes : row_of s.space t call.by (thin_act reply call.act) ≡ answers moves.reply cs = row_goes s.space t (bad_part (thin_act reply call.act)) (bad_field (is_via_in s.space (thin_act reply call.act)) (thin_act reply call.act) call.by) (act_row s.space t (thin_act reply call.act)) moves.reply cs (fields_thin s.space reply call.act call.by row.fields) moves.is row.numbers in
     let there : row_of a.space t call.by (thin_act reply call.act) ≡ answers moves.reply cs = subst (λ (p : Space). row_of p t call.by (thin_act reply call.act) ≡ answers moves.reply cs) (sym like.space) goes in
     let newer : IsNewer a.clients (client_of (thin reply call)) = subst (IsNewer a.clients) (sym (same_client reply call)) (newer_alike a.clients s.clients (client_of call) like.clients (by (subst (Comes s t call) is (comes s t call)))) in
     let acts = acts_also a.clients s.clients call.act told.answer moves.reply reply cs told.told in

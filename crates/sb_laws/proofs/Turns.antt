@@ -9,7 +9,7 @@ use Rattle.sb_laws.proofs.Ways.{NoFault}
 use Rattle.sb_laws.specs.InTurn.{act_of, behind_acts, behind_row, filled_by, stands_for}
 use Rattle.sb_machine.specs.Acts.{act_row, is_via_in, row_of}
 use Rattle.sb_machine.specs.Changes.{after, after_all, is_numbered}
-use Rattle.sb_machine.specs.Fields.{bad_field, bad_in_act, bad_in_by, bad_in_step, bad_in_steps, bad_in_together, is_number}
+use Rattle.sb_machine.specs.Fields.{bad_field, bad_part, bad_in_act, bad_in_by, bad_in_step, bad_in_steps, bad_in_together, is_number}
 use Rattle.sb_machine.specs.Queueing.{txn_life}
 use Rattle.sb_machine.specs.Rows.{Row, answers}
 use Rattle.sb_machine.specs.Together.{together_row}
@@ -26,7 +26,7 @@ use Rattle.sb_machine.specs.declared.state.Space.{Space}
 
 -- a call without a client comes to what its act's row says
 call_row : (s : Space) (t : ℕ) (act : Act) (reply : Reply) (cs : List Change) → bad_in_act (is_via_in s act) act ≡ None → is_numbered t cs s ≡ true → act_row s t act ≡ answers reply cs → row_of s t None act ≡ answers reply cs
-call_row s t act reply cs good numbers is = row_goes s t (bad_field (is_via_in s act) act None) (act_row s t act) reply cs (rw good refl) is numbers
+call_row s t act reply cs good numbers is = row_goes s t (bad_part act) (bad_field (is_via_in s act) act None) (act_row s t act) reply cs (rw good refl) is numbers
 
 -- behind operations that were accepted one behind another, the acts that follow find what they left
 fills_behind : (t n : ℕ) (more : List Act) (xs : List Step) (s : Space) (cs ds : List Change) (later : Space) → is_number n ≡ true → bad_in_steps xs ≡ None → is_numbered t (cs ++ ds) s ≡ true → Fills t n xs s cs later

@@ -1,6 +1,7 @@
 -- Operations that act together: a begin, each operation in the transaction, and the commit, one behind another.
 use Rattle.std.proofs.Common.{Bool, List, None, Option, Some, [], ap, append_assoc, false, find, is_none, length, nat_le, nat_lt, not, refl, subst, sym, true, ℕ, ◌&&◌, ◌++◌, ◌+◌, ◌==◌, ◌||◌, ◌∙◌, ◌∷◌, ◌≡◌}
 use Rattle.std.proofs.lemmas.List.Elements.{filter-append}
+use Rattle.std.specs.List.{position}
 use Rattle.std.specs.Prelude.{if◌then◌else◌, is_some, option_map, sum_by}
 use Rattle.sb_laws.proofs.Calm.{IsCalm, commit_calm}
 use Rattle.sb_laws.proofs.Eachs.{is_equal}
@@ -20,6 +21,7 @@ use Rattle.sb_machine.specs.Fields.{Key, bad_in_messages}
 use Rattle.sb_machine.specs.Leases.{held_session, is_living, is_named, leased}
 use Rattle.sb_machine.specs.Names.{is_address, is_same_entity, is_same_option}
 use Rattle.sb_machine.specs.Namespace.{entity_at, entity_of, leaf_of}
+use Rattle.sb_machine.specs.Parts.{at_part, at_part_or_whole}
 use Rattle.sb_machine.specs.Queueing.{has_room_in, is_open, max_operations, open_in, transaction_of, txn_life}
 use Rattle.sb_machine.specs.Rows.{Row, answers, asks, refuses}
 use Rattle.sb_machine.specs.SendRow.{have_sessions_at, is_destination, is_via, queued_send, send_row, sent_or_queued}
@@ -27,7 +29,7 @@ use Rattle.sb_machine.specs.Sending.{too_large}
 use Rattle.sb_machine.specs.Sessions.{held_or, max_state, session_set_row, size_of}
 use Rattle.sb_machine.specs.SettleRow.{is_on, pending, pending_in, settle_found, settle_row}
 use Rattle.sb_machine.specs.Settlement.{goes_with}
-use Rattle.sb_machine.specs.Together.{are_addressed, commit_steps, committed_receipts, fitting, large_steps, step_replies, step_row, step_weight, steps_row, together_row, unqueued, with_replies, is_queueing}
+use Rattle.sb_machine.specs.Together.{are_addressed, commit_steps, committed_receipts, fitting, large_steps, step_path, step_replies, step_row, step_weight, steps_row, together_row, unaddressed, unqueued, with_replies, is_queueing}
 use Rattle.sb_machine.specs.Transactions.{aborted_by, begin_row, commit_changes, commit_row, committed, is_lost, max_transactions, operation_changes}
 use Rattle.sb_machine.specs.declared.call.Act.{Act}
 use Rattle.sb_machine.specs.declared.call.Act.TheVariants.{Begin, Commit, Send, SessionSet, Settle, Together}
@@ -44,6 +46,7 @@ use Rattle.sb_machine.specs.declared.change.Change.TheVariants.{Begins, Drops, I
 use Rattle.sb_machine.specs.declared.change.LeafChange.TheVariants.{Writes}
 use Rattle.sb_machine.specs.declared.change.LeafKey.{LeafKey}
 use Rattle.sb_machine.specs.declared.reply.Refusal.{Refusal}
+use Rattle.sb_machine.specs.declared.reply.Refusal.TheVariants as refused
 use Rattle.sb_machine.specs.declared.reply.Refusal.TheVariants.{BadCall, BadName, EntityNotFound, SessionNotAllowed, SessionRequired, TooLarge, TxnFull, TxnNotFound, TxnScope, TxnsFull, WrongKind}
 use Rattle.sb_machine.specs.declared.reply.Reply.{Reply}
 use Rattle.sb_machine.specs.declared.reply.Reply.TheVariants.{Aborted, Begun, Committed, Done, Together as Told}
@@ -256,6 +259,45 @@ module _ (s : Space) (t n : ℕ) where
   commit_so : Of NoFault (IsCommitted s t n) (commit_row s t n)
   commit_so = implied _ (IsCommitted s t n) (λ reply cs h. record { way = h.0.0; row = h.0.1; calmly = h.1.0; ending = h.1.1 }) (of_both (commit_row s t n) (of_itself (commit_row s t n) (accepts s t (Commit n) refl)) commit_ends)
 
+-- ---- which operation is refused
+
+-- the refusal of one of them is no more a fault than it is alone
+pub part_no_fault : (i : ℕ) (r : Refusal) → NoFault r → NoFault (at_part i r)
+part_no_fault i (refused.BadCall key) h = refl
+part_no_fault i refused.EntityNotFound h = refl
+part_no_fault i refused.EntityExists h = h
+part_no_fault i refused.BadName h = refl
+part_no_fault i (refused.BadDescription field) h = h
+part_no_fault i (refused.BadFilter at) h = h
+part_no_fault i refused.WrongKind h = refl
+part_no_fault i (refused.TooLarge size) h = refl
+part_no_fault i (refused.QuotaExceeded copies adds) h = h
+part_no_fault i refused.SessionRequired h = refl
+part_no_fault i refused.SessionNotAllowed h = refl
+part_no_fault i (refused.SessionHeld until) h = h
+part_no_fault i refused.SessionLost h = refl
+part_no_fault i refused.LockLost h = refl
+part_no_fault i refused.NotDeferred h = h
+part_no_fault i refused.NotScheduled h = h
+part_no_fault i refused.TxnNotFound h = h
+part_no_fault i (refused.TxnPending txn) h = refl
+part_no_fault i refused.TxnScope h = refl
+part_no_fault i refused.TxnFull h = refl
+part_no_fault i (refused.StaleNumber kept) h = h
+part_no_fault i refused.NumberReused h = h
+part_no_fault i refused.ClientsFull h = h
+part_no_fault i refused.ClientNotFound h = h
+part_no_fault i refused.TxnsFull h = h
+part_no_fault i refused.Exhausted h = h
+part_no_fault i (refused.InPart part why) h = h
+part_no_fault i refused.DiskFault h = h
+part_no_fault i (refused.Stopped faults) h = h
+part_no_fault i refused.OutOfMemory h = h
+
+whole_no_fault : (part : Option ℕ) → NoFault (at_part_or_whole part BadName)
+whole_no_fault None = refl
+whole_no_fault (Some i) = refl
+
 -- ---- one behind another
 
 of_replied : {R : Refusal → Type 0} {P : Reply → List Change → Type 0} (replies : List StepReply) (row : Row) → Of R P row → Of R (λ reply cs. (answer : Reply) × P answer cs × (reply ≡ told_as replies answer)) (with_replies replies row)
@@ -264,11 +306,11 @@ of_replied replies (answers Committed cs) (answered_so h) = answered_so (Committ
 of_replied replies (answers reply cs) (answered_so h) = answered_so (reply, h, refl)
 
 module _ (t n : ℕ) (path : Path) (all : List Step) where
-  steps_so : (xs : List Step) (s : Space) → Of NoFault (Filled t n all xs s) (steps_row t path n (commit_steps t n all) xs s)
-  steps_so [] s =
+  steps_so : (xs : List Step) (i : ℕ) (s : Space) → Of NoFault (Filled t n all xs s) (steps_row i t path n (commit_steps t n all) xs s)
+  steps_so [] i s =
       let replies = step_replies all (committed_receipts s t (transaction_of n s)) in
       implied _ (Filled t n all [] s) (λ reply cs h. record { filled = []; later = s; fills = fills_none; answer = h.0; done = cs; commits = h.1; changes = refl; reply_is = h.2 }) (of_replied replies (commit_row s t n) (commit_so s t n))
-  steps_so (x ∷ xs) s = of_filling {P = Filled t n all (x ∷ xs) s} t s (step_row t path n x s) (steps_row t path n (commit_steps t n all) xs) (step_so s t n path x) (λ reply cs h.
+  steps_so (x ∷ xs) i s = of_filling {P = Filled t n all (x ∷ xs) s} i t s (step_row t path n x s) (steps_row (i + 1) t path n (commit_steps t n all) xs) (part_no_fault i) (step_so s t n path x) (λ reply cs h.
       implied (Filled t n all xs (after_all t cs s)) (λ told ds. Filled t n all (x ∷ xs) s told (unqueued cs ++ ds)) (λ told ds f. record {
         filled = cs ++ f.filled;
         later = f.later;
@@ -278,7 +320,7 @@ module _ (t n : ℕ) (path : Path) (all : List Step) where
         commits = f.commits;
         changes = ap (λ (l : List Change). unqueued cs ++ l) f.changes ∙ sym (append_assoc (unqueued cs) (unqueued f.filled) f.done) ∙ ap (λ (l : List Change). l ++ f.done) (sym (filter-append (λ c. not (is_queueing c)) cs f.filled));
         reply_is = f.reply_is;
-      }) (steps_so xs (after_all t cs s)))
+      }) (steps_so xs (i + 1) (after_all t cs s)))
 
 module _ (s : Space) (t : ℕ) where
   data IsBegun (path : Path) : Reply → List Change → Type 0 where
@@ -293,15 +335,15 @@ module _ (s : Space) (t : ℕ) where
     n = s.last_txn + 1
 
     next : Space → Row
-    next now = fitting steps (steps_row t path (s.last_txn + 1) (commit_steps t (s.last_txn + 1) steps) steps now)
+    next now = fitting steps (steps_row 0 t path (s.last_txn + 1) (commit_steps t (s.last_txn + 1) steps) steps now)
 
     filled : (reply : Reply) (cs : List Change) → IsBegun path reply cs × (begin_row s t path ≡ answers reply cs) → Of NoFault (λ told ds. Unites s t path steps told (cs ++ ds)) (next (after_all t cs s))
     filled _ _ (begun e way, is) =
-        asked (are_addressed steps) BadName _ refl (λ named.
+        asked (are_addressed steps) (unaddressed steps) _ (whole_no_fault (position (λ x. not (is_address (step_path x))) steps)) (λ named.
         asked (nat_le (sum_by step_weight steps) max_operations) TxnFull _ refl (λ few.
         refusing (option_map (λ size. TooLarge size) (large_steps steps)) _ (large s t (large_steps steps)) (λ small.
         implied _ (λ told ds. Unites s t path steps told (Begins e.about.number (t + txn_life) ∷ ds)) (λ told ds f. record { entity = e; way = way; row = is; behind_it = ds; filled = f; changes = refl })
-        (steps_so t (s.last_txn + 1) path steps steps (after t (Begins e.about.number (t + txn_life)) s)))))
+        (steps_so t (s.last_txn + 1) path steps steps 0 (after t (Begins e.about.number (t + txn_life)) s)))))
 
   -- an act is refused by no fault, or accepted
   pub does : (act : Act) → Of NoFault (Does s t act) (act_row s t act)

@@ -9,6 +9,7 @@ use Rattle.sb_machine.specs.Keyed.{AreRising}
 use Rattle.sb_machine.specs.Leases.{leased}
 use Rattle.sb_machine.specs.Names.{is_address, is_same_entity}
 use Rattle.sb_machine.specs.Namespace.{entity_at, leaf_of}
+use Rattle.sb_machine.specs.Parts.{at_part}
 use Rattle.sb_machine.specs.Queueing.{has_room, queueing, txn_life}
 use Rattle.sb_machine.specs.Rows.{Row, refuses, answers, asks, refused_by, at_entity, at_receivable, within_quota}
 use Rattle.sb_machine.specs.SendRow.{have_sessions_at, is_destination, queued_send}
@@ -88,10 +89,10 @@ operations_in [] = []
 operations_in (Queues txn deadline operation ∷ cs) = operation ∷ operations_in cs
 operations_in (c ∷ cs) = operations_in cs
 
--- each behind those before it, and then what is done with the operations that are queued and with the other changes
-abbrev pub read_steps : Space → ℕ → Path → Entity → List Operation → List Change → List Step → (List Operation → List Change → Row) → Row
-read_steps s t path e os cs [] last = last os cs
-read_steps s t path e os cs (x ∷ xs) last = elim (read_step s t path e os x) [ refuses r ↦ refuses r | answers reply ds ↦ read_steps s t path e (os ++ operations_in ds) (cs ++ unqueued ds) xs last ]
+-- each from this place on behind those before it, and then what is done with the operations that are queued and with the other changes
+abbrev pub read_steps : ℕ → Space → ℕ → Path → Entity → List Operation → List Change → List Step → (List Operation → List Change → Row) → Row
+read_steps i s t path e os cs [] last = last os cs
+read_steps i s t path e os cs (x ∷ xs) last = elim (read_step s t path e os x) [ refuses r ↦ refuses (at_part i r) | answers reply ds ↦ read_steps (i + 1) s t path e (os ++ operations_in ds) (cs ++ unqueued ds) xs last ]
 
 -- the changes before the operations act: those so far, and the transaction goes
 abbrev pub read_front : Space → List Change → List Change
@@ -110,7 +111,7 @@ read_commit s t e steps os cs =
 abbrev pub gathered_row : Space → ℕ → Path → List Step → Row
 gathered_row s t path steps =
     at_entity s path (λ e. asks (nat_lt (length s.transactions) max_transactions) TxnsFull
-    (fitting steps (read_steps s t path e [] (Begins e.about.number (t + txn_life) ∷ []) steps (read_commit s t e steps))))
+    (fitting steps (read_steps 0 s t path e [] (Begins e.about.number (t + txn_life) ∷ []) steps (read_commit s t e steps))))
 
 -- what acts together may be judged in the namespace as it is read, where entities and transactions stand in order of their numbers and no session is
 -- set twice

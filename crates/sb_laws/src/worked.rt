@@ -40,7 +40,8 @@ ghost use Rattle.sb_machine.specs.declared.call.Event.TheVariants.{Called, Tick}
 ghost use Rattle.sb_machine.specs.declared.history.Entry.TheVariants.{Ticked};
 ghost use Rattle.sb_machine.specs.declared.reply.Answered.TheVariants.{New};
 ghost use Rattle.sb_machine.specs.declared.reply.Receipt.TheVariants.{Number};
-ghost use Rattle.sb_machine.specs.declared.reply.Refusal.TheVariants.{LockLost, TxnScope};
+ghost use Rattle.sb_machine.specs.declared.reply.PartRefusal.TheVariants as why;
+ghost use Rattle.sb_machine.specs.declared.reply.Refusal.TheVariants.{InPart};
 ghost use Rattle.sb_machine.specs.declared.reply.Reply.TheVariants.{Together};
 ghost use Rattle.sb_machine.specs.declared.reply.StepReply.TheVariants.{Done, Sent};
 
@@ -90,12 +91,12 @@ pub fn worked_failures()
 
 /// A message is completed, another sent on and a session set together: what each is answered, and the
 /// namespace that comes of them, as of a transaction. Then a lock is lost, and an operation is another
-/// entity's: both are refused, and leave all as it was.
+/// entity's: both are refused, with the operation's place, and leave all as it was.
 pub fn worked_together()
     ensures replies { drop 5 (answers_in (history united_script)) ≡ Ok (New (Together (Done ∷ Sent (Number 1 ∷ []) ∷ Done ∷ []))) ∷ [] }
     ensures in_turn { (state_by united_script).space ≡ (state_by turns_script).space }
-    ensures lost { drop 6 (answers_in (history lost_script)) ≡ Err LockLost ∷ [] }
-    ensures scope { drop 6 (answers_in (history scope_script)) ≡ Err TxnScope ∷ [] }
+    ensures lost { drop 6 (answers_in (history lost_script)) ≡ Err (InPart 1 why.LockLost) ∷ [] }
+    ensures scope { drop 6 (answers_in (history scope_script)) ≡ Err (InPart 1 why.TxnScope) ∷ [] }
     ensures left { state_by lost_script ≡ state_by united_script }
     ensures kept { state_by scope_script ≡ state_by united_script }
 {}

@@ -41,13 +41,15 @@ use Rattle.sb_machine.specs.declared.reply.Reply.{Reply}
 use Rattle.sb_machine.specs.declared.reply.Reply.TheVariants.{Done, Sent, Message, Empty, Copies, Expired, Session, Renewed, State, Begun, Queued, Committed, Aborted, Together, Counts, Seen}
 use Rattle.sb_machine.specs.declared.reply.StepReply.{StepReply}
 use Rattle.sb_machine.specs.declared.reply.StepReply.TheVariants.{Done as StepDone, Sent as StepSent}
+use Rattle.sb_machine.specs.declared.reply.PartRefusal.{PartRefusal}
+use Rattle.sb_machine.specs.declared.reply.PartRefusal.TheVariants as why
 use Rattle.sb_machine.specs.declared.reply.Refusal.{Refusal}
-use Rattle.sb_machine.specs.declared.reply.Refusal.TheVariants.{BadCall, EntityNotFound, EntityExists, BadName, BadDescription, BadFilter, WrongKind, TooLarge, QuotaExceeded, SessionRequired, SessionNotAllowed, SessionHeld, SessionLost, LockLost, NotDeferred, NotScheduled, TxnNotFound, TxnPending, TxnScope, TxnFull, StaleNumber, NumberReused, ClientsFull, ClientNotFound, TxnsFull, Exhausted, DiskFault, Stopped, OutOfMemory}
+use Rattle.sb_machine.specs.declared.reply.Refusal.TheVariants.{BadCall, EntityNotFound, EntityExists, BadName, BadDescription, BadFilter, WrongKind, TooLarge, QuotaExceeded, SessionRequired, SessionNotAllowed, SessionHeld, SessionLost, LockLost, NotDeferred, NotScheduled, TxnNotFound, TxnPending, TxnScope, TxnFull, StaleNumber, NumberReused, ClientsFull, ClientNotFound, TxnsFull, Exhausted, InPart, DiskFault, Stopped, OutOfMemory}
 use Rattle.sb_lines.specs.declared.form.Form.{Form}
 use Rattle.sb_lines.specs.declared.form.Form.TheVariants.{Plain, Amqp}
 use Rattle.sb_lines.specs.Shown.{state_name, property_data, with_properties, with_texts, with_bytes, with_ttl, with_schedule, with_showing, common_members, copy_members, amqp_bytes, plain_data, amqp_data, shown_data}
 use Rattle.sb_lines.specs.Tokens.{token_text}
-use Rattle.sb_lines.specs.Refusals.{refusal_data, with_string}
+use Rattle.sb_lines.specs.Refusals.{of_part, refusal_data, with_string}
 use Rattle.sb_lines.specs.Replies.{said, receipt_data, step_data, with_state, described_data, seen_data, reply_data, answer_data}
 use Rattle.sb_lines.specs.Views.{number_or_null, with_truth, number_if, string_if, entity_or_null, part_data, entity_data, entities_data, lease_members, with_forwards, queue_members, topic_members, subscription_members, description_data, forward_if, conditions_data, with_filter, rule_data, rules_data, session_data, sessions_data, transaction_data, transactions_data, clients_data}
 
@@ -279,6 +281,20 @@ reply_whole form (Together replies) = neither _ _ (steps_whole replies) refl
 reply_whole form (Counts main dead transfer) = refl
 reply_whole form (Seen view) = seen_whole view
 
+refused_part_whole : (part : ℕ) (reason : PartRefusal) → has_float (of_part part reason) ≡ false
+refused_part_whole part (why.BadCall key) = refl
+refused_part_whole part why.EntityNotFound = refl
+refused_part_whole part why.BadName = refl
+refused_part_whole part why.WrongKind = refl
+refused_part_whole part (why.TooLarge size) = refl
+refused_part_whole part why.SessionRequired = refl
+refused_part_whole part why.SessionNotAllowed = refl
+refused_part_whole part why.SessionLost = refl
+refused_part_whole part why.LockLost = refl
+refused_part_whole part (why.TxnPending txn) = refl
+refused_part_whole part why.TxnScope = refl
+refused_part_whole part why.TxnFull = refl
+
 refusal_whole : (r : Refusal) → has_float (refusal_data r) ≡ false
 refusal_whole (BadCall key) = refl
 refusal_whole EntityNotFound = refl
@@ -306,6 +322,7 @@ refusal_whole ClientsFull = refl
 refusal_whole ClientNotFound = refl
 refusal_whole TxnsFull = refl
 refusal_whole Exhausted = refl
+refusal_whole (InPart part reason) = refused_part_whole part reason
 refusal_whole DiskFault = refl
 refusal_whole (Stopped faults) = refl
 refusal_whole OutOfMemory = refl

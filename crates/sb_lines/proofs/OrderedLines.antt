@@ -1,5 +1,5 @@
 -- The lists of a call that a line spells stand in their order.
-use Rattle.std.proofs.Common.{◌≡◌, ℕ, Bool, true, false, List, [], ◌∷◌, Option, Some, None, refl, subst}
+use Rattle.std.proofs.Common.{◌≡◌, ℕ, ◌+◌, Bool, true, false, List, [], ◌∷◌, Option, Some, None, refl, subst}
 use Rattle.std.specs.Prelude.{codes, bytes_eq, if◌then◌else◌, nat_lt, Result, Ok, Err}
 use Rattle.std.specs.Str.{str_to_ascii_lowercase}
 use Rattle.serde_json.specs.Data.{Data, Items, no_items, item, Members, no_members, member}
@@ -31,7 +31,8 @@ use Rattle.sb_lines.specs.declared.texts.Nulls.TheVariants.{Wrong}
 use Rattle.sb_model.specs.Effects.{with_user}
 use Rattle.std.specs.Prelude.{IfOk}
 use Rattle.sb_lines.specs.declared.fault.LineFault.{LineFault}
-use Rattle.sb_lines.specs.Faults.{Answers, or_key, none_or_key, then_by}
+use Rattle.sb_lines.specs.declared.fault.LineFault.TheVariants.{BadKey, OutOfMemory}
+use Rattle.sb_lines.specs.Faults.{Answers, or_key, none_or_key, then_by, at_place}
 use Rattle.sb_lines.specs.Fields.{unknown_key, text_at, hex_at}
 use Rattle.sb_lines.specs.Descriptions.{queue_fields, topic_fields, subscription_fields}
 use Rattle.sb_lines.specs.Tables.{Field, text, name, address, entity, token, whole, number, mode, nothing, ◌and◌, optional, first_or_second, object_of}
@@ -156,7 +157,7 @@ amqp_holds d = found_holds (hex_at msg.amqp_key d) where
   found_holds None = tt
   found_holds (Some bytes) = one_holds (message_in bytes) (read_in_order bytes)
 
-whole_holds : (r : Result Message (List ℕ)) → Holds IsInOrder r → Holds IsInOrder (or_key msg.amqp_key (result_ok r))
+whole_holds : (r : Result Message LineFault) → Holds IsInOrder r → Holds IsInOrder (or_key msg.amqp_key (result_ok r))
 whole_holds (Ok m) holds = holds
 whole_holds (Err key) holds = tt
 
@@ -170,7 +171,7 @@ sent_holds d = by_key (get msg.amqp_key d) where
 message_holds : (d : Data) → Holds IsInOrder (msg.message_of d)
 message_holds d = known_holds IsInOrder (or_key (codes "messages") (as_object d)) (λ _. object_of msg.sent_fields d) (λ _. object_holds IsInOrder msg.sent_fields d (sent_holds d))
 
-pub before_holds : {T : Type 0} (P : T → Type 0) (x : T) (r : Result (List T) (List ℕ)) → P x → Holds (Each P) r → Holds (Each P) (msg.before_those (x ∷ []) r)
+pub before_holds : {T : Type 0} (P : T → Type 0) (x : T) (r : Result (List T) LineFault) → P x → Holds (Each P) r → Holds (Each P) (msg.before_those (x ∷ []) r)
 before_holds P x (Ok xs) one all = (one, all)
 before_holds P x (Err key) one all = tt
 
@@ -185,7 +186,7 @@ messages_at_hold key d = known_holds (Each IsInOrder) (or_key key (option_and_th
 -- ---- one of several
 
 -- whichever a test takes
-one_holds : {T : Type 0} (P : T → Type 0) (b : Bool) (x y : Result T (List ℕ)) → Holds P x → Holds P y → Holds P (if b then x else y)
+one_holds : {T : Type 0} (P : T → Type 0) (b : Bool) (x y : Result T LineFault) → Holds P x → Holds P y → Holds P (if b then x else y)
 one_holds P true x y one two = one
 one_holds P false x y one two = two
 
@@ -220,24 +221,31 @@ session_set_step_holds d = bare_step lines.remembered (λ x. step.SessionSet x.0
 step_named_holds : (word : List ℕ) (d : Data) → Holds IsStepInOrder (lines.step_named word d)
 unfolding lines.step_named
 step_named_holds word d =
-    one_holds IsStepInOrder (bytes_eq word (codes "send")) (lines.send_step d) (if bytes_eq word (codes "complete") then lines.settle_step Complete d else (if bytes_eq word (codes "abandon") then lines.settle_step Abandon d else (if bytes_eq word (codes "defer") then lines.settle_step Defer d else (if bytes_eq word (codes "dead-letter") then lines.dead_letter_step d else (if bytes_eq word (codes "session-set") then lines.session_set_step d else (Err (codes "operations"))))))) (send_step_holds d) (
-    one_holds IsStepInOrder (bytes_eq word (codes "complete")) (lines.settle_step Complete d) (if bytes_eq word (codes "abandon") then lines.settle_step Abandon d else (if bytes_eq word (codes "defer") then lines.settle_step Defer d else (if bytes_eq word (codes "dead-letter") then lines.dead_letter_step d else (if bytes_eq word (codes "session-set") then lines.session_set_step d else (Err (codes "operations")))))) (settle_step_holds Complete d) (
-    one_holds IsStepInOrder (bytes_eq word (codes "abandon")) (lines.settle_step Abandon d) (if bytes_eq word (codes "defer") then lines.settle_step Defer d else (if bytes_eq word (codes "dead-letter") then lines.dead_letter_step d else (if bytes_eq word (codes "session-set") then lines.session_set_step d else (Err (codes "operations"))))) (settle_step_holds Abandon d) (
-    one_holds IsStepInOrder (bytes_eq word (codes "defer")) (lines.settle_step Defer d) (if bytes_eq word (codes "dead-letter") then lines.dead_letter_step d else (if bytes_eq word (codes "session-set") then lines.session_set_step d else (Err (codes "operations")))) (settle_step_holds Defer d) (
-    one_holds IsStepInOrder (bytes_eq word (codes "dead-letter")) (lines.dead_letter_step d) (if bytes_eq word (codes "session-set") then lines.session_set_step d else (Err (codes "operations"))) (dead_letter_step_holds d) (
-    one_holds IsStepInOrder (bytes_eq word (codes "session-set")) (lines.session_set_step d) (Err (codes "operations")) (session_set_step_holds d) (
+    one_holds IsStepInOrder (bytes_eq word (codes "send")) (lines.send_step d) (if bytes_eq word (codes "complete") then lines.settle_step Complete d else (if bytes_eq word (codes "abandon") then lines.settle_step Abandon d else (if bytes_eq word (codes "defer") then lines.settle_step Defer d else (if bytes_eq word (codes "dead-letter") then lines.dead_letter_step d else (if bytes_eq word (codes "session-set") then lines.session_set_step d else (Err (BadKey None (codes "operations")))))))) (send_step_holds d) (
+    one_holds IsStepInOrder (bytes_eq word (codes "complete")) (lines.settle_step Complete d) (if bytes_eq word (codes "abandon") then lines.settle_step Abandon d else (if bytes_eq word (codes "defer") then lines.settle_step Defer d else (if bytes_eq word (codes "dead-letter") then lines.dead_letter_step d else (if bytes_eq word (codes "session-set") then lines.session_set_step d else (Err (BadKey None (codes "operations"))))))) (settle_step_holds Complete d) (
+    one_holds IsStepInOrder (bytes_eq word (codes "abandon")) (lines.settle_step Abandon d) (if bytes_eq word (codes "defer") then lines.settle_step Defer d else (if bytes_eq word (codes "dead-letter") then lines.dead_letter_step d else (if bytes_eq word (codes "session-set") then lines.session_set_step d else (Err (BadKey None (codes "operations")))))) (settle_step_holds Abandon d) (
+    one_holds IsStepInOrder (bytes_eq word (codes "defer")) (lines.settle_step Defer d) (if bytes_eq word (codes "dead-letter") then lines.dead_letter_step d else (if bytes_eq word (codes "session-set") then lines.session_set_step d else (Err (BadKey None (codes "operations"))))) (settle_step_holds Defer d) (
+    one_holds IsStepInOrder (bytes_eq word (codes "dead-letter")) (lines.dead_letter_step d) (if bytes_eq word (codes "session-set") then lines.session_set_step d else (Err (BadKey None (codes "operations")))) (dead_letter_step_holds d) (
+    one_holds IsStepInOrder (bytes_eq word (codes "session-set")) (lines.session_set_step d) (Err (BadKey None (codes "operations"))) (session_set_step_holds d) (
     tt))))))
 
 step_holds : (d : Data) → Holds IsStepInOrder (lines.step_of d)
 step_holds d = known_holds IsStepInOrder (or_key (codes "operations") (text_at (codes "do") d)) (λ word. lines.step_named word d) (λ word. step_named_holds word d)
 
-steps_hold : (ds : Items) → Holds (Each IsStepInOrder) (lines.steps_of ds)
-steps_hold no_items = tt
-steps_hold (item d ds) = then_holds IsStepInOrder (Each IsStepInOrder) (lines.step_of d) (λ x. msg.before_those (x ∷ []) (lines.steps_of ds)) (step_holds d) (λ x is. before_holds IsStepInOrder x (lines.steps_of ds) is (steps_hold ds))
+placed_holds : {T : Type 0} (P : T → Type 0) (i : ℕ) (r : Result T LineFault) → Holds P r → Holds P (at_place i r)
+placed_holds P i (Ok x) holds = holds
+placed_holds P i (Err (BadKey part key)) holds = tt
+placed_holds P i (Err OutOfMemory) holds = tt
+
+steps_hold : (i : ℕ) (ds : Items) → Holds (Each IsStepInOrder) (lines.steps_of i ds)
+steps_hold i no_items = tt
+steps_hold i (item d ds) =
+    then_holds IsStepInOrder (Each IsStepInOrder) (at_place i (lines.step_of d)) (λ x. msg.before_those (x ∷ []) (lines.steps_of (i + 1) ds)) (placed_holds IsStepInOrder i (lines.step_of d) (step_holds d)) (λ x is.
+    before_holds IsStepInOrder x (lines.steps_of (i + 1) ds) is (steps_hold (i + 1) ds))
 
 operations_hold : (d : Data) → Holds (Each IsStepInOrder) (lines.operations.reads d)
 unfolding lines.operations
-operations_hold d = known_holds (Each IsStepInOrder) (or_key (codes "operations") (option_and_then as_array (get (codes "operations") d))) lines.steps_of steps_hold
+operations_hold d = known_holds (Each IsStepInOrder) (or_key (codes "operations") (option_and_then as_array (get (codes "operations") d))) (lines.steps_of 0) (steps_hold 0)
 
 -- ---- filters
 
@@ -259,7 +267,7 @@ abbrev IsOrdered : Option (Either (List ℕ) Conditions) → Type 0
 IsOrdered None = Unit {0}
 IsOrdered (Some e) = IsFilterInOrder (lines.filter_of e)
 
-either_holds : (other : List ℕ) (one two : Option Data) (a : Result (List ℕ) (List ℕ)) (b : Result Conditions (List ℕ)) → Holds AreConditions b → Holds IsOrdered (first_or_second other one two a b)
+either_holds : (other : List ℕ) (one two : Option Data) (a : Result (List ℕ) LineFault) (b : Result Conditions LineFault) → Holds AreConditions b → Holds IsOrdered (first_or_second other one two a b)
 either_holds other None None a b holds = tt
 either_holds other (Some d) two (Err key) b holds = tt
 either_holds other (Some d) None (Ok x) b holds = tt
@@ -267,7 +275,7 @@ either_holds other (Some d) (Some e) (Ok x) b holds = tt
 either_holds other None (Some d) a (Err key) holds = tt
 either_holds other None (Some d) a (Ok y) holds = holds
 
-chosen_holds : (key : List ℕ) (r : Result (Option (Either (List ℕ) Conditions)) (List ℕ)) → Holds IsOrdered r → Holds IsFilterInOrder (then_by (then_by r (or_key key)) (λ x. Ok (lines.filter_of x)))
+chosen_holds : (key : List ℕ) (r : Result (Option (Either (List ℕ) Conditions)) LineFault) → Holds IsOrdered r → Holds IsFilterInOrder (then_by (then_by r (or_key key)) (λ x. Ok (lines.filter_of x)))
 chosen_holds key (Err k) holds = tt
 chosen_holds key (Ok None) holds = tt
 chosen_holds key (Ok (Some e)) holds = holds
@@ -446,22 +454,22 @@ create_rule_holds d =
 
 -- ---- lines
 
-either_act : (b : Bool) (x y : Result Act (List ℕ)) → Holds IsActInOrder x → Holds IsActInOrder y → Holds IsActInOrder (if b then x else y)
+either_act : (b : Bool) (x y : Result Act LineFault) → Holds IsActInOrder x → Holds IsActInOrder y → Holds IsActInOrder (if b then x else y)
 either_act b x y one two = one_holds IsActInOrder b x y one two
 
 pub alone_holds : (d : Data) → Holds IsActInOrder (lines.together_of d)
 alone_holds d =
     known_holds IsActInOrder (or_key (codes "do") (text_at (codes "do") d)) (λ word. lines.together_named word d) (λ word.
-    either_act (bytes_eq word (codes "together")) (lines.together_alone d) (Err (codes "do")) (together_alone_holds d) tt)
+    either_act (bytes_eq word (codes "together")) (lines.together_alone d) (Err (BadKey None (codes "do"))) (together_alone_holds d) tt)
 
 look_act_holds : (word : List ℕ) (d : Data) → Holds IsActInOrder (lines.look_act word d)
 unfolding lines.look_act
 look_act_holds word d =
-    either_act (bytes_eq word (codes "list")) (lines.list d) (if bytes_eq word (codes "describe") then lines.describe d else (if bytes_eq word (codes "sessions") then lines.sessions d else (if bytes_eq word (codes "transactions") then lines.transactions d else (if bytes_eq word (codes "clients") then lines.clients d else (Err (codes "do")))))) (list_holds d) (
-    either_act (bytes_eq word (codes "describe")) (lines.describe d) (if bytes_eq word (codes "sessions") then lines.sessions d else (if bytes_eq word (codes "transactions") then lines.transactions d else (if bytes_eq word (codes "clients") then lines.clients d else (Err (codes "do"))))) (describe_holds d) (
-    either_act (bytes_eq word (codes "sessions")) (lines.sessions d) (if bytes_eq word (codes "transactions") then lines.transactions d else (if bytes_eq word (codes "clients") then lines.clients d else (Err (codes "do")))) (sessions_hold d) (
-    either_act (bytes_eq word (codes "transactions")) (lines.transactions d) (if bytes_eq word (codes "clients") then lines.clients d else (Err (codes "do"))) (transactions_hold d) (
-    either_act (bytes_eq word (codes "clients")) (lines.clients d) (Err (codes "do")) (clients_hold d) (
+    either_act (bytes_eq word (codes "list")) (lines.list d) (if bytes_eq word (codes "describe") then lines.describe d else (if bytes_eq word (codes "sessions") then lines.sessions d else (if bytes_eq word (codes "transactions") then lines.transactions d else (if bytes_eq word (codes "clients") then lines.clients d else (Err (BadKey None (codes "do"))))))) (list_holds d) (
+    either_act (bytes_eq word (codes "describe")) (lines.describe d) (if bytes_eq word (codes "sessions") then lines.sessions d else (if bytes_eq word (codes "transactions") then lines.transactions d else (if bytes_eq word (codes "clients") then lines.clients d else (Err (BadKey None (codes "do")))))) (describe_holds d) (
+    either_act (bytes_eq word (codes "sessions")) (lines.sessions d) (if bytes_eq word (codes "transactions") then lines.transactions d else (if bytes_eq word (codes "clients") then lines.clients d else (Err (BadKey None (codes "do"))))) (sessions_hold d) (
+    either_act (bytes_eq word (codes "transactions")) (lines.transactions d) (if bytes_eq word (codes "clients") then lines.clients d else (Err (BadKey None (codes "do")))) (transactions_hold d) (
+    either_act (bytes_eq word (codes "clients")) (lines.clients d) (Err (BadKey None (codes "do"))) (clients_hold d) (
     tt)))))
 
 transaction_act_holds : (word : List ℕ) (d : Data) → Holds IsActInOrder (lines.transaction_act word d)

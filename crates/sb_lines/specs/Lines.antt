@@ -1,5 +1,5 @@
 -- Which line spells which call, and which key is at fault in a line that spells none.
-use Rattle.std.specs.Prelude.{ℕ, List, [], ◌∷◌, Bool, true, false, not, ◌||◌, if◌then◌else◌, codes, bytes_eq, Option, Some, None, option_and_then, Result, Ok, Err}
+use Rattle.std.specs.Prelude.{ℕ, ◌+◌, List, [], ◌∷◌, Bool, true, false, not, ◌||◌, if◌then◌else◌, codes, bytes_eq, Option, Some, None, option_and_then, Result, Ok, Err}
 use Rattle.serde_json.specs.Data.{Data, Items, no_items, item}
 use Rattle.serde_json.specs.Read.{read}
 use Rattle.serde_json.specs.Find.{get, as_str, as_array, as_object}
@@ -18,12 +18,14 @@ use Rattle.sb_machine.specs.declared.call.Which.{Which}
 use Rattle.sb_machine.specs.declared.call.Which.TheVariants.{Number, Id}
 use Rattle.sb_machine.specs.declared.look.Look.TheVariants as look
 use Rattle.sb_machine.specs.declared.rule.Conditions.{Conditions}
+use Rattle.sb_lines.specs.declared.fault.LineFault.{LineFault}
+use Rattle.sb_lines.specs.declared.fault.LineFault.TheVariants.{BadKey}
 use Rattle.sb_lines.specs.declared.form.Form.{Form}
 use Rattle.sb_lines.specs.declared.line.Line.{Line}
 use Rattle.sb_lines.specs.declared.table.Either.{Either}
 use Rattle.sb_lines.specs.declared.table.Either.TheVariants.{First, Second}
 use Rattle.sb_lines.specs.Descriptions.{queue_fields, topic_fields, subscription_fields}
-use Rattle.sb_lines.specs.Faults.{or_key, then_by}
+use Rattle.sb_lines.specs.Faults.{or_key, then_by, at_place}
 use Rattle.sb_lines.specs.Fields.{text_at, whole_in, number_in, or_default}
 use Rattle.sb_lines.specs.Messages.{before_those, messages, conditions, bytes}
 use Rattle.sb_lines.specs.Tables.{Field, address, entity, name, text, token, whole, number, mode, form, wait, nothing, ◌and◌, optional, one_of, made, object_of}
@@ -79,27 +81,27 @@ abbrev pub in_step : {A : Type 0} → Field A → Field A
 in_step f = record { knows = λ k. bytes_eq k (codes "do") || f.knows k; reads = f.reads }
 
 -- the operation that these fields make, of an object that has no other keys
-abbrev pub step_row : {P : Type 0} → Field P → (P → Step) → Data → Result Step (List ℕ)
+abbrev pub step_row : {P : Type 0} → Field P → (P → Step) → Data → Result Step LineFault
 step_row f make d = then_by (object_of (in_step f) d) (λ x. Ok (make x))
 
 -- messages are sent
-unfoldable pub send_step : Data → Result Step (List ℕ)
+unfoldable pub send_step : Data → Result Step LineFault
 send_step = step_row (address (codes "to") and messages (codes "messages")) (λ x. step.Send x.0 x.1)
 
 -- complete, abandon, defer
-unfoldable pub settle_step : How → Data → Result Step (List ℕ)
+unfoldable pub settle_step : How → Data → Result Step LineFault
 settle_step how = step_row (settled nothing) (λ x. step.Settle x.0 x.1.0 x.1.1.0 x.1.1.1.0 how)
 
 -- a message is dead-lettered, with a reason and a description or without
-unfoldable pub dead_letter_step : Data → Result Step (List ℕ)
+unfoldable pub dead_letter_step : Data → Result Step LineFault
 dead_letter_step = step_row (settled reasons) (λ x. step.Settle x.0 x.1.0 x.1.1.0 x.1.1.1.0 (DeadLetter x.1.1.1.1.0 x.1.1.1.1.1))
 
 -- a session's state is written, or removed where neither key stands
-unfoldable pub session_set_step : Data → Result Step (List ℕ)
+unfoldable pub session_set_step : Data → Result Step LineFault
 session_set_step = step_row remembered (λ x. step.SessionSet x.0 x.1.0 x.1.1)
 
 -- the operation of a word, and its fields; no other act is one
-unfoldable pub step_named : List ℕ → Data → Result Step (List ℕ)
+unfoldable pub step_named : List ℕ → Data → Result Step LineFault
 step_named word d =
     if bytes_eq word (codes "send") then send_step d
     else if bytes_eq word (codes "complete") then settle_step Complete d
@@ -107,20 +109,20 @@ step_named word d =
     else if bytes_eq word (codes "defer") then settle_step Defer d
     else if bytes_eq word (codes "dead-letter") then dead_letter_step d
     else if bytes_eq word (codes "session-set") then session_set_step d
-    else Err (codes "operations")
+    else Err (BadKey None (codes "operations"))
 
 -- an operation is an object with its word
-abbrev pub step_of : Data → Result Step (List ℕ)
+abbrev pub step_of : Data → Result Step LineFault
 step_of d = then_by (or_key (codes "operations") (text_at (codes "do") d)) (λ word. step_named word d)
 
--- each in turn, or the first key at fault
-abbrev pub steps_of : Items → Result (List Step) (List ℕ)
-steps_of no_items = Ok []
-steps_of (item d ds) = then_by (step_of d) (λ x. before_those (x ∷ []) (steps_of ds))
+-- each in turn, of which the first is at this place, or the first key at fault and where it is
+abbrev pub steps_of : ℕ → Items → Result (List Step) LineFault
+steps_of i no_items = Ok []
+steps_of i (item d ds) = then_by (at_place i (step_of d)) (λ x. before_those (x ∷ []) (steps_of (i + 1) ds))
 
 -- a list of operations
 unfoldable pub operations : Field (List Step)
-operations = record { knows = λ k. bytes_eq k (codes "operations"); reads = λ d. then_by (or_key (codes "operations") (option_and_then as_array (get (codes "operations") d))) steps_of }
+operations = record { knows = λ k. bytes_eq k (codes "operations"); reads = λ d. then_by (or_key (codes "operations") (option_and_then as_array (get (codes "operations") d))) (steps_of 0) }
 
 -- ---- the acts
 
@@ -138,91 +140,91 @@ abbrev pub waiting : {A : Type 0} → Field A → Field A
 waiting f = record { knows = λ k. f.knows k || bytes_eq k (codes "wait"); reads = f.reads }
 
 -- the act that these fields make, of an object that has no other keys
-abbrev pub row : {P : Type 0} → Field P → (P → Act) → Data → Result Act (List ℕ)
+abbrev pub row : {P : Type 0} → Field P → (P → Act) → Data → Result Act LineFault
 row f make d = then_by (object_of (in_line f) d) (λ x. Ok (make x))
 
 -- a queue is made
-unfoldable pub create_queue : Data → Result Act (List ℕ)
+unfoldable pub create_queue : Data → Result Act LineFault
 create_queue = row (name (codes "name") and queue_fields) (λ x. act.CreateQueue x.0 x.1)
 
 -- a topic is made
-unfoldable pub create_topic : Data → Result Act (List ℕ)
+unfoldable pub create_topic : Data → Result Act LineFault
 create_topic = row (name (codes "name") and topic_fields) (λ x. act.CreateTopic x.0 x.1)
 
 -- a subscription is made
-unfoldable pub create_subscription : Data → Result Act (List ℕ)
+unfoldable pub create_subscription : Data → Result Act LineFault
 create_subscription = row (name (codes "topic") and name (codes "name") and subscription_fields) (λ x. act.CreateSubscription x.0 x.1.0 x.1.1)
 
 -- a rule is added
-unfoldable pub create_rule : Data → Result Act (List ℕ)
+unfoldable pub create_rule : Data → Result Act LineFault
 create_rule = row (name (codes "topic") and name (codes "subscription") and name (codes "name") and filter and text_if (codes "action")) (λ x. act.CreateRule x.0 x.1.0 x.1.1.0 x.1.1.1.0 x.1.1.1.1)
 
 -- an entity is removed
-unfoldable pub delete : Data → Result Act (List ℕ)
+unfoldable pub delete : Data → Result Act LineFault
 delete = row (entity (codes "entity")) (λ x. act.Delete x)
 
 -- a rule is dropped
-unfoldable pub delete_rule : Data → Result Act (List ℕ)
+unfoldable pub delete_rule : Data → Result Act LineFault
 delete_rule = row (name (codes "topic") and name (codes "subscription") and name (codes "name")) (λ x. act.DeleteRule x.0 x.1.0 x.1.1)
 
 -- messages are sent
-unfoldable pub send : Data → Result Act (List ℕ)
+unfoldable pub send : Data → Result Act LineFault
 send = row (address (codes "to") and messages (codes "messages") and txn_if) (λ x. act.Send x.0 x.1.0 x.1.1)
 
 -- a scheduled message is cancelled
-unfoldable pub cancel : Data → Result Act (List ℕ)
+unfoldable pub cancel : Data → Result Act LineFault
 cancel = row (address (codes "from") and number (codes "seq")) (λ x. act.Cancel x.0 x.1)
 
 -- a message is received
-unfoldable pub receive : Data → Result Act (List ℕ)
+unfoldable pub receive : Data → Result Act LineFault
 receive = row (waiting (shown (address (codes "from") and mode (codes "mode") and session_if))) (λ x. act.Receive x.0 x.1.0 x.1.1)
 
 -- a deferred message is received
-unfoldable pub receive_deferred : Data → Result Act (List ℕ)
+unfoldable pub receive_deferred : Data → Result Act LineFault
 receive_deferred = row (shown (address (codes "from") and number (codes "seq") and mode (codes "mode") and session_if)) (λ x. act.ReceiveDeferred x.0 x.1.0 x.1.1.0 x.1.1.1)
 
 -- complete, abandon, defer
-unfoldable pub settle : How → Data → Result Act (List ℕ)
+unfoldable pub settle : How → Data → Result Act LineFault
 settle how = row (settled txn_if) (λ x. act.Settle x.0 x.1.0 x.1.1.0 x.1.1.1.0 how x.1.1.1.1)
 
 -- a message is dead-lettered, with a reason and a description or without
-unfoldable pub dead_letter : Data → Result Act (List ℕ)
+unfoldable pub dead_letter : Data → Result Act LineFault
 dead_letter = row (settled (txn_if and reasons)) (λ x. act.Settle x.0 x.1.0 x.1.1.0 x.1.1.1.0 (DeadLetter x.1.1.1.1.1.0 x.1.1.1.1.1.1) x.1.1.1.1.0)
 
 -- a message's lock is renewed
-unfoldable pub renew : Data → Result Act (List ℕ)
+unfoldable pub renew : Data → Result Act LineFault
 renew = row (address (codes "from") and which and token (codes "token")) (λ x. act.Renew x.0 x.1.0 x.1.1)
 
 -- a session is accepted, by its id or the next one
-unfoldable pub accept : Data → Result Act (List ℕ)
+unfoldable pub accept : Data → Result Act LineFault
 accept = row (waiting (address (codes "from") and text_if (codes "id"))) (λ x. act.Accept x.0 x.1)
 
 -- a session's lock is renewed
-unfoldable pub session_renew : Data → Result Act (List ℕ)
+unfoldable pub session_renew : Data → Result Act LineFault
 session_renew = row (address (codes "from") and token (codes "session")) (λ x. act.SessionRenew x.0 x.1)
 
 -- a session is closed
-unfoldable pub session_close : Data → Result Act (List ℕ)
+unfoldable pub session_close : Data → Result Act LineFault
 session_close = row (address (codes "from") and token (codes "session")) (λ x. act.SessionClose x.0 x.1)
 
 -- a session's state is written, or removed where neither key stands
-unfoldable pub session_set : Data → Result Act (List ℕ)
+unfoldable pub session_set : Data → Result Act LineFault
 session_set = row remembered (λ x. act.SessionSet x.0 x.1.0 x.1.1)
 
 -- a session's state is read
-unfoldable pub session_state : Data → Result Act (List ℕ)
+unfoldable pub session_state : Data → Result Act LineFault
 session_state = row (address (codes "from") and token (codes "session")) (λ x. act.SessionState x.0 x.1)
 
 -- a transaction is begun
-unfoldable pub begin : Data → Result Act (List ℕ)
+unfoldable pub begin : Data → Result Act LineFault
 begin = row (entity (codes "entity")) (λ x. act.Begin x)
 
 -- a transaction is committed
-unfoldable pub commit : Data → Result Act (List ℕ)
+unfoldable pub commit : Data → Result Act LineFault
 commit = row (number (codes "txn")) (λ x. act.Commit x)
 
 -- a transaction is dropped
-unfoldable pub rollback : Data → Result Act (List ℕ)
+unfoldable pub rollback : Data → Result Act LineFault
 rollback = row (number (codes "txn")) (λ x. act.Rollback x)
 
 -- the entity whose transaction would have them, and the operations
@@ -230,19 +232,19 @@ abbrev pub together_fields : Field (Path × List Step)
 together_fields = entity (codes "entity") and operations
 
 -- operations act together
-unfoldable pub together : Data → Result Act (List ℕ)
+unfoldable pub together : Data → Result Act LineFault
 together = row together_fields (λ x. act.Together x.0 x.1)
 
 -- what is remembered of a client is forgotten
-unfoldable pub forget_client : Data → Result Act (List ℕ)
+unfoldable pub forget_client : Data → Result Act LineFault
 forget_client = row (text (codes "name")) (λ x. act.ForgetClient x)
 
 -- messages are looked at, from a number on
-unfoldable pub peek : Data → Result Act (List ℕ)
+unfoldable pub peek : Data → Result Act LineFault
 peek = row (shown (address (codes "from") and number (codes "start") and whole (codes "count"))) (λ x. act.Peek x.0 x.1.0 x.1.1)
 
 -- messages are counted
-unfoldable pub counts : Data → Result Act (List ℕ)
+unfoldable pub counts : Data → Result Act LineFault
 counts = row (entity (codes "entity")) (λ x. act.Counts x)
 
 -- ---- what an operator looks at
@@ -256,39 +258,39 @@ abbrev pub entity_after : Field (Option Path)
 entity_after = optional (codes "after") (entity (codes "after"))
 
 -- entities are listed
-unfoldable pub list : Data → Result Act (List ℕ)
+unfoldable pub list : Data → Result Act LineFault
 list = row (prefix_if and entity_after and whole (codes "count")) (λ x. act.Look (look.Entities x.0 x.1.0 x.1.1))
 
 -- one entity is described
-unfoldable pub describe : Data → Result Act (List ℕ)
+unfoldable pub describe : Data → Result Act LineFault
 describe = row (entity (codes "entity")) (λ x. act.Look (look.Entity x))
 
 -- the sessions of an entity are listed
-unfoldable pub sessions : Data → Result Act (List ℕ)
+unfoldable pub sessions : Data → Result Act LineFault
 sessions = row (entity (codes "entity") and text_if (codes "after") and whole (codes "count")) (λ x. act.Look (look.Sessions x.0 x.1.0 x.1.1))
 
 -- the open transactions are listed
-unfoldable pub transactions : Data → Result Act (List ℕ)
+unfoldable pub transactions : Data → Result Act LineFault
 transactions = row nothing (λ _. act.Look look.Transactions)
 
 -- the clients that are remembered are listed
-unfoldable pub clients : Data → Result Act (List ℕ)
+unfoldable pub clients : Data → Result Act LineFault
 clients = row (text_if (codes "after") and whole (codes "count")) (λ x. act.Look (look.Clients x.0 x.1))
 
 -- ---- the act of a name, and its fields: those of one kind, else those of the next
 
 -- what an operator looks at
-unfoldable pub look_act : List ℕ → Data → Result Act (List ℕ)
+unfoldable pub look_act : List ℕ → Data → Result Act LineFault
 look_act word d =
     if bytes_eq word (codes "list") then list d
     else if bytes_eq word (codes "describe") then describe d
     else if bytes_eq word (codes "sessions") then sessions d
     else if bytes_eq word (codes "transactions") then transactions d
     else if bytes_eq word (codes "clients") then clients d
-    else Err (codes "do")
+    else Err (BadKey None (codes "do"))
 
 -- transactions, and what is remembered of clients
-unfoldable pub transaction_act : List ℕ → Data → Result Act (List ℕ)
+unfoldable pub transaction_act : List ℕ → Data → Result Act LineFault
 transaction_act word d =
     if bytes_eq word (codes "begin") then begin d
     else if bytes_eq word (codes "commit") then commit d
@@ -298,7 +300,7 @@ transaction_act word d =
     else look_act word d
 
 -- sessions
-unfoldable pub session_act : List ℕ → Data → Result Act (List ℕ)
+unfoldable pub session_act : List ℕ → Data → Result Act LineFault
 session_act word d =
     if bytes_eq word (codes "accept") then accept d
     else if bytes_eq word (codes "session-renew") then session_renew d
@@ -308,7 +310,7 @@ session_act word d =
     else transaction_act word d
 
 -- copies under a lock
-unfoldable pub lock_act : List ℕ → Data → Result Act (List ℕ)
+unfoldable pub lock_act : List ℕ → Data → Result Act LineFault
 lock_act word d =
     if bytes_eq word (codes "complete") then settle Complete d
     else if bytes_eq word (codes "abandon") then settle Abandon d
@@ -318,7 +320,7 @@ lock_act word d =
     else session_act word d
 
 -- messages
-unfoldable pub message_act : List ℕ → Data → Result Act (List ℕ)
+unfoldable pub message_act : List ℕ → Data → Result Act LineFault
 message_act word d =
     if bytes_eq word (codes "send") then send d
     else if bytes_eq word (codes "cancel") then cancel d
@@ -328,7 +330,7 @@ message_act word d =
     else lock_act word d
 
 -- entities and rules
-unfoldable pub act_named : List ℕ → Data → Result Act (List ℕ)
+unfoldable pub act_named : List ℕ → Data → Result Act LineFault
 act_named word d =
     if bytes_eq word (codes "create-queue") then create_queue d
     else if bytes_eq word (codes "create-topic") then create_topic d
@@ -342,28 +344,28 @@ act_named word d =
 -- ---- the line
 
 -- the reading of the clock; absent counts as 0
-unfoldable pub reading_of : Data → Result ℕ (List ℕ)
+unfoldable pub reading_of : Data → Result ℕ LineFault
 reading_of d = or_default (codes "at") 0 whole_in (get (codes "at") d)
 
 -- a client's name and its call's number, the name's fault first
-abbrev pub named_by : Data → Option Data → Result By (List ℕ)
+abbrev pub named_by : Data → Option Data → Result By LineFault
 named_by client number =
     then_by (or_key (codes "client") (as_str client)) (λ name.
     then_by (or_key (codes "number") (option_and_then number_in number)) (λ n. Ok (record { client = name; number = n })))
 
 -- Both or neither, and neither on an act that takes no number.
-abbrev pub by_from : Bool → Option Data → Option Data → Result (Option By) (List ℕ)
+abbrev pub by_from : Bool → Option Data → Option Data → Result (Option By) LineFault
 by_from takes None None = Ok None
-by_from takes None (Some n) = Err (codes "client")
-by_from false (Some c) n = Err (codes "client")
+by_from takes None (Some n) = Err (BadKey None (codes "client"))
+by_from false (Some c) n = Err (BadKey None (codes "client"))
 by_from true (Some c) n = then_by (named_by c n) (λ by. Ok (Some by))
 
 -- the same of an object's keys
-abbrev pub by_of : Bool → Data → Result (Option By) (List ℕ)
+abbrev pub by_of : Bool → Data → Result (Option By) LineFault
 by_of takes d = by_from takes (get (codes "client") d) (get (codes "number") d)
 
 -- what stands beside the act: when it is asked for, and by whom
-unfoldable pub beside : Bool → Data → Result (ℕ × Option By) (List ℕ)
+unfoldable pub beside : Bool → Data → Result (ℕ × Option By) LineFault
 beside takes d = then_by (reading_of d) (λ reading. then_by (by_of takes d) (λ by. Ok (reading, by)))
 
 -- whether an act of this name is what an operator looks at
@@ -380,7 +382,7 @@ abbrev pub manner : Field (Form × ℕ)
 manner = form (codes "form") and wait (codes "wait")
 
 -- these, then what stands beside the act; a key that the act has not is at fault before them
-abbrev pub formed : Bool → Data → Result ((Form × ℕ) × (ℕ × Option By)) (List ℕ)
+abbrev pub formed : Bool → Data → Result ((Form × ℕ) × (ℕ × Option By)) LineFault
 formed takes d = then_by (manner.reads d) (λ m. then_by (beside takes d) (λ x. Ok (m, x)))
 
 -- an act with what stands beside it
@@ -388,11 +390,11 @@ abbrev pub line_with : Act → (Form × ℕ) × (ℕ × Option By) → Line
 line_with a x = record { timed = record { reading = x.1.0; call = record { by = x.1.1; act = a } }; form = x.0.0; wait_s = x.0.1 }
 
 -- the act's name first, then the keys that it has not, then its fields, then what stands beside them
-unfoldable pub named_call : List ℕ → Data → Result Line (List ℕ)
+unfoldable pub named_call : List ℕ → Data → Result Line LineFault
 named_call word d = then_by (act_named word d) (λ a. then_by (formed (is_numbered word) d) (λ x. Ok (line_with a x)))
 
 -- what an object asks for, by its word
-abbrev pub call_of : Data → Result Line (List ℕ)
+abbrev pub call_of : Data → Result Line LineFault
 call_of d = then_by (or_key (codes "do") (text_at (codes "do") d)) (λ word. named_call word d)
 
 -- this, if it is an object
@@ -400,19 +402,19 @@ abbrev pub object_itself : Data → Option Data
 object_itself d = option_and_then (λ _. Some d) (as_object d)
 
 -- the call that this text spells, with the form of its reply and how long it waits, or the key at fault, which is empty where the text is no object
-abbrev pub line_of : List ℕ → Result Line (List ℕ)
+abbrev pub line_of : List ℕ → Result Line LineFault
 line_of text = then_by (or_key [] (option_and_then object_itself (read text))) call_of
 
 -- ---- operations that act together, by an object that has nothing beside their act: a request of HTTP says the rest in its head
 
 -- the act of an object that has its word, and no keys beside those of its fields
-unfoldable pub together_alone : Data → Result Act (List ℕ)
+unfoldable pub together_alone : Data → Result Act LineFault
 together_alone d = then_by (object_of (in_step together_fields) d) (λ x. Ok (act.Together x.0 x.1))
 
 -- no other act is asked for so
-abbrev pub together_named : List ℕ → Data → Result Act (List ℕ)
-together_named word d = if bytes_eq word (codes "together") then together_alone d else Err (codes "do")
+abbrev pub together_named : List ℕ → Data → Result Act LineFault
+together_named word d = if bytes_eq word (codes "together") then together_alone d else Err (BadKey None (codes "do"))
 
 -- what an object asks for, by its word
-abbrev pub together_of : Data → Result Act (List ℕ)
+abbrev pub together_of : Data → Result Act LineFault
 together_of d = then_by (or_key (codes "do") (text_at (codes "do") d)) (λ word. together_named word d)

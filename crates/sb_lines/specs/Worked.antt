@@ -1,5 +1,5 @@
 -- Lines that were worked out by hand.
-use Rattle.std.specs.Prelude.{ℕ, pos, List, [], ◌∷◌, false, true, codes, Some, None, Result, Ok}
+use Rattle.std.specs.Prelude.{ℕ, pos, List, [], ◌∷◌, false, true, codes, Some, None, Result, Ok, Err}
 use Rattle.sb_machine.specs.declared.call.Act.{Act}
 use Rattle.sb_machine.specs.declared.call.Act.TheVariants.{CreateRule, Receive, Accept, Together, ForgetClient, Look as LookAt}
 use Rattle.sb_machine.specs.declared.call.FilterText.TheVariants.{Sql, Correlation}
@@ -17,7 +17,9 @@ use Rattle.sb_machine.specs.declared.look.TransactionShown.{TransactionShown}
 use Rattle.sb_machine.specs.declared.look.View.{View}
 use Rattle.sb_machine.specs.declared.look.View.TheVariants as seen
 use Rattle.sb_machine.specs.declared.reply.Answered.TheVariants.{New}
+use Rattle.sb_machine.specs.declared.reply.PartRefusal.{PartRefusal}
 use Rattle.sb_machine.specs.declared.reply.Receipt.TheVariants.{Number, Duplicate}
+use Rattle.sb_machine.specs.declared.reply.Refusal.TheVariants.{InPart}
 use Rattle.sb_machine.specs.declared.reply.Reply.TheVariants.{Seen, Together as Told}
 use Rattle.sb_machine.specs.declared.reply.StepReply.{StepReply}
 use Rattle.sb_machine.specs.declared.reply.StepReply.TheVariants.{Done, Sent}
@@ -26,6 +28,7 @@ use Rattle.sb_machine.specs.declared.state.EntityKind.TheVariants.{Queue, Subscr
 use Rattle.sb_machine.specs.Namespace.{default_description, entity_path, subscription_path}
 use Rattle.sb_model.specs.declared.message.PropertyValue.TheVariants.{Int, Bool as Truth}
 use Rattle.sb_model.specs.declared.message.SystemName.TheVariants.{Label, To}
+use Rattle.sb_lines.specs.declared.fault.LineFault.{LineFault}
 use Rattle.sb_lines.specs.declared.form.Form.{Form}
 use Rattle.sb_lines.specs.declared.form.Form.TheVariants.{Plain}
 use Rattle.sb_lines.specs.declared.line.Line.{Line}
@@ -36,21 +39,21 @@ abbrev pub q : Path
 q = record { name = codes "q"; subscription = None; part = Main }
 
 -- this act of nobody at 0, with a reply in this form, which waits so many s
-abbrev pub asks_for : Act → Form → ℕ → Result Line (List ℕ)
+abbrev pub asks_for : Act → Form → ℕ → Result Line LineFault
 asks_for act form wait_s = Ok (record { timed = record { reading = 0; call = record { by = None; act = act } }; form = form; wait_s = wait_s })
 
 -- a receive under a lock from q, which waits so many s
-abbrev pub receives : Form → ℕ → Result Line (List ℕ)
+abbrev pub receives : Form → ℕ → Result Line LineFault
 receives form wait_s = asks_for (Receive q Lock None) form wait_s
 
 -- the next session of q is asked for
-abbrev pub accepts : ℕ → Result Line (List ℕ)
+abbrev pub accepts : ℕ → Result Line LineFault
 accepts wait_s = asks_for (Accept q None) Plain wait_s
 
 -- ---- what an operator looks at
 
 -- this look, of nobody at 0
-abbrev pub looks_at : Look → Result Line (List ℕ)
+abbrev pub looks_at : Look → Result Line LineFault
 looks_at what = asks_for (LookAt what) Plain 0
 
 -- the subscription eu of the topic news
@@ -89,7 +92,7 @@ abbrev pub correlated : View
 correlated = seen.Entity (record { kind = Subscription; description = default_description; forward_there = false; forward_dead_there = false; rules = record { name = codes "r"; filter = Correlation asked; action = None } ∷ [] })
 
 -- that rule is made
-abbrev pub asks_for_rule : Result Line (List ℕ)
+abbrev pub asks_for_rule : Result Line LineFault
 asks_for_rule = asks_for (CreateRule (codes "t") (codes "s") (codes "r") (Correlation asked) None) Plain 0
 
 -- a session that nobody holds, with two messages
@@ -103,11 +106,11 @@ open_transactions = record { number = 1; entity = Some (entity_path (codes "orde
 -- ---- clients
 
 -- the client shop-7 is forgotten: this is asked by nobody at 0
-abbrev pub forgets : Result Line (List ℕ)
+abbrev pub forgets : Result Line LineFault
 forgets = asks_for (ForgetClient (codes "shop-7")) Plain 0
 
 -- the same at 5, as its third call asked by the client ops
-abbrev pub ops_forgets : Result Line (List ℕ)
+abbrev pub ops_forgets : Result Line LineFault
 ops_forgets = Ok (record { timed = record { reading = 5; call = record { by = Some (record { client = codes "ops"; number = 3 }); act = ForgetClient (codes "shop-7") } }; form = Plain; wait_s = 0 })
 
 -- two clients that are remembered
@@ -121,7 +124,7 @@ abbrev pub sends_nothing : Step
 sends_nothing = Send q []
 
 -- these act together on q: this is asked by nobody at 0
-abbrev pub acts_together : List Step → Result Line (List ℕ)
+abbrev pub acts_together : List Step → Result Line LineFault
 acts_together steps = asks_for (Together q steps) Plain 0
 
 -- a settlement, a send of two messages of which the second is a duplicate, and a send of none
@@ -137,3 +140,7 @@ line_of_view view = answer_line Plain (Ok (New (Seen view)))
 -- the line that tells what became of operations that acted together
 abbrev pub line_of_replies : List StepReply → List ℕ
 line_of_replies replies = answer_line Plain (Ok (New (Told replies)))
+
+-- the line that tells which of operations that act together is refused, and why
+abbrev pub line_of_part : ℕ → PartRefusal → List ℕ
+line_of_part part reason = answer_line Plain (Err (InPart part reason))

@@ -1,7 +1,7 @@
 // Operations that act together, each by the fields of its act.
 ghost use Rattle.std.specs.Prelude.{◌≡◌};
 ghost use Rattle.serde_json.specs.View.{view, items_view};
-ghost use Rattle.sb_lines.specs.Faults.{Answers};
+ghost use Rattle.sb_lines.specs.Faults.{Answers, at_place};
 ghost use Rattle.sb_lines.specs.Lines as lines;
 
 use crate::fault::{LineFault, bad};
@@ -105,12 +105,26 @@ fn step_of(alloc: Global, value: &Value) -> Result<Step, LineFault>
     step_named(alloc, value, word)
 }
 
+// The same at this place among those that act together.
+fn step_at(alloc: Global, part: usize, value: &Value) -> Result<Step, LineFault>
+    ensures { Answers result (at_place part (lines.step_of (view value.now))) }
+{
+    match step_of(alloc, value) {
+        Ok(step) => Ok(step),
+        Err(LineFault::BadKey { key, .. }) => Err(LineFault::BadKey {
+            part: Some(part as u64),
+            key,
+        }),
+        Err(LineFault::OutOfMemory) => Err(LineFault::OutOfMemory),
+    }
+}
+
 fn steps_of(alloc: Global, values: &[Value]) -> Result<Rows<Step>, LineFault>
-    ensures { Answers result (lines.steps_of (items_view values.now)) }
+    ensures { Answers result (lines.steps_of 0 (items_view values.now)) }
 {
     let mut list = Vec::new(alloc);
     for value in values {
-        let step = step_of(alloc, value)?;
+        let step = step_at(alloc, list.len(), value)?;
         list.push(step)?;
     }
     Ok(Rows::from_vec(list))
@@ -163,7 +177,7 @@ fn together_named(alloc: Global, value: &Value, word: &str) -> Result<Act, LineF
 /// beside an act (`at`, `client`, `number`): a request of HTTP says these in its head.
 ///
 /// Else the first key at fault: `do` where its word is none or another, then the unknown keys in byte order, then `entity`,
-/// then the operations, in their order.
+/// then the operations, in their order. A key at fault in one of them tells that operation's place, too.
 pub fn together_of(alloc: Global, value: &Value) -> Result<Act, LineFault>
     ensures { Answers result (lines.together_of (view value.now)) }
 {

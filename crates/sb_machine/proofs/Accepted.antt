@@ -10,7 +10,7 @@ use Rattle.sb_machine.specs.Claims.{has_sessions}
 use Rattle.sb_machine.specs.Consistent.{IsConsistent}
 use Rattle.sb_machine.specs.Descriptions.{bad_in_description}
 use Rattle.sb_machine.specs.Each.{is_read}
-use Rattle.sb_machine.specs.Fields.{Key, bad_field, takes_number}
+use Rattle.sb_machine.specs.Fields.{Key, bad_field, bad_part, takes_number}
 use Rattle.sb_machine.specs.Leases.{held_session}
 use Rattle.sb_machine.specs.Messages.{large_size}
 use Rattle.sb_machine.specs.Delivery.{in_part}
@@ -26,7 +26,7 @@ use Rattle.sb_machine.specs.Queueing.{open_in, is_open, has_room_in, max_operati
 use Rattle.sb_machine.specs.SendRow.{send_row, is_via, is_destination, have_sessions_at, sent_or_queued}
 use Rattle.sb_machine.specs.Sending.{too_large}
 use Rattle.sb_machine.specs.Sessions.{held_or, session_state_row, session_set_row, size_of, max_state}
-use Rattle.sb_machine.specs.Together.{are_addressed, behind, commit_steps, fitting, large_steps, step_weight, steps_row, then_row, together_row}
+use Rattle.sb_machine.specs.Together.{are_addressed, behind, commit_steps, fitting, large_steps, step_weight, steps_row, then_row, together_row, unaddressed}
 use Rattle.sb_machine.specs.Transactions.{begin_row}
 use Rattle.sb_machine.specs.declared.call.Act.{Act}
 use Rattle.sb_machine.specs.declared.call.Act.TheVariants.{CreateQueue, CreateTopic, CreateSubscription, CreateRule, Delete, DeleteRule, Send, Cancel, Receive, ReceiveDeferred, Settle, Renew, Accept, SessionRenew, SessionClose, SessionSet, SessionState, Begin, Commit, Rollback, Together, ForgetClient, Peek, Counts, Look}
@@ -76,9 +76,9 @@ numbered_changes t s (answers reply []) e = absurd (by_test (is_numbered t [] s)
   by_test false e = absurd cc
 numbered_changes t s (answers reply (c ∷ cs)) e = refl
 
-no_key : (o : Key) → bad_call o ≡ None → o ≡ None
-no_key None e = refl
-no_key (Some key) e = absurd cc
+no_key : (part : Option ℕ) (o : Key) → bad_call part o ≡ None → o ≡ None
+no_key part None e = refl
+no_key part (Some key) e = absurd cc
 
 -- ---- calls with a client's number
 
@@ -295,9 +295,9 @@ none_large (Some size) e = absurd cc
 
 together_tested : (s : Space) (t : ℕ) (entity : Path) (steps : List Step) → Passes is_answer (together_row s t entity steps) → Tested (Together entity steps)
 together_tested s t entity steps e =
-    let last = steps_row t entity (s.last_txn + 1) (commit_steps t (s.last_txn + 1) steps) steps in
+    let last = steps_row 0 t entity (s.last_txn + 1) (commit_steps t (s.last_txn + 1) steps) steps in
     let begun = then_passed t s (begin_row s t entity) (λ later. fitting steps (last later)) e in
-    let named = asked_by (are_addressed steps) BadName _ begun.1.1 in
+    let named = asked_by (are_addressed steps) (unaddressed steps) _ begun.1.1 in
     let few = asked_by (nat_le (sum_by step_weight steps) max_operations) TxnFull _ named.1 in
     let small = refused_passed is_answer no_answer (option_map (λ size. TooLarge size) (large_steps steps)) (last begun.1.0) few.1 in (
       both_true (is_address entity) (are_addressed steps) (addressed s entity _ begun.0) named.0,
@@ -365,11 +365,12 @@ changing_judged s t call fits order changing =
     let row = row_of s.space t call.by call.act in
     let answered = row_acts s.clients call.act row (client_acts (client_of call) call.act s.clients (of_row s.clients call.act row) (change_acts (client_of call) (outcome_of s t call) changing)) in
     let bad = bad_field (is_via_in s.space call.act) call.act call.by in
-    let tested = refused_passed is_answer no_answer (bad_call bad) (act_row s.space t call.act) (record { is = numbered_answer t s.space (refused_by (bad_call bad) (act_row s.space t call.act)) answered }) in
+    let part = bad_part call.act in
+    let tested = refused_passed is_answer no_answer (bad_call part bad) (act_row s.space t call.act) (record { is = numbered_answer t s.space (refused_by (bad_call part bad) (act_row s.space t call.act)) answered }) in
     let passed = row_tested s.space t call.act tested.1 in
     record {
       coded = coded s t call.by call.act changing;
-      fields = no_key bad tested.0;
+      fields = no_key part bad tested.0;
       names = passed.0;
       described = passed.1;
       sizes = passed.2;

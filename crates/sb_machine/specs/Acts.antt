@@ -1,8 +1,9 @@
 -- What each act (an operation that a caller asks for) comes to, its fields judged first and the numbers that it gives last.
 use Rattle.std.specs.Prelude.{ℕ, Bool, false, [], Option, Some, None}
 use Rattle.sb_machine.specs.Administration.{create_row, create_subscription_row, create_rule_row, delete_row, delete_rule_row, counts_row}
-use Rattle.sb_machine.specs.Fields.{Key, bad_field}
+use Rattle.sb_machine.specs.Fields.{Key, bad_field, bad_part}
 use Rattle.sb_machine.specs.Looks.{look_row}
+use Rattle.sb_machine.specs.Parts.{at_part_or_whole}
 use Rattle.sb_machine.specs.Receiving.{receive_row, receive_deferred_row, cancel_row, peek_row}
 use Rattle.sb_machine.specs.Rows.{Row, answers, refused_by, numbered}
 use Rattle.sb_machine.specs.Sessions.{accept_row, session_renew_row, session_close_row, session_state_row, session_set_row}
@@ -52,10 +53,10 @@ act_row s t (Look what) = look_row s what
 act_row s t (Together entity steps) = together_row s t entity steps
 act_row s t (ForgetClient name) = answers Done []
 
--- the refusal of a call for a field that is outside its range
-abbrev pub bad_call : Key → Option Refusal
-bad_call None = None
-bad_call (Some key) = Some (BadCall key)
+-- the refusal of a call for a field that is outside its range, in the operation at this place, if there is one
+abbrev pub bad_call : Option ℕ → Key → Option Refusal
+bad_call part None = None
+bad_call part (Some key) = Some (at_part_or_whole part (BadCall key))
 
 -- whether an operation is a send by way of another entity, in a transaction that is open
 abbrev pub is_via_in : Space → Act → Bool
@@ -64,4 +65,4 @@ is_via_in s _ = false
 
 -- What an act does at a moment: its fields are judged first, the numbers that it gives last.
 abbrev pub row_of : Space → ℕ → Option By → Act → Row
-row_of s t by act = numbered t s (refused_by (bad_call (bad_field (is_via_in s act) act by)) (act_row s t act))
+row_of s t by act = numbered t s (refused_by (bad_call (bad_part act) (bad_field (is_via_in s act) act by)) (act_row s t act))

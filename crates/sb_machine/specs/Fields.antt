@@ -1,6 +1,6 @@
 -- The first field of a call that is outside its range.
-use Rattle.std.specs.Prelude.{ℕ, ◌==◌, List, [], ◌∷◌, length, Bool, true, false, nat_le, ◌&&◌, ◌||◌, not, if◌then◌else◌, bytes_eq, codes, Option, Some, None, is_none}
-use Rattle.std.specs.List.{list_all, list_any}
+use Rattle.std.specs.Prelude.{ℕ, ◌==◌, List, [], ◌∷◌, length, Bool, true, false, nat_le, ◌&&◌, ◌||◌, not, if◌then◌else◌, bytes_eq, codes, Option, Some, None, is_none, is_some}
+use Rattle.std.specs.List.{list_all, list_any, position}
 use Rattle.std.specs.Str.{chars}
 use Rattle.sb_machine.specs.Changes.{max_number}
 use Rattle.sb_model.specs.Effects.{text_limit, is_within, max_user_properties}
@@ -198,10 +198,18 @@ bad_in_steps (x ∷ xs) = first_some (bad_in_step x) (bad_in_steps xs)
 abbrev pub max_steps : ℕ
 max_steps = 100
 
+-- the first bad field of the whole, before those of each operation
+abbrev pub bad_in_whole : Path → List Step → Key
+bad_in_whole entity steps = first_some (bad_in_entity entity) (unless (is_between 1 max_steps (length steps) && are_set_once steps) (codes "operations"))
+
 -- the first bad field of operations that act together
 abbrev pub bad_in_together : Path → List Step → Key
-bad_in_together entity steps =
-    first_some (bad_in_entity entity) (first_some (unless (is_between 1 max_steps (length steps) && are_set_once steps) (codes "operations")) (bad_in_steps steps))
+bad_in_together entity steps = first_some (bad_in_whole entity steps) (bad_in_steps steps)
+
+-- the place, from 0, of the operation that has the first bad field; none where it is a field of the whole, or none is bad
+abbrev pub bad_part : Act → Option ℕ
+bad_part (Together entity steps) = if is_none (bad_in_whole entity steps) then position (λ x. is_some (bad_in_step x)) steps else None
+bad_part _ = None
 
 -- ---- all acts
 

@@ -1,5 +1,5 @@
 -- The broker as definitions, in the order to read them: Names, Namespace; Leaves, Changes; Rows, Claims, Leases; Visits, Delivery;
--- an operation (Fields, Sending, SendRow, Receiving, Settlement, SettleRow, Sessions, Administration, Transactions, Queueing, Looks, Together; Acts);
+-- an operation (Fields, Sending, SendRow, Receiving, Settlement, SettleRow, Sessions, Administration, Transactions, Queueing, Looks, Parts, Together; Acts);
 -- Due (time); Repeats, Answers, History (all calls); what the laws speak of (Ends, Accounts, Events, Judged, Consistent). The headline is sb_app's.
 pub mod Names
 pub mod Keyed
@@ -25,6 +25,7 @@ pub mod Sessions
 pub mod Queueing
 pub mod SendRow
 pub mod SettleRow
+pub mod Parts
 pub mod Together
 pub mod Transactions
 pub mod Looks

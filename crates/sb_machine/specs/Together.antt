@@ -1,12 +1,13 @@
 -- Operations that act together: what comes of a transaction that is begun, filled with them and committed, all at one moment.
 use Rattle.std.specs.Prelude.{ℕ, ◌+◌, nat_le, not, filter, Bool, true, false, sum_by, length, List, [], ◌∷◌, ◌++◌, if◌then◌else◌, Option, Some, None}
-use Rattle.std.specs.List.{list_all}
+use Rattle.std.specs.List.{list_all, position}
 use Rattle.std.specs.Option.{option_map}
 use Rattle.sb_machine.specs.Changes.{after, after_all}
 use Rattle.sb_machine.specs.Fields.{bad_in_messages}
 use Rattle.sb_machine.specs.Messages.{above, all_bytes, first_size, max_body}
 use Rattle.sb_machine.specs.Names.{is_address, is_same_entity}
 use Rattle.sb_machine.specs.Namespace.{entity_of, last_at, listed}
+use Rattle.sb_machine.specs.Parts.{at_part, at_part_or_whole}
 use Rattle.sb_machine.specs.Queueing.{max_operations, open_in, transaction_of}
 use Rattle.sb_machine.specs.Rows.{Row, refuses, answers, asks, refused_by}
 use Rattle.sb_machine.specs.SendRow.{is_via, send_row}
@@ -50,6 +51,10 @@ step_path (SessionSet from session state) = from
 abbrev pub are_addressed : List Step → Bool
 are_addressed steps = list_all (λ x. is_address (step_path x)) steps
 
+-- the refusal where they aren't, of the first that doesn't
+abbrev pub unaddressed : List Step → Refusal
+unaddressed steps = at_part_or_whole (position (λ x. not (is_address (step_path x))) steps) BadName
+
 -- each message and each settlement counts one, as in a transaction
 abbrev pub step_weight : Step → ℕ
 step_weight (Send to messages) = length messages
@@ -76,10 +81,10 @@ state_bytes _ = 0
 abbrev pub large_steps : List Step → Option ℕ
 large_steps steps = first_size (above max_body (sum_by step_bytes steps)) (above max_state (sum_by state_bytes steps))
 
--- refused where the operations are too many for a transaction, or too large together
+-- refused where one names no address, where the operations are too many for a transaction, or too large together
 abbrev pub fitting : List Step → Row → Row
 fitting steps row =
-    asks (are_addressed steps) BadName (asks (nat_le (sum_by step_weight steps) max_operations) TxnFull
+    asks (are_addressed steps) (unaddressed steps) (asks (nat_le (sum_by step_weight steps) max_operations) TxnFull
     (refused_by (option_map (λ size. TooLarge size) (large_steps steps)) row))
 
 -- ---- acts one behind another at one moment
@@ -114,15 +119,15 @@ is_queueing _ = false
 abbrev pub unqueued : List Change → List Change
 unqueued cs = filter (λ c. not (is_queueing c)) cs
 
--- a row of an operation, and what is done next in the namespace that it leaves
-abbrev pub filling : ℕ → Space → Row → (Space → Row) → Row
-filling t s (refuses r) next = refuses r
-filling t s (answers reply cs) next = behind (unqueued cs) (next (after_all t cs s))
+-- the row of the operation at this place, and what is done next in the namespace that it leaves
+abbrev pub filling : ℕ → ℕ → Space → Row → (Space → Row) → Row
+filling i t s (refuses r) next = refuses (at_part i r)
+filling i t s (answers reply cs) next = behind (unqueued cs) (next (after_all t cs s))
 
--- each operation in the namespace that those before it left, and then the last
-abbrev pub steps_row : ℕ → Path → ℕ → (Space → Row) → List Step → Space → Row
-steps_row t path n last [] s = last s
-steps_row t path n last (x ∷ xs) s = filling t s (step_row t path n x s) (steps_row t path n last xs)
+-- each operation from this place on in the namespace that those before it left, and then the last
+abbrev pub steps_row : ℕ → ℕ → Path → ℕ → (Space → Row) → List Step → Space → Row
+steps_row i t path n last [] s = last s
+steps_row i t path n last (x ∷ xs) s = filling i t s (step_row t path n x s) (steps_row (i + 1) t path n last xs)
 
 -- ---- what each operation is answered
 
@@ -177,4 +182,4 @@ commit_steps t n steps s = with_replies (step_replies steps (committed_receipts 
 
 -- operations that act together
 abbrev pub together_row : Space → ℕ → Path → List Step → Row
-together_row s t path steps = then_row t s (begin_row s t path) (λ begun. fitting steps (steps_row t path (s.last_txn + 1) (commit_steps t (s.last_txn + 1) steps) steps begun))
+together_row s t path steps = then_row t s (begin_row s t path) (λ begun. fitting steps (steps_row 0 t path (s.last_txn + 1) (commit_steps t (s.last_txn + 1) steps) steps begun))

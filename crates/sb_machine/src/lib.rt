@@ -22,6 +22,7 @@ mod directory;
 mod history;
 mod look;
 mod lookups;
+mod parts;
 mod reason;
 mod reply;
 mod rule;
@@ -40,9 +41,11 @@ pub use look::{
     TransactionShown, View,
 };
 pub use lookups::{has_text_of, is_living_holder, text_of};
+pub use parts::{at_part, at_part_or_whole};
 pub use reason::DeadReason;
 pub use reply::{
-    Answer, Answered, CopyShown, CopyState, Receipt, Refusal, Reply, Showing, StepReply,
+    Answer, Answered, CopyShown, CopyState, PartRefusal, Receipt, Refusal, Reply, Showing,
+    StepReply,
 };
 pub use rule::{Condition, Conditions, Effect, Outcome, Rule, RuleFilter};
 pub use state::{

@@ -111,6 +111,31 @@ pub enum Answered {
     Kept(Reply),
 }
 
+/// Why one of the operations that act together is refused: by a test of its own, as a call that asks for it
+/// alone is. The order of the tests is in `docs/ACTS.md`.
+#[derive(Drop)]
+pub enum PartRefusal {
+    /// A field is outside its written form or range.
+    BadCall { key: Text },
+    EntityNotFound,
+    BadName,
+    /// The operation doesn't go with this kind of entity, or with this part of it.
+    WrongKind,
+    /// A size in bytes passed its limit.
+    TooLarge { size: u64 },
+    SessionRequired,
+    SessionNotAllowed,
+    /// The token isn't the living holder of a session there.
+    SessionLost,
+    /// No copy that is named so has that living lock.
+    LockLost,
+    /// A settlement of that lock is queued in this transaction.
+    TxnPending { txn: u64 },
+    /// It is on another entity than the one whose operations act together.
+    TxnScope,
+    TxnFull,
+}
+
 /// Why a call is refused. The order of the tests is in `docs/ACTS.md`.
 #[derive(Drop)]
 pub enum Refusal {
@@ -157,6 +182,8 @@ pub enum Refusal {
     TxnsFull,
     /// A number would pass 2^63 - 1.
     Exhausted,
+    /// Of the operations that act together the one at this place, from 0, is refused.
+    InPart { part: u64, why: PartRefusal },
     /// A disk call failed in this step.
     DiskFault,
     /// An earlier step answered DiskFault; the failed disk's count of faults then.

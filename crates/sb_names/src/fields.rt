@@ -1,8 +1,9 @@
 // The first field of a call that is outside its range.
-ghost use Rattle.std.specs.Prelude.{◌≡◌, ℕ, ◌∷◌, ◌&&◌, ◌||◌, not, length, bytes_eq, codes, is_none, option_map};
+ghost use Rattle.std.specs.Prelude.{◌≡◌, ℕ, ◌∷◌, ◌&&◌, ◌||◌, not, length, bytes_eq, codes, is_none, is_some, option_map, position};
 ghost use Rattle.std.specs.List.{list_all, list_any};
 ghost use Rattle.std.specs.Str.{chars};
 ghost use Rattle.sb_machine.specs.Fields as fields;
+ghost use Rattle.sb_machine.specs.declared.call.Act.TheVariants.{Together};
 ghost use Rattle.sb_machine.specs.declared.look.Look.TheVariants as look;
 ghost use Rattle.sb_model.specs.Effects as effects;
 
@@ -394,17 +395,50 @@ fn bad_in_steps(steps: &[Step]) -> Option<&'static str>
     None
 }
 
-fn bad_in_together(entity: &Path, steps: &[Step]) -> Option<&'static str>
-    ensures { option_map (λ k. k.now) result ≡ fields.bad_in_together entity.now steps.now }
+fn bad_in_whole(entity: &Path, steps: &[Step]) -> Option<&'static str>
+    ensures { option_map (λ k. k.now) result ≡ fields.bad_in_whole entity.now steps.now }
 {
     let bad = bad_in_entity(entity);
     if bad.is_some() {
         return bad;
     }
-    if !are_operations(steps) {
-        return Some("operations");
+    unless(are_operations(steps), "operations")
+}
+
+fn bad_in_together(entity: &Path, steps: &[Step]) -> Option<&'static str>
+    ensures { option_map (λ k. k.now) result ≡ fields.bad_in_together entity.now steps.now }
+{
+    let bad = bad_in_whole(entity, steps);
+    if bad.is_some() {
+        return bad;
     }
     bad_in_steps(steps)
+}
+
+fn place_of_bad(steps: &[Step]) -> Option<usize>
+    ensures { result ≡ position (λ x. is_some (fields.bad_in_step x)) steps.now }
+{
+    steps.iter().position(|step| bad_in_step(step).is_some())
+}
+
+fn bad_part_of(entity: &Path, steps: &[Step]) -> Option<usize>
+    ensures { result ≡ fields.bad_part (Together entity.now steps.now) }
+{
+    if bad_in_whole(entity, steps).is_some() {
+        return None;
+    }
+    place_of_bad(steps)
+}
+
+/// Where the operation stands, from 0, that has the first bad field of what acts together; none where it is a field of
+/// the whole, no field is bad, or the act is another.
+pub fn bad_part(act: &Act) -> Option<usize>
+    ensures { result ≡ fields.bad_part act.now }
+{
+    match act {
+        Act::Together { entity, steps } => bad_part_of(entity, steps.as_slice()),
+        _ => None,
+    }
 }
 
 // ---- all acts

@@ -29,7 +29,7 @@ mod worked;
 pub use address::{is_address, is_main, is_same_entity, read_address};
 pub use description::check_desc;
 pub use fields::{
-    bad_field, bad_in_how, bad_in_messages, bad_in_texts, forgets_itself, takes_number,
+    bad_field, bad_in_how, bad_in_messages, bad_in_texts, bad_part, forgets_itself, takes_number,
 };
 pub use name::{BadName, NameKind, check_name, fold_name, is_name, is_rule_name, is_short_name};
 pub use ranges::{is_between, is_between_or_none, is_client_name, is_id, is_number};
@@ -38,5 +38,5 @@ pub use sizes::{
     conditions_size, large_size, properties_size, property_bytes, property_size, texts_size,
     value_size,
 };
-pub use steps::{are_addressed, are_few, large_steps};
+pub use steps::{are_addressed, are_few, large_steps, unaddressed};
 pub use worked::worked_addresses;

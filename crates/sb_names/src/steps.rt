@@ -1,5 +1,5 @@
 // Operations that act together: whether one transaction holds them.
-ghost use Rattle.std.specs.Prelude.{◌≡◌, nat_le, sum_by, IfOk};
+ghost use Rattle.std.specs.Prelude.{◌≡◌, nat_le, not, position, sum_by, IfOk};
 ghost use Rattle.sb_machine.specs.Names as names;
 ghost use Rattle.sb_machine.specs.Queueing.{max_operations};
 ghost use Rattle.sb_machine.specs.Sessions as sessions;
@@ -17,6 +17,13 @@ pub fn are_addressed(steps: &[Step]) -> bool
     ensures { result ≡ together.are_addressed steps.now }
 {
     steps.iter().all(|step| is_addressed(step))
+}
+
+/// The place, from 0, of the first that names none.
+pub fn unaddressed(steps: &[Step]) -> Option<usize>
+    ensures { result ≡ position (λ x. not (names.is_address (together.step_path x))) steps.now }
+{
+    steps.iter().position(|step| !is_addressed(step))
 }
 
 /// Whether their messages and settlements are no more than one transaction holds.

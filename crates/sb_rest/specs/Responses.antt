@@ -11,12 +11,15 @@ use Rattle.sb_machine.specs.declared.call.Token.{Token}
 use Rattle.sb_machine.specs.declared.reply.Answered.{Answered}
 use Rattle.sb_machine.specs.declared.reply.Answered.TheVariants.{New, Kept}
 use Rattle.sb_machine.specs.declared.reply.CopyShown.{CopyShown}
+use Rattle.sb_machine.specs.declared.reply.PartRefusal.{PartRefusal}
+use Rattle.sb_machine.specs.declared.reply.PartRefusal.TheVariants as why
 use Rattle.sb_machine.specs.declared.reply.Receipt.{Receipt}
 use Rattle.sb_machine.specs.declared.reply.Receipt.TheVariants.{Number, Duplicate}
 use Rattle.sb_machine.specs.declared.reply.Refusal.{Refusal}
 use Rattle.sb_machine.specs.declared.reply.Refusal.TheVariants as refusal
 use Rattle.sb_machine.specs.declared.reply.Reply.{Reply}
 use Rattle.sb_machine.specs.declared.reply.Reply.TheVariants.{Done, Sent, Message, Empty, Expired, Renewed, Session, State, Together as Told}
+use Rattle.sb_machine.specs.Parts.{at_part_or_whole}
 use Rattle.sb_model.specs.declared.message.Message as message
 use Rattle.sb_http.specs.declared.response.Status.{Status}
 use Rattle.sb_http.specs.declared.response.Status.TheVariants as status
@@ -42,6 +45,21 @@ bare s = record { status = s; fields = []; body = []; ends = false }
 
 -- ---- refusals
 
+-- of one of the operations that act together: that of the call which asks for it alone
+abbrev pub part_status : PartRefusal → Status
+part_status (why.BadCall key) = status.BadRequest
+part_status why.BadName = status.BadRequest
+part_status why.WrongKind = status.BadRequest
+part_status why.SessionRequired = status.BadRequest
+part_status why.SessionNotAllowed = status.BadRequest
+part_status why.TxnScope = status.BadRequest
+part_status why.EntityNotFound = status.Gone
+part_status (why.TooLarge size) = status.Forbidden
+part_status why.TxnFull = status.Forbidden
+part_status why.LockLost = status.NotFound
+part_status why.SessionLost = status.NotFound
+part_status (why.TxnPending txn) = status.Conflict
+
 -- those that no call of a route is answered are an error of the server's own
 abbrev pub refusal_status : Refusal → Status
 refusal_status (refusal.BadCall key) = status.BadRequest
@@ -65,6 +83,7 @@ refusal_status (refusal.StaleNumber kept) = status.Conflict
 refusal_status refusal.NumberReused = status.Conflict
 refusal_status refusal.ClientsFull = status.Conflict
 refusal_status refusal.TxnsFull = status.Conflict
+refusal_status (refusal.InPart part reason) = part_status reason
 refusal_status refusal.OutOfMemory = status.ServiceUnavailable
 refusal_status _ = status.InternalServerError
 
@@ -122,7 +141,7 @@ fault_response Foreign = bare status.Forbidden
 fault_response NoKey = key_response
 fault_response NoRoute = bare status.NotFound
 fault_response (BadMethod r) = method_response r
-fault_response (Bad key) = refusal_response (refusal.BadCall key)
+fault_response (Bad part key) = refusal_response (at_part_or_whole part (refusal.BadCall key))
 fault_response Script = bare status.InternalServerError
 fault_response Page = page_response
 fault_response OutOfMemory = refusal_response refusal.OutOfMemory

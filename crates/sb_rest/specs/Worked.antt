@@ -1,5 +1,5 @@
 -- Requests that were worked out by hand, and what they ask for.
-use Rattle.std.specs.Prelude.{ℕ, Vec, List, [], ◌∷◌, ◌++◌, codes, Some, None, Result, Ok}
+use Rattle.std.specs.Prelude.{ℕ, Vec, List, [], ◌∷◌, ◌++◌, codes, false, Some, None, Result, Ok}
 use Rattle.std.specs.declared.alloc.Global.{Global}
 use Rattle.sb_machine.specs.declared.call.Act.{Act}
 use Rattle.sb_machine.specs.declared.call.Act.TheVariants.{Cancel, Receive, ReceiveDeferred, Send, Settle, Together}
@@ -21,8 +21,11 @@ use Rattle.sb_numbers.specs.declared.numbers.JournalSizes.{JournalSizes}
 use Rattle.sb_numbers.specs.declared.numbers.Numbers.{Numbers}
 use Rattle.sb_routes.specs.declared.routes.Address.TheVariants.{Entity}
 use Rattle.sb_routes.specs.declared.routes.Route.{Route}
+use Rattle.sb_http.specs.declared.response.Status.{Status}
 use Rattle.sb_http.specs.Fields.{Field}
 use Rattle.sb_http.specs.Messages.{RequestMessage}
+use Rattle.sb_http.specs.Responses.{ResponseMessage}
+use Rattle.sb_lines.specs.declared.fault.LineFault.{LineFault}
 use Rattle.sb_rest.specs.declared.access.Access.{Access}
 use Rattle.sb_rest.specs.declared.asked.Scope.TheVariants as scope
 use Rattle.sb_rest.specs.declared.call.RestFault.{RestFault}
@@ -86,11 +89,11 @@ abbrev pub first_token : Token
 first_token = record { salt = 11651590505119483672; lock = 1 }
 
 -- a PUT on the first message of q, with a query
-abbrev pub puts : List ℕ → List Field → Result Wanted (List ℕ)
+abbrev pub puts : List ℕ → List Field → Result Wanted LineFault
 puts query fields = put (Entity Main) scope.Whole (codes "/q/messages/1/a1b2c3d4-e5f6-0718-0000-000000000001") query fields
 
 -- this becomes of it
-abbrev pub settles : How → Result Wanted (List ℕ)
+abbrev pub settles : How → Result Wanted LineFault
 settles how = Ok (in_time None (Settle q (Id (codes "1")) first_token None how None) 60)
 
 -- why it is a dead letter, by BrokerProperties
@@ -124,6 +127,14 @@ sends_nothing = codes "{\"do\":\"together\",\"entity\":\"Q\",\"operations\":[{\"
 -- they do
 abbrev pub acts_together : Act
 acts_together = Together q (step.Send q [] ∷ step.Send q [] ∷ [])
+
+-- the same without the messages of the second
+abbrev pub sends_half : List ℕ
+sends_half = codes "{\"do\":\"together\",\"entity\":\"Q\",\"operations\":[{\"do\":\"send\",\"to\":\"q\",\"messages\":[]},{\"do\":\"send\",\"to\":\"q\"}]}"
+
+-- a call is refused with this status and this body
+abbrev pub refused_by : Status → List ℕ → ResponseMessage
+refused_by s body = record { status = s; fields = (codes "Content-Type", codes "application/json") ∷ []; body = body; ends = false }
 
 -- ---- who may call
 

@@ -40,8 +40,9 @@ pub enum RestFault {
     NoRoute,
     /// The path of this route isn't used with this method.
     BadMethod { route: Route },
-    /// This key is the first at fault.
-    Bad { key: Text },
+    /// This key is the first at fault; the part is the place, from 0, of the operation that has it, where it is
+    /// one of those that act together.
+    Bad { part: Option<u64>, key: Text },
     /// The body is a script line, and the reply to it is the response.
     Script,
     /// The page for a browser is asked for.
@@ -302,7 +303,7 @@ fn on_asked(
     };
     match wanted_by(alloc, asked, path, query, request) {
         Ok(wanted) => Ok(wanted),
-        Err(LineFault::BadKey { key }) => Err(RestFault::Bad { key }),
+        Err(LineFault::BadKey { part, key }) => Err(RestFault::Bad { part, key }),
         Err(LineFault::OutOfMemory) => Err(RestFault::OutOfMemory),
     }
 }
@@ -412,7 +413,7 @@ fn wanted_of(
 /// doesn't show the key, where its path needs one, then that there is no such path, then that its method isn't one of it, then
 /// the first key at fault, by its place: the path (`path`, `token`, `seq`), the query (`timeout`,
 /// `disposition`, `after`, `count`, `from`, `start`), the number of the call (`Repeat-Client`, `Repeat-Number`), the headers as they stand,
-/// the body.
+/// the body. A key of one of the operations that act together comes with that operation's place.
 pub fn call_of(
     alloc: Global,
     routes: &Routes,

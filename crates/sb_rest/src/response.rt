@@ -19,7 +19,10 @@ use crate::shown::json_line;
 use httparse::spans::HeaderSpan;
 use sb_http::{Header, Request, Response, Status, is_word};
 use sb_lines::{Form, message_text, refusal_value, reply_text};
-use sb_machine::{Act, Answer, Answered, CopyShown, Mode, Path, Receipt, Refusal, Reply, Token};
+use sb_machine::{
+    Act, Answer, Answered, CopyShown, Mode, PartRefusal, Path, Receipt, Refusal, Reply, Token,
+    at_part_or_whole,
+};
 use sb_model::Message;
 use sb_routes::Route;
 use std::alloc::{AllocError, Global};
@@ -37,6 +40,23 @@ pub(crate) fn bare(alloc: Global, status: Status) -> Response
 }
 
 // ---- refusals
+
+fn part_status(why: &PartRefusal) -> Status
+    ensures { result ≡ responses.part_status why.now }
+{
+    match why {
+        PartRefusal::BadCall { .. }
+        | PartRefusal::BadName
+        | PartRefusal::WrongKind
+        | PartRefusal::SessionRequired
+        | PartRefusal::SessionNotAllowed
+        | PartRefusal::TxnScope => Status::BadRequest,
+        PartRefusal::EntityNotFound => Status::Gone,
+        PartRefusal::TooLarge { .. } | PartRefusal::TxnFull => Status::Forbidden,
+        PartRefusal::LockLost | PartRefusal::SessionLost => Status::NotFound,
+        PartRefusal::TxnPending { .. } => Status::Conflict,
+    }
+}
 
 fn refusal_status(refusal: &Refusal) -> Status
     ensures { result ≡ responses.refusal_status refusal.now }
@@ -63,6 +83,7 @@ fn refusal_status(refusal: &Refusal) -> Status
         | Refusal::NumberReused
         | Refusal::ClientsFull
         | Refusal::TxnsFull => Status::Conflict,
+        Refusal::InPart { why, .. } => part_status(why),
         Refusal::OutOfMemory => Status::ServiceUnavailable,
         _ => Status::InternalServerError,
     }
@@ -204,7 +225,9 @@ pub fn fault_response(alloc: Global, fault: RestFault) -> Result<Response, Alloc
         RestFault::NoKey => key_response(alloc),
         RestFault::NoRoute => Ok(bare(alloc, Status::NotFound)),
         RestFault::BadMethod { route } => method_response(alloc, route),
-        RestFault::Bad { key } => refusal_response(alloc, &Refusal::BadCall { key }),
+        RestFault::Bad { part, key } => {
+            refusal_response(alloc, &at_part_or_whole(part, Refusal::BadCall { key }))
+        }
         RestFault::Script => Ok(bare(alloc, Status::InternalServerError)),
         RestFault::Page => page_response(alloc),
         RestFault::OutOfMemory => refusal_response(alloc, &Refusal::OutOfMemory),

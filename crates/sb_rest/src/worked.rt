@@ -3,13 +3,14 @@ ghost use Rattle.std.specs.Prelude.{◌≡◌, ◌∷◌, [], codes, true, false
 ghost use Rattle.std.specs.declared.alloc.Global.{Global};
 ghost use Rattle.serde_json.specs.Data.{string};
 ghost use Rattle.serde_json.specs.Read.{read};
-ghost use Rattle.sb_machine.specs.declared.reply.Refusal.TheVariants.{BadCall, ClientNotFound, NotDeferred, NotScheduled, SessionLost, SessionNotAllowed, Stopped, TxnFull, TxnScope, TxnsFull};
+ghost use Rattle.sb_machine.specs.declared.reply.Refusal.TheVariants.{BadCall, ClientNotFound, InPart, NotDeferred, NotScheduled, SessionLost, SessionNotAllowed, Stopped, TxnFull, TxnScope, TxnsFull};
 ghost use Rattle.sb_model.specs.declared.message.PropertyValue.TheVariants.{Int, Text};
 ghost use Rattle.sb_machine.specs.declared.call.Act.TheVariants as act;
 ghost use Rattle.sb_machine.specs.declared.call.How.TheVariants as how;
 ghost use Rattle.sb_machine.specs.declared.call.Mode.TheVariants as mode;
 ghost use Rattle.sb_machine.specs.declared.call.Part.TheVariants.{Main};
 ghost use Rattle.sb_machine.specs.declared.call.Which.TheVariants.{Id};
+ghost use Rattle.sb_machine.specs.declared.reply.PartRefusal.TheVariants as in_part;
 ghost use Rattle.sb_machine.specs.declared.reply.Receipt.TheVariants.{Number, Duplicate};
 ghost use Rattle.sb_machine.specs.declared.reply.Reply.TheVariants.{Done as WasDone, Sent, State, Together as Told};
 ghost use Rattle.sb_machine.specs.declared.reply.StepReply.TheVariants as step_reply;
@@ -21,6 +22,7 @@ ghost use Rattle.sb_routes.specs.declared.routes.Address.TheVariants.{Entity};
 ghost use Rattle.sb_routes.specs.declared.routes.Route.TheVariants.{Messages, Deferred, Locked, Scheduled, Together};
 ghost use Rattle.sb_routes.specs.declared.routes.Route.TheVariants.{NamedSession, HeldSession, SessionState, SessionHead, SessionDeferred, SessionLocked};
 ghost use Rattle.sb_http.specs.declared.response.Status.TheVariants as status;
+ghost use Rattle.sb_lines.specs.declared.fault.LineFault.TheVariants.{BadKey};
 ghost use Rattle.sb_rest.specs.declared.call.RestFault.TheVariants.{Foreign, NoKey, NoRoute, BadMethod, Bad, Script};
 ghost use Rattle.sb_rest.specs.Batches as batches;
 ghost use Rattle.sb_rest.specs.Brokers.{broker_in};
@@ -35,11 +37,11 @@ ghost use Rattle.sb_rest.specs.Forms.{fits_head, is_json_asked, lists_json, unas
 ghost use Rattle.sb_rest.specs.Lifetimes.{span_in};
 ghost use Rattle.sb_rest.specs.Values.{header_value};
 ghost use Rattle.sb_rest.specs.Repeats as repeats;
-ghost use Rattle.sb_rest.specs.Responses.{refusal_status, refusal_text, method_response, key_response, sent_response, accepted_response, held_response, state_response, together_response};
+ghost use Rattle.sb_rest.specs.Responses.{fault_response, refusal_response, refusal_status, refusal_text, method_response, key_response, sent_response, accepted_response, held_response, state_response, together_response};
 ghost use Rattle.sb_rest.specs.ServerNumbers.{server_text, calls_text, bucket_of, journal_text};
 ghost use Rattle.sb_rest.specs.Shown.{broker_text, location_text, place_of, property_fields};
 ghost use Rattle.sb_rest.specs.Worked.{request, sends, takes, takes_as, living, text_alone, q, unlocked, hosted, keyed, showing, waiting, takes_deferred, cancels, puts, settles, why, first_token, first_copy, with_umlaut, smile};
-ghost use Rattle.sb_rest.specs.Worked.{held, makes, of_session, on, one_record, young, sends_nothing, acts_together};
+ghost use Rattle.sb_rest.specs.Worked.{held, makes, of_session, on, one_record, young, sends_nothing, acts_together, refused_by, sends_half};
 
 /// The definitions say of these requests what was worked out by hand.
 pub fn worked_calls()
@@ -51,9 +53,9 @@ pub fn worked_calls()
     ensures receive { call_of unlocked (request (codes "POST") (codes "/q/messages/head?timeout=0") [] []) ≡ takes 0 }
     ensures waits { call_of unlocked (request (codes "POST") (codes "/q/messages/head?a=b&timeout=%31&timeout=x") [] []) ≡ takes 1 }
     ensures numbered { call_of unlocked (request (codes "POST") (codes "/q/messages/head?timeout=0") ((codes "repeat-client", codes "c") ∷ (codes "Repeat-Number", codes "007") ∷ []) []) ≡ takes_as 0 }
-    ensures client_alone { call_of unlocked (request (codes "POST") (codes "/q/messages/head") ((codes "Repeat-Client", codes "c") ∷ []) []) ≡ Err (Bad (codes "Repeat-Client")) }
-    ensures number_alone { call_of unlocked (request (codes "POST") (codes "/q/messages/head") ((codes "Repeat-Number", codes "1") ∷ []) []) ≡ Err (Bad (codes "Repeat-Number")) }
-    ensures too_long { call_of unlocked (request (codes "POST") (codes "/q/messages/head?timeout=3601") [] []) ≡ Err (Bad (codes "timeout")) }
+    ensures client_alone { call_of unlocked (request (codes "POST") (codes "/q/messages/head") ((codes "Repeat-Client", codes "c") ∷ []) []) ≡ Err (Bad None (codes "Repeat-Client")) }
+    ensures number_alone { call_of unlocked (request (codes "POST") (codes "/q/messages/head") ((codes "Repeat-Number", codes "1") ∷ []) []) ≡ Err (Bad None (codes "Repeat-Number")) }
+    ensures too_long { call_of unlocked (request (codes "POST") (codes "/q/messages/head?timeout=3601") [] []) ≡ Err (Bad None (codes "timeout")) }
     ensures method { call_of unlocked (request (codes "DELETE") (codes "/q/messages") [] []) ≡ Err (BadMethod Messages) }
     ensures plain_script { call_of unlocked (request (codes "POST") (codes "/script") [] []) ≡ Err Script }
     ensures route { call_of unlocked (request (codes "GET") (codes "/x/y/z") [] []) ≡ Err NoRoute }
@@ -89,7 +91,7 @@ pub fn worked_callers()
 
 /// The same of headers and batches.
 pub fn worked_parts()
-    ensures half_a_second { broker_in (codes "{\"TimeToLive\":1.5}") ≡ Err (codes "TimeToLive") }
+    ensures half_a_second { broker_in (codes "{\"TimeToLive\":1.5}") ≡ Err (BadKey None (codes "TimeToLive")) }
     ensures whole { broker_in (codes "{\"TimeToLive\":10.0}") ≡ Ok (living 10) }
     ensures span { broker_in (codes "{\"TimeToLiveTimeSpan\":\"0.00:00:40\"}") ≡ Ok (living 40) }
     ensures days { span_in (codes "1.02:03:04") ≡ Some 93784 }
@@ -97,21 +99,21 @@ pub fn worked_parts()
     ensures one_digit { span_in (codes "0.0:00:40") ≡ None }
     ensures no_days { span_in (codes "00:00:40") ≡ None }
     ensures fraction { span_in (codes "0.00:00:40.5") ≡ None }
-    ensures no_time { broker_in (codes "{\"TimeToLiveTimeSpan\":\"0.00:00:00\"}") ≡ Err (codes "TimeToLiveTimeSpan") }
-    ensures both_times { broker_in (codes "{\"TimeToLive\":40,\"TimeToLiveTimeSpan\":\"0.00:00:40\"}") ≡ Err (codes "TimeToLiveTimeSpan") }
-    ensures fraction_of_a_number { repeats.numbered (codes "c") (codes "1.5") ≡ Err (codes "Repeat-Number") }
-    ensures no_number { repeats.numbered (codes "c") (codes "0") ≡ Err (codes "Repeat-Number") }
+    ensures no_time { broker_in (codes "{\"TimeToLiveTimeSpan\":\"0.00:00:00\"}") ≡ Err (BadKey None (codes "TimeToLiveTimeSpan")) }
+    ensures both_times { broker_in (codes "{\"TimeToLive\":40,\"TimeToLiveTimeSpan\":\"0.00:00:40\"}") ≡ Err (BadKey None (codes "TimeToLiveTimeSpan")) }
+    ensures fraction_of_a_number { repeats.numbered (codes "c") (codes "1.5") ≡ Err (BadKey None (codes "Repeat-Number")) }
+    ensures no_number { repeats.numbered (codes "c") (codes "0") ≡ Err (BadKey None (codes "Repeat-Number")) }
     ensures greatest { repeats.number_in (codes "9223372036854775807") ≡ Some 9223372036854775807 }
     ensures above { repeats.number_in (codes "9223372036854775808") ≡ None }
-    ensures no_client { repeats.numbered [] (codes "1") ≡ Err (codes "Repeat-Client") }
-    ensures no_object { broker_in (codes "7") ≡ Err (codes "BrokerProperties") }
+    ensures no_client { repeats.numbered [] (codes "1") ≡ Err (BadKey None (codes "Repeat-Client")) }
+    ensures no_object { broker_in (codes "7") ≡ Err (BadKey None (codes "BrokerProperties")) }
     ensures number { header_value (codes "-7") ≡ Int (neg_ℤ (pos 7)) }
     ensures zeros { header_value (codes "007") ≡ Int (pos 7) }
     ensures signed { header_value (codes "+1") ≡ Text (codes "+1") }
     ensures quoted { header_value (codes "\"a\"") ≡ Text (codes "a") }
     ensures one_quote { header_value (codes "\"") ≡ Text (codes "\"") }
     ensures batch { batches.messages_in (codes "[{\"Body\":\"a\"},{}]") ≡ Ok (text_alone (codes "a") ∷ text_alone [] ∷ []) }
-    ensures no_array { batches.messages_in (codes "{}") ≡ Err (codes "Body") }
+    ensures no_array { batches.messages_in (codes "{}") ≡ Err (BadKey None (codes "Body")) }
     ensures batch_type { batches.is_batch_type (codes "Application/vnd.microsoft.servicebus.json ; charset=utf-8") ≡ true }
 {}
 
@@ -121,16 +123,16 @@ pub fn worked_dispositions()
     ensures abandon { puts [] (why (codes "7")) ≡ settles how.Abandon }
     ensures defer { puts (codes "a=b&disposition=defer&disposition=x") (why (codes "7")) ≡ settles how.Defer }
     ensures dead_letter { puts (codes "disposition=dead-letter") (why (codes "{\"DeadLetterReason\":\"r\"}")) ≡ settles (how.DeadLetter (Some (codes "r")) None) }
-    ensures another { puts (codes "disposition=drop") [] ≡ Err (codes "disposition") }
-    ensures before_number { puts (codes "disposition=abandon") ((codes "Repeat-Number", codes "1") ∷ []) ≡ Err (codes "disposition") }
-    ensures behind_timeout { puts (codes "disposition=drop&timeout=x") [] ≡ Err (codes "timeout") }
-    ensures behind_number { puts (codes "disposition=dead-letter") ((codes "Repeat-Number", codes "1") ∷ why (codes "7")) ≡ Err (codes "Repeat-Number") }
+    ensures another { puts (codes "disposition=drop") [] ≡ Err (BadKey None (codes "disposition")) }
+    ensures before_number { puts (codes "disposition=abandon") ((codes "Repeat-Number", codes "1") ∷ []) ≡ Err (BadKey None (codes "disposition")) }
+    ensures behind_timeout { puts (codes "disposition=drop&timeout=x") [] ≡ Err (BadKey None (codes "timeout")) }
+    ensures behind_number { puts (codes "disposition=dead-letter") ((codes "Repeat-Number", codes "1") ∷ why (codes "7")) ≡ Err (BadKey None (codes "Repeat-Number")) }
     ensures both { how_of DeadLetter (why (codes "{\"DeadLetterErrorDescription\":\"d\",\"DeadLetterReason\":\"r\"}")) ≡ Ok (how.DeadLetter (Some (codes "r")) (Some (codes "d"))) }
     ensures neither { how_of DeadLetter [] ≡ Ok (how.DeadLetter None None) }
     ensures absent { how_of DeadLetter (why (codes "{\"DeadLetterReason\":\"\",\"DeadLetterErrorDescription\":null}")) ≡ Ok (how.DeadLetter None None) }
-    ensures no_reason { how_of DeadLetter (why (codes "{\"DeadLetterErrorDescription\":7,\"DeadLetterReason\":7}")) ≡ Err (codes "DeadLetterReason") }
-    ensures no_description { how_of DeadLetter (why (codes "{\"DeadLetterErrorDescription\":[]}")) ≡ Err (codes "DeadLetterErrorDescription") }
-    ensures no_object { how_of DeadLetter (why (codes "\"r\"")) ≡ Err (codes "BrokerProperties") }
+    ensures no_reason { how_of DeadLetter (why (codes "{\"DeadLetterErrorDescription\":7,\"DeadLetterReason\":7}")) ≡ Err (BadKey None (codes "DeadLetterReason")) }
+    ensures no_description { how_of DeadLetter (why (codes "{\"DeadLetterErrorDescription\":[]}")) ≡ Err (BadKey None (codes "DeadLetterErrorDescription")) }
+    ensures no_object { how_of DeadLetter (why (codes "\"r\"")) ≡ Err (BadKey None (codes "BrokerProperties")) }
 {}
 
 /// The same of messages that are named by their numbers.
@@ -138,16 +140,16 @@ pub fn worked_numbers()
     ensures deferred { call_of unlocked (request (codes "POST") (codes "/q/messages/7?timeout=0") [] []) ≡ takes_deferred 7 mode.Lock 0 }
     ensures deleted { call_of unlocked (request (codes "DELETE") (codes "/Q/messages/7") [] []) ≡ takes_deferred 7 mode.Delete 60 }
     ensures cancelled { call_of unlocked (request (codes "DELETE") (codes "/q/scheduled/7") [] []) ≡ cancels 7 }
-    ensures no_number { call_of unlocked (request (codes "POST") (codes "/q/messages/m") [] []) ≡ Err (Bad (codes "seq")) }
-    ensures number_first { call_of unlocked (request (codes "DELETE") (codes "/q/scheduled/0?timeout=x") [] []) ≡ Err (Bad (codes "seq")) }
-    ensures then_timeout { call_of unlocked (request (codes "DELETE") (codes "/q/scheduled/1?timeout=x") [] []) ≡ Err (Bad (codes "timeout")) }
+    ensures no_number { call_of unlocked (request (codes "POST") (codes "/q/messages/m") [] []) ≡ Err (Bad None (codes "seq")) }
+    ensures number_first { call_of unlocked (request (codes "DELETE") (codes "/q/scheduled/0?timeout=x") [] []) ≡ Err (Bad None (codes "seq")) }
+    ensures then_timeout { call_of unlocked (request (codes "DELETE") (codes "/q/scheduled/1?timeout=x") [] []) ≡ Err (Bad None (codes "timeout")) }
     ensures method { call_of unlocked (request (codes "PUT") (codes "/q/messages/7") [] []) ≡ Err (BadMethod (Deferred (Entity Main))) }
     ensures another_method { call_of unlocked (request (codes "POST") (codes "/q/scheduled/7") [] []) ≡ Err (BadMethod (Scheduled (Entity Main))) }
     ensures greatest { number_at 1 (codes "/9223372036854775807") ≡ Ok 9223372036854775807 }
-    ensures above { number_at 1 (codes "/9223372036854775808") ≡ Err (codes "seq") }
+    ensures above { number_at 1 (codes "/9223372036854775808") ≡ Err (BadKey None (codes "seq")) }
     ensures escaped { number_at 1 (codes "/%30%37/x") ≡ Ok 7 }
-    ensures signed { number_at 1 (codes "/+7") ≡ Err (codes "seq") }
-    ensures no_text { number_at 1 (codes "/%FF") ≡ Err (codes "path") }
+    ensures signed { number_at 1 (codes "/+7") ≡ Err (BadKey None (codes "seq")) }
+    ensures no_text { number_at 1 (codes "/%FF") ≡ Err (BadKey None (codes "path")) }
 {}
 
 /// The same of the parts of responses.
@@ -197,10 +199,10 @@ pub fn worked_forms()
 pub fn worked_sessions()
     ensures next { call_of unlocked (request (codes "POST") (codes "/q/sessions/head") [] []) ≡ makes (act.Accept q None) }
     ensures named { on (NamedSession (Entity Main)) (codes "POST") (codes "/q/sessions/%68Ead") [] ≡ makes (act.Accept q (Some (codes "hEad"))) }
-    ensures no_text { on (NamedSession (Entity Main)) (codes "POST") (codes "/q/sessions/%FF") [] ≡ Err (Bad (codes "path")) }
+    ensures no_text { on (NamedSession (Entity Main)) (codes "POST") (codes "/q/sessions/%FF") [] ≡ Err (Bad None (codes "path")) }
     ensures renewed { on (HeldSession (Entity Main)) (codes "POST") (held []) [] ≡ makes (act.SessionRenew q first_token) }
     ensures closed { on (HeldSession (Entity Main)) (codes "DELETE") (held []) [] ≡ makes (act.SessionClose q first_token) }
-    ensures no_token { on (HeldSession (Entity Main)) (codes "DELETE") (codes "/q/sessions/s/1") [] ≡ Err (Bad (codes "token")) }
+    ensures no_token { on (HeldSession (Entity Main)) (codes "DELETE") (codes "/q/sessions/s/1") [] ≡ Err (Bad None (codes "token")) }
     ensures read { on (SessionState (Entity Main)) (codes "GET") (held (codes "/state")) [] ≡ makes (act.SessionState q first_token) }
     ensures remembered { on (SessionState (Entity Main)) (codes "PUT") (held (codes "/state")) (codes "hi") ≡ makes (act.SessionSet q first_token (Some (codes "hi"))) }
     ensures forgotten { on (SessionState (Entity Main)) (codes "PUT") (held (codes "/state")) [] ≡ makes (act.SessionSet q first_token None) }
@@ -237,15 +239,18 @@ pub fn worked_session_responses()
 /// The same of operations that act together.
 pub fn worked_together()
     ensures call { call_of unlocked (request (codes "POST") (codes "/$together") [] sends_nothing) ≡ makes acts_together }
-    ensures behind_number { call_of unlocked (request (codes "POST") (codes "/$together") ((codes "Repeat-Number", codes "1") ∷ []) (codes "7")) ≡ Err (Bad (codes "Repeat-Number")) }
-    ensures no_object { on Together (codes "POST") (codes "/$together") (codes "[]") ≡ Err (Bad (codes "Body")) }
-    ensures empty { on Together (codes "POST") (codes "/$together") [] ≡ Err (Bad (codes "Body")) }
+    ensures behind_number { call_of unlocked (request (codes "POST") (codes "/$together") ((codes "Repeat-Number", codes "1") ∷ []) (codes "7")) ≡ Err (Bad None (codes "Repeat-Number")) }
+    ensures no_object { on Together (codes "POST") (codes "/$together") (codes "[]") ≡ Err (Bad None (codes "Body")) }
+    ensures empty { on Together (codes "POST") (codes "/$together") [] ≡ Err (Bad None (codes "Body")) }
     ensures method { on Together (codes "GET") (codes "/$together") [] ≡ Err (BadMethod Together) }
-    ensures other_act { together_in (codes "{\"do\":\"receive\",\"from\":\"q\"}") ≡ Err (codes "do") }
-    ensures wordless { together_in (codes "{\"entity\":\"q\",\"operations\":[]}") ≡ Err (codes "do") }
-    ensures numbered { together_in (codes "{\"do\":\"together\",\"client\":\"c\",\"number\":1}") ≡ Err (codes "client") }
-    ensures timed { together_in (codes "{\"at\":1,\"do\":\"together\"}") ≡ Err (codes "at") }
-    ensures operations { together_in (codes "{\"do\":\"together\",\"entity\":\"q\",\"operations\":[7]}") ≡ Err (codes "operations") }
+    ensures other_act { together_in (codes "{\"do\":\"receive\",\"from\":\"q\"}") ≡ Err (BadKey None (codes "do")) }
+    ensures wordless { together_in (codes "{\"entity\":\"q\",\"operations\":[]}") ≡ Err (BadKey None (codes "do")) }
+    ensures numbered { together_in (codes "{\"do\":\"together\",\"client\":\"c\",\"number\":1}") ≡ Err (BadKey None (codes "client")) }
+    ensures timed { together_in (codes "{\"at\":1,\"do\":\"together\"}") ≡ Err (BadKey None (codes "at")) }
+    ensures operations { together_in (codes "{\"do\":\"together\",\"entity\":\"q\",\"operations\":[7]}") ≡ Err (BadKey (Some 0) (codes "operations")) }
+    ensures placed { on Together (codes "POST") (codes "/$together") sends_half ≡ Err (Bad (Some 1) (codes "messages")) }
+    ensures bad_part { fault_response (Bad (Some 1) (codes "messages")) ≡ refused_by status.BadRequest (codes "{\"key\":\"messages\",\"part\":1,\"refused\":\"BadCall\"}") }
+    ensures lost_part { refusal_response (InPart 1 in_part.LockLost) ≡ refused_by status.NotFound (codes "{\"part\":1,\"refused\":\"LockLost\"}") }
     ensures allow { (method_response Together).fields ≡ (codes "Allow", codes "POST") ∷ [] }
     ensures told { together_response (Told (step_reply.Done ∷ step_reply.Sent (Number 7 ∷ Duplicate ∷ []) ∷ [])) ≡ record {
       status = status.Ok;

@@ -10,7 +10,7 @@ use crate::server::server_numbers;
 use crate::table::{Case, Line};
 use anyhow::{Context, Result, bail, ensure};
 use sb_http::{Incoming, Request, Response, write_response};
-use sb_lines::{Form, Line as ScriptLine, LineFault, read_line, reply_line};
+use sb_lines::{Form, Line as ScriptLine, LineFault, read_line, refusal_of, reply_line};
 use sb_machine::{Answer, Call, Refusal};
 use sb_model::Text;
 use sb_node::Node;
@@ -139,8 +139,8 @@ fn script_answer(
             drop(timed);
             Ok((form, answer))
         }
-        Err(LineFault::BadKey { key }) => Ok((Form::Plain, Err(Refusal::BadCall { key }))),
         Err(LineFault::OutOfMemory) => Err(AllocError),
+        Err(fault) => Ok((Form::Plain, Err(refusal_of(fault)))),
     }
 }
 

@@ -4,13 +4,14 @@ use crate::http::response_bytes;
 use crate::outcome::Rows;
 use anyhow::{Result, bail};
 use sb_http::{Response, write_response};
-use sb_machine::{Act, Call, Mode, Part, Path, Refusal};
+use sb_machine::{Act, Call, Mode, Part, Path, Refusal, at_part};
 use sb_model::Text;
 use sb_numbers::Numbers;
 use sb_rest::{Sight, response_of};
 use std::alloc::{AllocError, Global};
 
-/// Rows of a refusal's name, and of the response to a receive that is refused so.
+/// Rows of a refusal's name, behind which `of 1` may stand, where it is that of the operation at this place of those
+/// that act together; and of the response to a receive that is refused so.
 #[derive(Drop)]
 pub struct Refusals {
     call: Call,
@@ -73,6 +74,14 @@ fn refusal_named(alloc: Global, name: &str) -> Result<Refusal> {
     })
 }
 
+// The same, or that of an operation.
+fn refusal_of(alloc: Global, words: &str) -> Result<Refusal> {
+    match words.strip_suffix(" of 1") {
+        Some(name) => Ok(at_part(1, refusal_named(alloc, name)?)),
+        None => refusal_named(alloc, words),
+    }
+}
+
 // The response to a call that is refused so.
 fn response_to(alloc: Global, call: &Call, refusal: Refusal) -> Result<Vec<u8>, AllocError> {
     let numbers = Numbers::none(alloc);
@@ -95,7 +104,7 @@ impl Rows for Refusals {
     }
 
     fn other(&self, alloc: Global, asked: &str, wanted: &str) -> Result<Option<String>> {
-        let came = response_to(alloc, &self.call, refusal_named(alloc, asked)?)?;
+        let came = response_to(alloc, &self.call, refusal_of(alloc, asked)?)?;
         if came.as_slice() == response_bytes(alloc, wanted)?.as_slice() {
             return Ok(None);
         }

@@ -107,7 +107,13 @@ fn came(
         Err(RestFault::BadMethod { .. }) => String::from_str(alloc, "405"),
         Err(RestFault::Script) => String::from_str(alloc, "script"),
         Err(RestFault::Page) => String::from_str(alloc, "page"),
-        Err(RestFault::Bad { key }) => format!(in alloc; "400 {}", key.as_str()),
+        Err(RestFault::Bad { part: None, key }) => format!(in alloc; "400 {}", key.as_str()),
+        Err(
+            RestFault::Bad {
+                part: Some(part),
+                key,
+            },
+        ) => format!(in alloc; "400 {} of {part}", key.as_str()),
         Err(RestFault::OutOfMemory) => Err(AllocError),
     }
 }

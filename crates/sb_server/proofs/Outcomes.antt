@@ -6,11 +6,13 @@ use Rattle.std.proofs.lemmas.Grind.{common_steps}
 use Rattle.std.proofs.lemmas.List.Folds.{list_any-append}
 use Rattle.sb_machine.specs.History.{stops}
 use Rattle.sb_machine.specs.declared.call.Call.{Call}
+use Rattle.sb_lines.specs.Faults.{refusal_of}
+use Rattle.sb_lines.specs.declared.fault.LineFault.{LineFault}
+use Rattle.sb_lines.specs.declared.fault.LineFault.TheVariants.{BadKey, OutOfMemory as NoMemory}
 use Rattle.sb_lines.specs.declared.line.Line.{Line as ScriptLine}
 use Rattle.sb_machine.specs.declared.history.Entry.{Entry}
 use Rattle.sb_machine.specs.declared.reply.Answered.{Answered}
 use Rattle.sb_machine.specs.declared.reply.Refusal.{Refusal}
-use Rattle.sb_machine.specs.declared.reply.Refusal.TheVariants.{BadCall, OutOfMemory as NoMemory}
 use Rattle.sb_desk.specs.Desks.{Open, Sitting}
 use Rattle.sb_desk.specs.Entries.{made_by, entries_by, seat_of}
 use Rattle.sb_desk.specs.Lists.{Each}
@@ -31,7 +33,7 @@ use Rattle.sb_server.specs.declared.work.Stop.{Stop}
 use Rattle.sb_server.specs.declared.work.Stop.TheVariants.{Enough, Ended, Fault, Stopped, OutOfMemory as Wanting}
 use Rattle.sb_server.specs.declared.body.LineAsk.{LineAsk}
 use Rattle.sb_server.specs.declared.body.LineAsk.TheVariants.{Call as LineCall, NoCall as LineNone}
-use Rattle.sb_server.specs.Asks.{AsksFor, Reads, asks_close}
+use Rattle.sb_server.specs.Asks.{AsksFor, IsNoLine, asks_close}
 use Rattle.sb_server.specs.Bodies.{line_in, lines_in, asked_by, are_lines}
 use Rattle.sb_server.specs.Responds.{IsOne, RespondsTo, Responds, LineCalled, IsLineCalled, AreCalled, any_stops, turn_of, waiter_call}
 use Rattle.sb_server.specs.Serves.{Worker, Working, Served, is_fault, is_lost, serve_ending}
@@ -109,10 +111,14 @@ turn_stops closes true e = refl
 turn_stops true false e = absurd cc
 turn_stops false false e = absurd cc
 
-no_line_goes : (said : Result ScriptLine (List ℕ)) (refusal : Refusal) → Reads said (Err refusal) → stops (Err refusal) ≡ false
-no_line_goes said (BadCall key) r = refl
-no_line_goes said NoMemory r = refl
-no_line_goes said _ r = absurd r
+-- nor is the refusal of a line at fault
+fault_goes : (fault : LineFault) → stops (Err (refusal_of fault)) ≡ false
+fault_goes (BadKey None key) = refl
+fault_goes (BadKey (Some part) key) = refl
+fault_goes NoMemory = refl
+
+no_line_goes : (said : Result ScriptLine LineFault) (answer : Result Answered Refusal) → IsNoLine said answer → stops answer ≡ false
+no_line_goes said answer is = ap stops is.2 ∙ fault_goes is.0
 
 -- ---- several lines
 
@@ -121,9 +127,9 @@ abbrev GoesBehind : LineAsk → Type 0
 GoesBehind (LineCall line) = Unit {0}
 GoesBehind (LineNone answer) = stops answer ≡ false
 
-asked_goes : (said : Result ScriptLine (List ℕ)) → GoesBehind (asked_by said)
+asked_goes : (said : Result ScriptLine LineFault) → GoesBehind (asked_by said)
 asked_goes (Ok line) = tt
-asked_goes (Err key) = refl
+asked_goes (Err fault) = fault_goes fault
 
 each_asked_goes : (lines : List (List ℕ)) → Each GoesBehind (map (λ line. asked_by (line_in line)) lines)
 each_asked_goes [] = tt
@@ -158,10 +164,9 @@ answer_stops : (IsReading : ℕ → Type 0) (access : Access) (seat : ℕ) (m : 
 answer_stops IsReading access seat m (Once w asker) closes made out a r = one_stops IsReading seat w.call made r.0 r.1 (turn_stops closes (stops r.0) r.3)
 answer_stops IsReading access seat m (Patient waiter limit) closes made out a r = waits_stops IsReading seat (waiter_call waiter) limit made r.0 r.1 (turn_stops closes (stops r.0) r.3)
 answer_stops IsReading access seat m (Line line) closes made out a r = one_stops IsReading seat line.timed.call made r.0 r.1 (turn_stops closes (stops r.0) r.3)
-answer_stops IsReading access seat m (BadLine (Ok reply)) closes made out a r = absurd a.1
-answer_stops IsReading access seat m (BadLine (Err refusal)) closes made out a r =
-    let goes = no_line_goes (line_in m.body) refusal a.1 in
-    let ends = turn_stops closes (stops (Err refusal)) r.2 in
+answer_stops IsReading access seat m (BadLine answer) closes made out a r =
+    let goes = no_line_goes (line_in m.body) answer a.1 in
+    let ends = turn_stops closes (stops answer) r.2 in
     absurd cc
 answer_stops IsReading access seat m (Lines lines) closes made out a r = lines_stops IsReading seat m.body lines made r.0 a.1 r.1 (turn_stops closes (any_stops r.0) r.3)
 answer_stops IsReading access seat m (NoCall fault) closes made out a r = let ends = turn_stops closes false r.2 in absurd cc

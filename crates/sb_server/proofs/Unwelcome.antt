@@ -25,7 +25,7 @@ IsNone (Err Foreign) = Unit {0}
 IsNone (Err NoKey) = Unit {0}
 IsNone (Err NoRoute) = Unit {0}
 IsNone (Err (BadMethod r)) = Unit {0}
-IsNone (Err (Bad key)) = Unit {0}
+IsNone (Err (Bad part key)) = Unit {0}
 IsNone (Err Page) = Unit {0}
 IsNone (Err OutOfMemory) = Unit {0}
 

@@ -8,10 +8,11 @@ use Rattle.sb_machine.specs.declared.call.Act.TheVariants.{Receive, Accept}
 use Rattle.sb_machine.specs.declared.call.Call.{Call}
 use Rattle.sb_machine.specs.declared.reply.Answered.{Answered}
 use Rattle.sb_machine.specs.declared.reply.Refusal.{Refusal}
-use Rattle.sb_machine.specs.declared.reply.Refusal.TheVariants.{BadCall, OutOfMemory as NoMemory}
 use Rattle.sb_desk.specs.Lists.{Each}
 use Rattle.sb_http.specs.Fields.{Field, same_word}
 use Rattle.sb_http.specs.Messages.{RequestMessage}
+use Rattle.sb_lines.specs.Faults.{Answers, refusal_of}
+use Rattle.sb_lines.specs.declared.fault.LineFault.{LineFault}
 use Rattle.sb_lines.specs.declared.line.Line.{Line as ScriptLine}
 use Rattle.sb_rest.specs.Batches.{is_blank}
 use Rattle.sb_rest.specs.declared.access.Access.{Access}
@@ -77,22 +78,18 @@ line_waits line = nat_lt 0 line.wait_s && is_none line.timed.call.by
 abbrev pub ms_in : ℕ → ℕ
 ms_in s = min (s * 1000) (2 ^ 64 - 1)
 
--- the call that is said, or why there is none; want of memory may come with each
-abbrev pub Reads : Result ScriptLine (List ℕ) → Result ScriptLine Refusal → Type 0
-Reads said (Ok line) = (said ≡ Ok line) × IsActInOrder line.timed.call.act
-Reads said (Err (BadCall key)) = said ≡ Err key
-Reads said (Err NoMemory) = Unit {0}
-Reads said (Err _) = ⊥
+-- this call is said
+abbrev pub Reads : Result ScriptLine LineFault → ScriptLine → Type 0
+Reads said line = (said ≡ Ok line) × IsActInOrder line.timed.call.act
 
--- a script line is no call, and is answered by why
-abbrev pub IsNoLine : Result ScriptLine (List ℕ) → Result Answered Refusal → Type 0
-IsNoLine said (Ok reply) = ⊥
-IsNoLine said (Err refusal) = Reads said (Err refusal)
+-- a script line is no call, and is answered by why; want of memory may come with each
+abbrev pub IsNoLine : Result ScriptLine LineFault → Result Answered Refusal → Type 0
+IsNoLine said answer = (fault : LineFault) × Answers (Err fault) said × (answer ≡ Err (refusal_of fault))
 
 -- what a body asks for as one line, which waits so many ms at most, or is called once
 abbrev pub IsLineAsk : List ℕ → Ask → Type 0
-IsLineAsk body (Line line) = Reads (line_in body) (Ok line) × (line_waits line ≡ false)
-IsLineAsk body (Patient (ByLine line) limit) = Reads (line_in body) (Ok line) × (line_waits line ≡ true) × (limit ≡ ms_in line.wait_s)
+IsLineAsk body (Line line) = Reads (line_in body) line × (line_waits line ≡ false)
+IsLineAsk body (Patient (ByLine line) limit) = Reads (line_in body) line × (line_waits line ≡ true) × (limit ≡ ms_in line.wait_s)
 IsLineAsk body (BadLine answer) = IsNoLine (line_in body) answer
 IsLineAsk body _ = ⊥
 
@@ -102,7 +99,7 @@ IsFault access Foreign m = call_of access m ≡ Err Foreign
 IsFault access NoKey m = call_of access m ≡ Err NoKey
 IsFault access NoRoute m = call_of access m ≡ Err NoRoute
 IsFault access (BadMethod r) m = call_of access m ≡ Err (BadMethod r)
-IsFault access (Bad key) m = call_of access m ≡ Err (Bad key)
+IsFault access (Bad part key) m = call_of access m ≡ Err (Bad part key)
 IsFault access Script m = ⊥
 IsFault access Page m = call_of access m ≡ Err Page
 IsFault access OutOfMemory m = Unit {0}

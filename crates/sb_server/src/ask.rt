@@ -1,5 +1,5 @@
 // What a request asks for.
-ghost use Rattle.std.specs.Prelude.{◌≡◌, Ok, Err};
+ghost use Rattle.std.specs.Prelude.{◌≡◌, Err};
 ghost use Rattle.sb_machine.specs.Ordered.{IsActInOrder};
 ghost use Rattle.sb_http.specs.Said.{said_by};
 ghost use Rattle.sb_rest.specs.Calls.{call_of};
@@ -11,8 +11,8 @@ ghost use Rattle.sb_server.specs.Responds.{waiter_call};
 use crate::body::{LineAsk, line_in, lines_in};
 use crate::head::has_lines;
 use sb_http::Request;
-use sb_lines::LineFault;
-use sb_machine::{Act, Answer, Call, Refusal};
+use sb_lines::refusal_of;
+use sb_machine::{Act, Answer, Call};
 use sb_model::Rows;
 use sb_outside::Bytes;
 use sb_rest::{Access, RestFault, Wanted, call_of, host_of, wants_json};
@@ -85,8 +85,8 @@ pub(crate) fn ask_of(alloc: Global, routes: &Routes, access: &Access, request: &
         Err(RestFault::BadMethod { route }) => Ask::Fault {
             fault: RestFault::BadMethod { route },
         },
-        Err(RestFault::Bad { key }) => Ask::Fault {
-            fault: RestFault::Bad { key },
+        Err(RestFault::Bad { part, key }) => Ask::Fault {
+            fault: RestFault::Bad { part, key },
         },
         Err(RestFault::Page) => Ask::Fault {
             fault: RestFault::Page,
@@ -167,7 +167,7 @@ fn line_waits(line: &sb_lines::Line) -> bool
 
 // A script line, which may wait.
 fn line_called(body: &[u8], line: sb_lines::Line) -> Ask
-    requires { asks.Reads (line_said body.now) (Ok line) }
+    requires { asks.Reads (line_said body.now) line }
     ensures { asks.IsLineAsk body.now result }
 {
     let _ = body;
@@ -187,11 +187,8 @@ fn line_ask(alloc: Global, body: &[u8]) -> Ask
 {
     match line_in(alloc, body) {
         Ok(line) => line_called(body, line),
-        Err(LineFault::BadKey { key }) => Ask::BadLine {
-            answer: Err(Refusal::BadCall { key }),
-        },
-        Err(LineFault::OutOfMemory) => Ask::BadLine {
-            answer: Err(Refusal::OutOfMemory),
+        Err(fault) => Ask::BadLine {
+            answer: Err(refusal_of(fault)),
         },
     }
 }

@@ -218,9 +218,9 @@ fn copy_of(fault: &RestFault) -> Result<RestFault, AllocError>
         RestFault::NoKey => Ok(RestFault::NoKey),
         RestFault::NoRoute => Ok(RestFault::NoRoute),
         RestFault::BadMethod { route } => Ok(RestFault::BadMethod { route: *route }),
-        RestFault::Bad { key } => {
+        RestFault::Bad { part, key } => {
             let key = key.clone()?;
-            Ok(RestFault::Bad { key })
+            Ok(RestFault::Bad { part: *part, key })
         }
         RestFault::Script => Ok(RestFault::Script),
         RestFault::Page => Ok(RestFault::Page),

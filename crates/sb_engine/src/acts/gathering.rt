@@ -33,7 +33,7 @@ use crate::find::leases::leased;
 use crate::plan::drafting::planned;
 use sb_entities::{EntityStore, SpaceStore};
 use sb_machine::{
-    Change, Changes, How, Operation, Path, Refusal, Reply, Step, StoredCopy, Token, Which,
+    Change, Changes, How, Operation, Path, Refusal, Reply, Step, StoredCopy, Token, Which, at_part,
 };
 use sb_model::{Message, Rows, Text};
 use sb_names::limits::{MAX_OPERATIONS, TXN_LIFE};
@@ -64,11 +64,13 @@ pub fn gather_all(
     requires moment { moment ≤ max_moment }
     requires txn { txn ≡ spec.gathering_number (space_in space.now) }
     requires front { list_all is_front gathering.old.changes ≡ true }
-    ensures row { Gathers result (spec.read_steps (space_in space.now) moment path.now (entity_in entity.now) gathering.old.operations.items gathering.old.changes steps.now) gathering.new.operations.items gathering.new.changes }
+    ensures row { Gathers result (spec.read_steps 0 (space_in space.now) moment path.now (entity_in entity.now) gathering.old.operations.items gathering.old.changes steps.now) gathering.new.operations.items gathering.new.changes }
     ensures front { OnOk result (list_all is_front gathering.new.changes ≡ true) }
 {
-    for step in steps {
-        gather_one(alloc, space, moment, path, entity, txn, gathering, step)?;
+    for (part, step) in steps.iter().enumerate() {
+        if let Err(refusal) = gather_one(alloc, space, moment, path, entity, txn, gathering, step) {
+            return Err(at_part(part as u64, refusal));
+        }
     }
     Ok(())
 }

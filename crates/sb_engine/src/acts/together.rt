@@ -154,7 +154,7 @@ fn gather_and_commit(
 ) -> Result<Draft, Refusal>
     requires moment { moment ≤ max_moment }
     requires there { entity_of (entity_in entity.now).about.number (space_in space.now) ≡ Some (entity_in entity.now) }
-    ensures { PlansRow result (gathered.read_steps (space_in space.now) moment path.now (entity_in entity.now) [] (Begins (entity_in entity.now).about.number (moment + 120000) ∷ []) steps.now (gathered.read_commit (space_in space.now) moment (entity_in entity.now) steps.now)) }
+    ensures { PlansRow result (gathered.read_steps 0 (space_in space.now) moment path.now (entity_in entity.now) [] (Begins (entity_in entity.now).about.number (moment + 120000) ∷ []) steps.now (gathered.read_commit (space_in space.now) moment (entity_in entity.now) steps.now)) }
 {
     let Some(txn) = space.last_txn().checked_add(1) else {
         return Err(Refusal::OutOfMemory);

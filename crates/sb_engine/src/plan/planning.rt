@@ -15,9 +15,9 @@ use crate::acts::plan_act;
 use crate::find::via::is_via;
 use crate::plan::numbers::is_numbered;
 use sb_entities::SpaceStore;
-use sb_machine::{Act, By, Refusal};
+use sb_machine::{Act, By, Refusal, at_part_or_whole};
 use sb_model::Text;
-use sb_names::bad_field;
+use sb_names::{bad_field, bad_part};
 use std::alloc::Global;
 
 fn is_via_in(space: &SpaceStore, act: &Act) -> bool
@@ -37,16 +37,17 @@ fn judge_fields(
     by: &Option<By>,
     act: &Act,
 ) -> Result<(), Refusal>
-    ensures passes { Passes result (acts.bad_call (fields.bad_field (acts.is_via_in (space_in space.now) act.now) act.now by.now)) }
+    ensures passes { Passes result (acts.bad_call (fields.bad_part act.now) (fields.bad_field (acts.is_via_in (space_in space.now) act.now) act.now by.now)) }
     ensures free { fields.bad_field (acts.is_via_in (space_in space.now) act.now) act.now by.now ≡ None → IsOk result }
 {
     let Some(key) = bad_field(is_via_in(space, act), act, by) else {
         return Ok(());
     };
-    match Text::of(alloc, key) {
-        Ok(key) => Err(Refusal::BadCall { key }),
-        Err(_) => Err(Refusal::OutOfMemory),
-    }
+    let Ok(key) = Text::of(alloc, key) else {
+        return Err(Refusal::OutOfMemory);
+    };
+    let part = bad_part(act).map(|place| place as u64);
+    Err(at_part_or_whole(part, Refusal::BadCall { key }))
 }
 
 /// What an act would do at a moment at which nothing is due, with all its tests.

@@ -1,6 +1,10 @@
-use Rattle.std.proofs.Common.{[], sym, subst}
+use Rattle.std.proofs.Common.{[], Err, sym, subst}
 use Rattle.std.specs.Prelude.{OnOk}
 use Rattle.sb_node.specs.Nodes.{node_state, node_journal, node_last, node_disks, IsKept, IsOneOf, StayOneOf}
+use Rattle.sb_machine.specs.declared.reply.Refusal.{Refusal}
+use Rattle.sb_lines.specs.Replies.{answer_line}
+use Rattle.sb_lines.specs.declared.form.Form.TheVariants.{Plain}
+use Rattle.sb_app.specs.Endings.{IsReplyCut}
 use Rattle.sb_app.specs.Outside.{output_of}
 use Rattle.sb_node.proofs.Crashes.{untouched_moments}
 use Rattle.sb_app.specs.declared.script_line.ScriptLine.{ScriptLine}
@@ -11,8 +15,11 @@ use Rattle.sb_app.proofs.dispatch.dispatch_line.Goals as goal
 
 pub returns-in_err-write_answer-in-Malformed-clause-cut : goal.returns-in_err-write_answer-in-Malformed-clause-cut
 returns-in_err-write_answer-in-Malformed-clause-cut g c =
+    let was = output_of g.K.Sink c.args.output.now in
+    let now = output_of g.K.Sink c.write_answer.new.output in
     passed_on _ c.in_err-write_answer-in-Malformed.field-0.0 c.from_residual.result c.from_residual.ensures
-    (malformed_cut _ c.args.line c.in-Malformed.key (output_of g.K.Sink c.args.output.now) (output_of g.K.Sink c.write_answer.new.output) _ c.in-Malformed.is c.in_err-write_answer-in-Malformed.ensures.err)
+    (malformed_cut _ c.args.line c.in-Malformed.part c.in-Malformed.key was now _ c.in-Malformed.is
+    (subst (λ (r : Refusal). IsReplyCut (answer_line Plain (Err r)) was now c.in_err-write_answer-in-Malformed.field-0.0) c.at_part_or_whole.ensures c.in_err-write_answer-in-Malformed.ensures.err))
 
 pub returns-in-Request-clause-undecided : goal.returns-in-Request-clause-undecided
 returns-in-Request-clause-undecided g c safe failed =

@@ -66,3 +66,19 @@ returns-clause-unknown c = refl
 pub returns-clause-told : goal.returns-clause-told
 unfolding digits is_utf8 chars serde_json_on_literals path_of messages bytes which send_step settle_step dead_letter_step session_set_step step_named operations together look_act transaction_act session_act lock_act message_act act_named reading_of beside named_call
 returns-clause-told c = refl
+
+pub returns-clause-lost : goal.returns-clause-lost
+unfolding digits is_utf8 chars serde_json_on_literals path_of messages bytes which send_step settle_step dead_letter_step session_set_step step_named operations together look_act transaction_act session_act lock_act message_act act_named reading_of beside named_call
+returns-clause-lost c = refl
+
+pub returns-clause-bad_field : goal.returns-clause-bad_field
+unfolding digits is_utf8 chars serde_json_on_literals path_of messages bytes which send_step settle_step dead_letter_step session_set_step step_named operations together look_act transaction_act session_act lock_act message_act act_named reading_of beside named_call
+returns-clause-bad_field c = refl
+
+pub returns-clause-pending : goal.returns-clause-pending
+unfolding digits is_utf8 chars serde_json_on_literals path_of messages bytes which send_step settle_step dead_letter_step session_set_step step_named operations together look_act transaction_act session_act lock_act message_act act_named reading_of beside named_call
+returns-clause-pending c = refl
+
+pub returns-clause-large : goal.returns-clause-large
+unfolding digits is_utf8 chars serde_json_on_literals path_of messages bytes which send_step settle_step dead_letter_step session_set_step step_named operations together look_act transaction_act session_act lock_act message_act act_named reading_of beside named_call
+returns-clause-large c = refl

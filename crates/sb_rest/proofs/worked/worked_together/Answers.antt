@@ -76,3 +76,15 @@ returns-clause-full c = refl
 pub returns-clause-all_full : goal.returns-clause-all_full
 unfolding utf8_lossy utf8_valid_len utf8_error_len matchit_on_literals serde_json_on_literals digits undollared segment table with_route addresses of_messages of_sessions of_address sights others is_utf8 chars lib.Utf8.encode form_urlencoded_on_literals wanted_by together path_of messages send_step step_named operations together_alone
 returns-clause-all_full c = refl
+
+pub returns-clause-placed : goal.returns-clause-placed
+unfolding utf8_lossy utf8_valid_len utf8_error_len matchit_on_literals serde_json_on_literals digits undollared segment table with_route addresses of_messages of_sessions of_address sights others is_utf8 chars lib.Utf8.encode form_urlencoded_on_literals wanted_by together path_of messages send_step step_named operations together_alone
+returns-clause-placed c = refl
+
+pub returns-clause-bad_part : goal.returns-clause-bad_part
+unfolding utf8_lossy utf8_valid_len utf8_error_len matchit_on_literals serde_json_on_literals digits undollared segment table with_route addresses of_messages of_sessions of_address sights others is_utf8 chars lib.Utf8.encode form_urlencoded_on_literals wanted_by together path_of messages send_step step_named operations together_alone
+returns-clause-bad_part c = refl
+
+pub returns-clause-lost_part : goal.returns-clause-lost_part
+unfolding utf8_lossy utf8_valid_len utf8_error_len matchit_on_literals serde_json_on_literals digits undollared segment table with_route addresses of_messages of_sessions of_address sights others is_utf8 chars lib.Utf8.encode form_urlencoded_on_literals wanted_by together path_of messages send_step step_named operations together_alone
+returns-clause-lost_part c = refl

@@ -15,7 +15,7 @@ returns c =
     let steps = c.args.steps.now in
     let begun = c.begun-gathering.result in
     let own = c.gather_all.new.gathering in
-    plans_by c.commit.result (read_steps s t path e [] (Begins e.about.number (t + 120000) ∷ []) steps (read_commit s t e steps)) (read_commit s t e steps own.operations.items own.changes)
+    plans_by c.commit.result (read_steps 0 s t path e [] (Begins e.about.number (t + 120000) ∷ []) steps (read_commit s t e steps)) (read_commit s t e steps own.operations.items own.changes)
     (gathered_first s t path e steps begun.operations.items own.operations.items begun.changes own.changes (read_commit s t e steps) c.begun-gathering.ensures.operations c.begun-gathering.ensures.changes c.in_default-gather_all.ensures.row) c.commit.ensures
 
 pub returns-in-Err : goal.returns-in-Err
