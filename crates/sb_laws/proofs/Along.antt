@@ -17,6 +17,14 @@ use Rattle.sb_machine.specs.declared.history.Entry.TheVariants.{Ticked, Answered
 use Rattle.sb_machine.specs.declared.state.Space.{Space}
 use Rattle.sb_machine.specs.declared.state.State.{State}
 
+-- ---- along two lists of changes
+
+pub along_append : {X : Type 0} (f : ℕ → Change → Space → List X) (t : ℕ) (cs ds : List Change) (s : Space) → along f t (cs ++ ds) s ≡ along f t cs s ++ along f t ds (after_all t cs s)
+along_append f t [] ds s = refl
+along_append {X = X} f t (c ∷ cs) ds s =
+    let later = after t c s in
+    ap (λ (xs : List X). f t c s ++ xs) (along_append f t cs ds later) ∙ sym (append_assoc (f t c s) (along f t cs later) (along f t ds (after_all t cs later)))
+
 -- ---- an entry leads to the namespace behind its changes
 
 space_in : (s : State) (t : ℕ) (call : Call) (o : Outcome) → (state_in s t call o).space ≡ after_all t (changes_of o) s.space

@@ -140,7 +140,7 @@ settled_calm es t e part c Abandon = released_calm true es t e part c true
 settled_calm es t e part c Defer = (calm_frees (key_of part e) c.number c.count Deferred refl, tt)
 settled_calm es t e part c (DeadLetter reason description) = dead_lettered_calm true es e c (with_reason reason description c.message)
 
-operation_calm : (t : ℕ) (e : Entity) (o : Operation) (s : Space) → Each (IsCalm true) (operation_changes t e o s)
+pub operation_calm : (t : ℕ) (e : Entity) (o : Operation) (s : Space) → Each (IsCalm true) (operation_changes t e o s)
 operation_calm t e (SendLater to messages) s = go (is_same_entity to e.about.path) where
   go : (b : Bool) → Each (IsCalm true) (if b then send_changes t e messages s else in_turn (handed_on e to.name) t messages s)
   go true = sends_calm true t e messages s

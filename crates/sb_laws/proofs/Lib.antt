@@ -37,8 +37,10 @@ pub mod Locking
 pub mod Carried
 pub mod Core
 pub mod Keeping
+pub mod Leased
 pub mod Legal
 pub mod Queuing
+pub mod Settling
 pub mod Shapes
 pub mod Sorting
 pub mod Points
@@ -53,6 +55,7 @@ pub mod Owning
 pub mod Ruling
 pub mod Claiming
 pub mod Ordering
+pub mod Operating
 pub mod Orders
 pub mod Along
 pub mod Placed
@@ -63,6 +66,7 @@ pub mod Ended
 pub mod Calm
 pub mod Deeds
 pub mod SpentOnce
+pub mod Filling
 pub mod FoundOn
 pub mod Anyone
 pub mod OnceIds
@@ -84,6 +88,8 @@ pub mod SpentLived
 pub mod Wholes
 pub mod StaysWhole
 pub mod DoneSettles
+pub mod Accepting
+pub mod SendsTogether
 pub mod SentNotes
 pub mod Joining
 pub mod Sparing

@@ -138,7 +138,7 @@ module _ (t n : ℕ) where
   queue_dropped k deadline o s same = subst (λ (m : ℕ). after t (Drops n) (after t (Queues m deadline o) s) ≡ after t (Drops n) s) (sym same) (ap (λ (l : List Transaction). record s { transactions = l }) (queued_gone deadline o s.transactions))
 
   -- without what is queued the same namespace comes of it, once the transaction is dropped
-  filling_same : (cs : List Change) (a b : Space) → Each (IsFilling n) cs → after t (Drops n) a ≡ after t (Drops n) b → after t (Drops n) (after_all t cs a) ≡ after t (Drops n) (after_all t (unqueued cs) b)
+  pub filling_same : (cs : List Change) (a b : Space) → Each (IsFilling n) cs → after t (Drops n) a ≡ after t (Drops n) b → after t (Drops n) (after_all t cs a) ≡ after t (Drops n) (after_all t (unqueued cs) b)
   filling_same [] a b all same = same
   filling_same (_ ∷ cs) a b (fills_queue k deadline o own, all) same = filling_same cs (after t (Queues k deadline o) a) b all (queue_dropped k deadline o a own ∙ same)
   filling_same (_ ∷ cs) a b (fills_write key lock bytes, all) same = filling_same cs (after t (InLeaf key (Writes lock bytes)) a) (after t (InLeaf key (Writes lock bytes)) b) all (ap (after t (InLeaf key (Writes lock bytes))) same)

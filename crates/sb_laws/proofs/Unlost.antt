@@ -215,7 +215,7 @@ module _ (t n : ℕ) where
 
 -- ---- a transaction begins empty
 
-none_yet : (last : ℕ) (xs : List Transaction) → Each (λ x. (0 < x.number) × (x.number ≤ last)) xs → find (is_transaction (last + 1)) xs ≡ None
+pub none_yet : (last : ℕ) (xs : List Transaction) → Each (λ x. (0 < x.number) × (x.number ≤ last)) xs → find (is_transaction (last + 1)) xs ≡ None
 none_yet last [] all = refl
 none_yet last (x ∷ xs) all = ap (λ (b : Bool). if b then Some x else find (is_transaction (last + 1)) xs) (other x.number all.0.1) ∙ none_yet last xs all.1 where
   other : (k : ℕ) → k ≤ last → (k == last + 1) ≡ false

@@ -55,12 +55,16 @@ pub fn spent_lived()
 {}
 
 /// A settlement under a lock that is answered Done, and isn't a repeat, settles that lock and no other.
+/// Operations that act together, where they aren't a repeat, settle just the locks of those of them that
+/// settle, in their order.
 pub fn done_settles()
     ensures { DoneSettles }
 {}
 
 /// A send that is answered with receipts, and isn't a repeat, has its entity accept the ids of just those
-/// messages that got a number, if it has a window: a duplicate gets its receipt, and notes nothing.
+/// messages that got a number, if it has a window: a duplicate gets its receipt, and notes nothing. So
+/// does the entity of operations that act together, of those that they send to it; what they send elsewhere
+/// notes nothing.
 pub fn sent_notes()
     ensures { SentNotes }
 {}

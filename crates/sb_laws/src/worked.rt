@@ -30,7 +30,7 @@ ghost use Rattle.sb_laws.specs.Worked.{
   start,
   with_left,
 };
-ghost use Rattle.sb_laws.specs.WorkedTogether.{lost_script, scope_script, turns_script, united_script};
+ghost use Rattle.sb_laws.specs.WorkedTogether.{lost_script, other_noted, scope_script, turns_script, united_script, worker_script};
 ghost use Rattle.sb_machine.specs.Accounts.{acts, changing, ends_of, forgets, noted_ids, number_uses, spent_locks};
 ghost use Rattle.sb_machine.specs.Events.{thinned};
 ghost use Rattle.sb_machine.specs.History.{IsLegal, state_after};
@@ -39,7 +39,7 @@ ghost use Rattle.sb_machine.specs.Worked.{answers_in, empty, state_by};
 ghost use Rattle.sb_machine.specs.declared.call.Event.TheVariants.{Called, Tick};
 ghost use Rattle.sb_machine.specs.declared.history.Entry.TheVariants.{Ticked};
 ghost use Rattle.sb_machine.specs.declared.reply.Answered.TheVariants.{New};
-ghost use Rattle.sb_machine.specs.declared.reply.Receipt.TheVariants.{Number};
+ghost use Rattle.sb_machine.specs.declared.reply.Receipt.TheVariants.{Duplicate, Number};
 ghost use Rattle.sb_machine.specs.declared.reply.PartRefusal.TheVariants as why;
 ghost use Rattle.sb_machine.specs.declared.reply.Refusal.TheVariants.{InPart};
 ghost use Rattle.sb_machine.specs.declared.reply.Reply.TheVariants.{Together};
@@ -91,7 +91,8 @@ pub fn worked_failures()
 
 /// A message is completed, another sent on and a session set together: what each is answered, and the
 /// namespace that comes of them, as of a transaction. Then a lock is lost, and an operation is another
-/// entity's: both are refused, with the operation's place, and leave all as it was.
+/// entity's: both are refused, with the operation's place, and leave all as it was. At last two are settled
+/// around sends of ids: the locks that this uses up, and the ids that it notes, in their order.
 pub fn worked_together()
     ensures replies { drop 5 (answers_in (history united_script)) ≡ Ok (New (Together (Done ∷ Sent (Number 1 ∷ []) ∷ Done ∷ []))) ∷ [] }
     ensures in_turn { (state_by united_script).space ≡ (state_by turns_script).space }
@@ -99,4 +100,7 @@ pub fn worked_together()
     ensures scope { drop 6 (answers_in (history scope_script)) ≡ Err (InPart 1 why.TxnScope) ∷ [] }
     ensures left { state_by lost_script ≡ state_by united_script }
     ensures kept { state_by scope_script ≡ state_by united_script }
+    ensures worker { drop 5 (answers_in (history worker_script)) ≡ Ok (New (Together (Done ∷ Sent (Duplicate ∷ Number 3 ∷ []) ∷ Sent (Number 1 ∷ []) ∷ Done ∷ []))) ∷ [] }
+    ensures settled { drop 5 (spends_by_entry start (history worker_script)) ≡ (2 ∷ 1 ∷ []) ∷ [] }
+    ensures noted { drop 5 (notes_by_entry start (history worker_script)) ≡ (other_noted ∷ []) ∷ [] }
 {}

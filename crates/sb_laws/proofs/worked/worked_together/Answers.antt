@@ -25,3 +25,15 @@ returns-clause-left c = refl
 pub returns-clause-kept : goal.returns-clause-kept
 unfolding chars
 returns-clause-kept c = refl
+
+pub returns-clause-worker : goal.returns-clause-worker
+unfolding chars
+returns-clause-worker c = refl
+
+pub returns-clause-settled : goal.returns-clause-settled
+unfolding chars
+returns-clause-settled c = refl
+
+pub returns-clause-noted : goal.returns-clause-noted
+unfolding chars
+returns-clause-noted c = refl
