@@ -2,7 +2,6 @@
 use Rattle.std.proofs.Common.{◌≡◌, ◌≢◌, ◌≤◌, ◌<◌, ◌⊎◌, inl, inr, ℕ, List, [], ◌∷◌, length, map, Bool, true, false, Option, Some, None, refl, sym, ◌∙◌, ap, ap₂, subst, ⊎_elim, arith}
 use Rattle.std.specs.Prelude.{if◌then◌else◌, is_some, ◌||◌}
 use Rattle.std.specs.List.{list_any}
-use Rattle.sb_outside.specs.Causes.{Rose}
 use Rattle.sb_outside.specs.declared.disk.Disk.{Ghosts}
 use Rattle.sb_machine.specs.History.{Log, IsLegal, after_entries, after_entry, fresh_log, state_after, stops}
 use Rattle.sb_machine.specs.declared.history.Entry.{Entry}
@@ -15,7 +14,7 @@ use Rattle.sb_node.specs.declared.node.Node.{Node}
 use Rattle.sb_node.specs.Nodes.{node_disks, node_state, node_stopped, IsDurable}
 use Rattle.sb_node.specs.Recovery.{Recovers, recovered_on}
 use Rattle.sb_node.specs.Groups.{FollowByGroups}
-use Rattle.sb_node.specs.Serving.{node_goes_on, opened_disks, origin_of, HasDiskRisen, IsLeft, StandsFor}
+use Rattle.sb_node.specs.Serving.{node_goes_on, opened_disks, origin_of, IsLeft, StandsFor}
 use Rattle.sb_node.specs.Steps.{is_spared}
 use Rattle.sb_node.proofs.Whole.{honest_on, quiet_on}
 use Rattle.sb_desk.specs.Desks.{IsKeptIn, IsNew, IsOf, Open, Sitting, below}
@@ -39,6 +38,7 @@ use Rattle.sb_app.specs.Openings.{IsOpened, IsFailed, IsFailedStatus}
 use Rattle.sb_app.specs.Servings.{HasDoorRisen, HasJumped, IsFreeServing, IsServeCall, IsServed, IsServeStatus, NoneStops, has_stopped, passes_for, report_line, serve_status}
 use Rattle.sb_app.specs.declared.ending.RunEnd.TheVariants.{DiskFault, OutOfMemory as WantsMemory}
 use Rattle.sb_app.proofs.Carried.{nothing_done, refused_by, rose_of, told_fault, told_quiet, told_status, unopened_by}
+use Rattle.sb_app.proofs.Faults.{failed_on}
 use Rattle.sb_app.proofs.Lawful.{lawful}
 use Rattle.sb_app.proofs.Whole.{kept_durable, kept_recovers}
 
@@ -63,16 +63,6 @@ unserved_at_once clock days goes_on Works count salt was doors = record {
 
 -- ---- an opening that failed
 
--- the count of the disk that failed rose
-risen : (was now : Disks) → HaveFailed was now → HasDiskRisen was now
-risen was now (n, inl one) = inl (rose_of _ _ one.1)
-risen was now (n, inr one) = inr (rose_of _ _ one.1)
-
--- none rose before
-risen_since : (was mid now : Disks) → AreQuiet was mid → HasDiskRisen mid now → HasDiskRisen was now
-risen_since was mid now quiet (inl rose) = inl (subst (λ (n : ℕ). Rose n now.a.faults) quiet.0 rose)
-risen_since was mid now quiet (inr rose) = inr (subst (λ (n : ℕ). Rose n now.b.faults) quiet.1 rose)
-
 pub failed_call : {R : Type 0} (clock : ℕ → Type 0) (days : ℕ) (goes_on : Bool) (Works : Open → Worker R → Type 0) (count : R → ℕ) (salt : ℕ) (was : Outside) (disks : Disks) (output : Output) (doors : List R) (why : OpenWhy) (status : ℕ) → IsFailed salt was.disks disks was.output output why status
     → IsServeCall clock days goes_on Works count salt was (record was { output = output; disks = disks }) doors doors status
 failed_call {R} clock days goes_on Works count salt was disks output doors why status fails = by_status fails.known
@@ -83,13 +73,13 @@ failed_call {R} clock days goes_on Works count salt was disks output doors why s
       known = inr (inr (inl five));
       write_fault = λ four. absurd (omega (arith, five, four));
       write_quiet = λ none. absurd (omega (arith, five, none));
-      disk_fault = λ same. risen was.disks disks (fails.cause (fails.failed five));
+      disk_fault = λ same. fails.cause (fails.failed five);
       disk_quiet = λ other. absurd (other five);
       broken = λ six. absurd (omega (arith, five, six));
       jump = λ jumped. absurd (omega (arith, five, jumped));
       door_fault = λ eight. absurd (omega (arith, five, eight));
       door_quiet = λ other last. refl;
-      complete = λ honest free. absurd (free.disk_quiet (risen was.disks disks (fails.cause (fails.failed five))));
+      complete = λ honest free. absurd (free.disk_quiet (fails.cause (fails.failed five)));
       unread = refl;
       honesty = fails.honesty;
     }
@@ -367,7 +357,7 @@ pub record IsClosed (goes_on : Bool) (salt : ℕ) (start : State) (h : List Entr
   pub legal : IsLegal start h
   pub spares : Spares is_spared start h
   pub says : stopped ≡ has_stopped start h
-  pub cause : stopped ≡ true → HasDiskRisen ready now
+  pub cause : stopped ≡ true → HaveFailed ready now
   pub quiet : stopped ≡ false → AreQuiet ready now
   pub honesty : SameHonesty ready now
   pub follows : AreHonest now → FollowByGroups goes_on start h ready now
@@ -470,7 +460,7 @@ module _ {R : Type 0} (clock : ℕ → Type 0) (days : ℕ) (goes_on : Bool) (Wo
       by_told (inr (inr seven)) = inr seven
 
       by_end : (s : Bool) (e : ServeEnding) (t : ℕ) → stopped ≡ s → ending ≡ e → told ≡ t → (serve_status s e t ≡ 0) ⊎ (serve_status s e t ≡ 7)
-      by_end true e t is same so = absurd (free.disk_quiet (risen_since was.disks ready now.disks quiet (closed.cause is)))
+      by_end true e t is same so = absurd (free.disk_quiet (failed_on was.disks ready now.disks quiet (closed.cause is)))
       by_end false DoorFault t is same so = absurd (free.door_quiet (door_risen (Works desk) count passes passes_now doors doors_now ending tells worked.serves same))
       by_end false OutOfMemory t is same so = inr refl
       by_end false Done t is same so = subst (λ (n : ℕ). (n ≡ 0) ⊎ (n ≡ 7)) so (by_told (told_status _ _ _ _ told line.is))
@@ -484,7 +474,7 @@ module _ {R : Type 0} (clock : ℕ → Type 0) (days : ℕ) (goes_on : Bool) (Wo
         known = serve_known stopped ending told known;
         write_fault = λ four. told_fault _ _ _ _ told line.is (told_at stopped ending told 4 four (omega arith));
         write_quiet = λ none. told_quiet _ _ _ _ told false line.is (told_at stopped ending told 0 none (omega arith));
-        disk_fault = λ five. risen_since was.disks ready now.disks opening.quiet (closed.cause (stopped_at_five stopped ending told known five));
+        disk_fault = λ five. failed_on was.disks ready now.disks opening.quiet (closed.cause (stopped_at_five stopped ending told known five));
         disk_quiet = λ other. quiet_on was.disks ready now.disks opening.quiet (closed.quiet (goes_elsewhere stopped ending told other));
         broken = λ six. absurd (never_six stopped ending told known six);
         jump = λ jumped. absurd (never_jumped stopped ending told known jumped);

@@ -7,11 +7,11 @@ use Rattle.sb_machine.specs.History.{after_entries, fresh_log, state_after, stop
 use Rattle.sb_machine.specs.declared.history.Entry.{Entry}
 use Rattle.sb_machine.specs.declared.history.Entry.TheVariants.{Ticked, Answered as Replied}
 use Rattle.sb_machine.specs.declared.state.State.{State}
-use Rattle.sb_journal.specs.Disks.{Disks, AreHonest, KeepFound, AreQuiet, SameHonesty}
+use Rattle.sb_journal.specs.Disks.{Disks, AreHonest, KeepFound, HaveFailed, AreQuiet, SameHonesty}
 use Rattle.sb_node.specs.Nodes.{IsDurable}
 use Rattle.sb_node.specs.Recovery.{recovered_on}
 use Rattle.sb_node.specs.Groups.{FollowByGroups}
-use Rattle.sb_node.specs.Serving.{origin_of, HasDiskRisen, IsLeft}
+use Rattle.sb_node.specs.Serving.{origin_of, IsLeft}
 use Rattle.sb_node.specs.Steps.{is_spared}
 use Rattle.sb_desk.specs.Desks.{IsKeptIn, IsNew, Open, Sitting, below}
 use Rattle.sb_desk.specs.Entries.{IsReport}
@@ -164,7 +164,7 @@ IsServing reads days goes_on Works salt was now doors doors_now status =
 -- all that makes a server end well once its workers have ended, but for memory, and for a clock that is too far ahead
 pub record IsFreeServing {R : Type 0} (count : R → ℕ) (salt : ℕ) (was now : Outside) (doors doors_now : List R) : Type 0 where
   pub sound : IsBroken (recovered_on was.disks salt) → ⊥
-  pub disk_quiet : HasDiskRisen was.disks now.disks → ⊥
+  pub disk_quiet : HaveFailed was.disks now.disks → ⊥
   pub door_quiet : HasDoorRisen count doors doors_now → ⊥
   pub output_quiet : IsQuiet was.output.faults now.output.faults
 
@@ -178,7 +178,7 @@ pub record IsServeCall {R : Type 0} (reads : ℕ → Type 0) (days : ℕ) (goes_
   pub known : IsServeStatus status
   pub write_fault : status ≡ 4 → RoseByOne was.output.faults now.output.faults
   pub write_quiet : status ≡ 0 → now.output.faults ≡ was.output.faults
-  pub disk_fault : status ≡ 5 → HasDiskRisen was.disks now.disks
+  pub disk_fault : status ≡ 5 → HaveFailed was.disks now.disks
   pub disk_quiet : status ≢ 5 → AreQuiet was.disks now.disks
   pub broken : status ≡ 6 → IsRefused salt was now
   pub jump : status ≡ 14 → (doors_now ≡ doors) × HasJumped reads days salt was now

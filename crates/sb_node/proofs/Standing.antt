@@ -1,13 +1,13 @@
 -- A node stands for a history, and after a group for that with the group's entries.
-use Rattle.std.proofs.Common.{◌≡◌, inl, inr, ℕ, List, [], ◌∷◌, ◌++◌, map, Bool, true, false, true≢false, Option, Some, None, refl, sym, ap, ◌∙◌, subst, arith}
+use Rattle.std.proofs.Common.{◌≡◌, inl, ℕ, List, [], ◌∷◌, ◌++◌, map, Bool, true, false, true≢false, Option, Some, None, refl, sym, ap, ◌∙◌, subst, arith}
 use Rattle.std.specs.Prelude.{is_some}
 use Rattle.sb_desk.specs.Spared.{SparesFrom}
 use Rattle.sb_desk.specs.declared.report.DiskMoment.{DiskMoment}
 use Rattle.sb_desk.specs.declared.report.DiskOrigin.{DiskOrigin}
 use Rattle.sb_desk.specs.declared.report.Origin.{Origin}
 use Rattle.sb_desk.proofs.Sparing.{spares_on}
-use Rattle.sb_journal.specs.Disks.{disks_of, Disks, OneDisk, AreHonest, AreQuiet, NoneFell, OneFault, SameHonesty}
-use Rattle.sb_journal.proofs.Pairs.{still_honest}
+use Rattle.sb_journal.specs.Disks.{disks_of, Disks, OneDisk, AreHonest, AreQuiet, HaveFailed, NoneFell, OneFault, SameHonesty}
+use Rattle.sb_journal.proofs.Pairs.{fault_on, still_honest}
 use Rattle.sb_laws.proofs.Histories.{goes_on}
 use Rattle.sb_machine.specs.Accounts.{changing}
 use Rattle.sb_machine.specs.Consistent.{IsConsistent}
@@ -19,7 +19,7 @@ use Rattle.sb_outside.specs.declared.disk.Disk.{Ghosts}
 use Rattle.sb_node.specs.Groups.{after_groups, has_fault, have_fault, FollowByGroups, FollowGroups}
 use Rattle.sb_node.specs.declared.node.Node.{Node}
 use Rattle.sb_node.specs.Nodes.{node_disk_a, node_disk_b, node_disks, node_journal, node_last, node_log, node_state, node_stopped, IsDurable, IsKept}
-use Rattle.sb_node.specs.Serving.{disk_moment, disk_origin, node_goes_on, node_report, opened_disks, origin_of, with_entries, HasDiskRisen, IsLeft, IsWithOrNot, StandsFor}
+use Rattle.sb_node.specs.Serving.{disk_moment, disk_origin, node_goes_on, node_report, opened_disks, origin_of, with_entries, IsLeft, IsWithOrNot, StandsFor}
 use Rattle.sb_node.specs.Steps.{is_spared, log_of, IsStep}
 use Rattle.sb_node.proofs.ByGroups.{fault_in, flattened_on, groups_end, groups_on, none_undecided, some_on}
 use Rattle.sb_node.proofs.Counts.{after_on, numbers_on}
@@ -28,16 +28,6 @@ use Rattle.sb_node.proofs.Failing.{failed_left, none_failed, none_left, stopped_
 use Rattle.sb_node.proofs.Following.{fault_leaves, group_settled, still_group}
 use Rattle.sb_node.proofs.Settled.{changing_settled, legal_settled, settled_on, spares_settled}
 use Rattle.sb_node.proofs.Whole.{fell_on, honest_on, quiet_on}
-
--- ---- counts since it was opened
-
-risen_on : (was mid later : Disks) → NoneFell mid later → HasDiskRisen was mid → HasDiskRisen was later
-risen_on was mid later more (inl rose) = inl (omega (arith, more.0, rose))
-risen_on was mid later more (inr rose) = inr (omega (arith, more.1, rose))
-
-rises : (was mid later : Disks) (n : ℕ) → NoneFell was mid → OneFault mid later n → HasDiskRisen was later
-rises was mid later n none (inl fault) = inl (omega (arith, none.0, fault.1))
-rises was mid later n none (inr fault) = inr (omega (arith, none.1, fault.1))
 
 -- ---- a group
 
@@ -146,11 +136,11 @@ module _ {D : Type 0} {B : Ghosts D} (old new : Node D B) (es : List Entry) (sta
   stays_quiet : node_stopped new ≡ None → AreQuiet (opened_disks old) (node_disks new)
   stays_quiet runs = quiet_on (opened_disks old) (node_disks old) (node_disks new) (is.quiet (ran (node_goes_on old) old new es go runs)) (go.quiet runs)
 
-  -- one rose, if it has stopped
-  causes : (before now : Option ℕ) → node_stopped old ≡ before → node_stopped new ≡ now → is_some now ≡ true → HasDiskRisen (opened_disks old) (node_disks new)
+  -- one call failed, if it has stopped: none had before, and none is made any more
+  causes : (before now : Option ℕ) → node_stopped old ≡ before → node_stopped new ≡ now → is_some now ≡ true → HaveFailed (opened_disks old) (node_disks new)
   causes before None was runs has = absurd cc
-  causes None (Some n) was stopped has = rises (opened_disks old) (node_disks old) (node_disks new) n is.later (go.failed was n stopped).0
-  causes (Some m) (Some n) was stopped has = risen_on (opened_disks old) (node_disks old) (node_disks new) go.later (is.cause (ap is_some was))
+  causes None (Some n) was stopped has = fault_on (opened_disks old) (node_disks old) (node_disks new) (is.quiet was) (n, (go.failed was n stopped).0)
+  causes (Some m) (Some n) was stopped has = subst (λ (d : Disks). HaveFailed (opened_disks old) d) (sym (go.stays m was).1) (is.cause (ap is_some was))
 
   pub stands_on : StandsFor new start (h ++ es)
   stands_on = record {
@@ -161,7 +151,7 @@ module _ {D : Type 0} {B : Ghosts D} (old new : Node D B) (es : List Entry) (sta
     numbers = numbers_on start h es (node_log old) (node_report old) (node_report new) is.leads is.numbers go.numbers;
     honesty = subst (λ (d : Disks). SameHonesty d (node_disks new)) (sym go.origin) (honest_on (opened_disks old) (node_disks old) (node_disks new) is.honesty go.honesty);
     later = subst (λ (d : Disks). NoneFell d (node_disks new)) (sym go.origin) (fell_on (opened_disks old) (node_disks old) (node_disks new) is.later go.later);
-    cause = λ has. subst (λ (d : Disks). HasDiskRisen d (node_disks new)) (sym go.origin) (causes (node_stopped old) (node_stopped new) refl refl has);
+    cause = λ has. subst (λ (d : Disks). HaveFailed d (node_disks new)) (sym go.origin) (causes (node_stopped old) (node_stopped new) refl refl has);
     kept = λ honest runs. go.kept (is.kept (were_honest honest) (ran (node_goes_on old) old new es go runs)) runs;
     quiet = λ runs. subst (λ (d : Disks). AreQuiet d (node_disks new)) (sym go.origin) (stays_quiet runs);
     began = λ honest. subst (λ (d : Disks). IsDurable d start) (sym go.origin) (is.began (were_honest honest));

@@ -1,12 +1,12 @@
 -- A node as what a desk serves: its numbers, what it found on its disks as it was opened and how it uses them, and the history that it stands for.
-use Rattle.std.specs.Prelude.{◌≡◌, ◌⊎◌, ℕ, zero, suc, ◌+◌, List, [], ◌∷◌, map, length, filter, Bool, true, nat_lt, None, is_some, Result, Ok, Err}
+use Rattle.std.specs.Prelude.{◌≡◌, ℕ, zero, suc, ◌+◌, List, [], ◌∷◌, map, length, filter, Bool, true, nat_lt, None, is_some, Result, Ok, Err}
 use Rattle.sb_desk.specs.Entries.{counted, is_refused, IsReport}
 use Rattle.sb_desk.specs.Spared.{Spares}
 use Rattle.sb_desk.specs.declared.report.DiskMoment.{DiskMoment}
 use Rattle.sb_desk.specs.declared.report.DiskOrigin.{DiskOrigin}
 use Rattle.sb_desk.specs.declared.report.Origin.{Origin}
 use Rattle.sb_desk.specs.declared.report.Report.{Report}
-use Rattle.sb_journal.specs.Disks.{Disks, OneDisk, AreHonest, AreQuiet, NoneFell, SameHonesty}
+use Rattle.sb_journal.specs.Disks.{Disks, OneDisk, AreHonest, AreQuiet, HaveFailed, NoneFell, SameHonesty}
 use Rattle.sb_journal.specs.Journals.{journal_disks}
 use Rattle.sb_machine.specs.Accounts.{changing}
 use Rattle.sb_machine.specs.Consistent.{IsConsistent}
@@ -18,7 +18,6 @@ use Rattle.sb_machine.specs.declared.history.Entry.{Entry}
 use Rattle.sb_machine.specs.declared.reply.Answered.{Answered}
 use Rattle.sb_machine.specs.declared.reply.Refusal.{Refusal}
 use Rattle.sb_machine.specs.declared.state.State.{State}
-use Rattle.sb_outside.specs.Causes.{Rose}
 use Rattle.sb_outside.specs.Held.{Held}
 use Rattle.sb_outside.specs.declared.disk.Disk.{Ghosts}
 use Rattle.sb_node.specs.declared.node.Node.{Node}
@@ -76,10 +75,6 @@ node_goes_on n = nat_lt 0 n.growth.checkpoint_after
 abbrev pub node_origin : {D : Type 0} {B : Ghosts D} → Node D B → Origin
 node_origin n = origin_of (node_goes_on n) (opened_disks n)
 
--- the count of one of the disks rose
-abbrev pub HasDiskRisen : (was now : Disks) → Type 0
-HasDiskRisen was now = Rose was.a.faults now.a.faults ⊎ Rose was.b.faults now.b.faults
-
 -- ---- the history
 
 -- whatever a crash now leaves leads to this state, or to the one with these events, which are there as a whole or not at all
@@ -105,9 +100,9 @@ pub record StandsFor {D : Type 0} {B : Ghosts D} (n : Node D B) (start : State) 
   pub leads : node_log n ≡ settled (after_entries (fresh_log start) h)
   pub numbers : IsReport start h (node_report n)
   pub honesty : SameHonesty (opened_disks n) (node_disks n)
-  -- it has stopped only where a count rose, and none rose where it runs
+  -- since it was opened no count fell; it has stopped only where one call of one disk failed, and none failed where it runs
   pub later : NoneFell (opened_disks n) (node_disks n)
-  pub cause : is_some (node_stopped n) ≡ true → HasDiskRisen (opened_disks n) (node_disks n)
+  pub cause : is_some (node_stopped n) ≡ true → HaveFailed (opened_disks n) (node_disks n)
   pub quiet : node_stopped n ≡ None → AreQuiet (opened_disks n) (node_disks n)
   pub kept : AreHonest (node_disks n) → node_stopped n ≡ None → IsKept n
   pub began : AreHonest (node_disks n) → IsDurable (opened_disks n) start
