@@ -22,12 +22,12 @@ use Rattle.sb_server.specs.declared.stage.Stage.TheVariants.{Wants, Serves, Over
 use Rattle.sb_server.specs.declared.work.Stop.{Stop}
 use Rattle.sb_server.specs.declared.work.Stop.TheVariants.{Enough, Ended, Fault, OutOfMemory}
 use Rattle.sb_server.specs.Doings.{IsDoing, IsDoingAt, IsFree, sitting_of}
-use Rattle.sb_server.specs.Reads.{Stand, stand_of}
+use Rattle.sb_server.specs.Reads.{Stand, IsReadTo, stand_of}
 use Rattle.sb_server.specs.Stages.{start_of, here_of, IsWanting, IsServing, IsAt, IsSound, stage_behind, stop_at, is_over}
 use Rattle.sb_server.specs.Talks.{Start, Ends}
 use Rattle.sb_server.specs.Times.{IsSince}
 use Rattle.sb_server.specs.Works.{Visit, Works, ServesBy, GoesOn, MayStopBy, stop_of}
-use Rattle.sb_server.proofs.Turning.{talks_from, no_inbox}
+use Rattle.sb_server.proofs.Turning.{talks_from, no_inbox, unread}
 use Rattle.sb_server.proofs.Working.{works_none, works_on, works_one, works_failed, works_ended, each_both, may_end, may_fail, may_stop, stops_after, gone_more, gone_enough, GoneOn}
 
 -- a stage that serves has one connection
@@ -114,7 +114,7 @@ module _ {D X : Type 0} (IsReading : ℕ → Type 0) (access : Access) (limits :
 
   -- one was given
   pub at_one : (q : Sitting) (e f : D) (left : ℕ) (guest : Guest X) → Wanting q e left → 1 ≤ left → GivesInOrder (waiting e) (waiting f) (One guest.conn) → Stays (taken e) (taken f) → count f ≡ count e → out f ≡ out e + 1
-      → Requests [] [] guest.inbox.incoming.left → ((l : Option (List ℕ)) → stand_of guest.inbox l ≡ record { left = guest.inbox.incoming.left; fed = 0; there = l }) → guest.doing ≡ Reads → guest.since ≡ Never → At (Free q) f (Serves (left - 1) guest)
+      → Requests [] [] guest.inbox.incoming.left → ((l : Option (List ℕ)) → stand_of guest.inbox l ≡ record { left = guest.inbox.incoming.left; fed = 0; unfed = []; there = l }) → guest.doing ≡ Reads → guest.since ≡ Never → At (Free q) f (Serves (left - 1) guest)
   at_one q e f left guest w some a b counts more requests stand reading never = record {
     visits = w.visits;
     mid = q;
@@ -152,7 +152,7 @@ module _ {D X : Type 0} (IsReading : ℕ → Type 0) (access : Access) (limits :
   at_lost q e f g left conn w some a b counts more stays gains later less =
       let v : Visit X = record { before = conn; after = conn; ending = NoMemory } in
       behind q q e g (left - 1) w.visits v (waiting e) (waiting g) (taken e) (Some OutOfMemory) w.works w.on (omega (arith, w.few, some)) w.count_is
-      (works_one By q q (waiting e) (waiting f) (waiting g) (taken e) (taken f) (taken g) v a stays b gains (_, no_inbox IsReading (start_of there given reads writes access limits q conn)))
+      (works_one By q q (waiting e) (waiting f) (waiting g) (taken e) (taken f) (taken g) v a stays b gains (_, unread (there conn), no_inbox IsReading (start_of there given reads writes access limits q conn)))
       (may_stop v (ended g) (count e) (count f) (count g) (Some OutOfMemory) refl later counts) (omega (arith, more, less, w.out_is))
 
   -- a step was made
@@ -178,10 +178,10 @@ module _ {D X : Type 0} (IsReading : ℕ → Type 0) (access : Access) (limits :
 
   -- the connection ended with it
   pub at_over : (seat : Seat) (r : Sitting) (e f : D) (left : ℕ) (old : Guest X) (stand : Stand) (conn : X) (ending : Ending) → Serving seat e left old
-      → ((s : Start) → s.access ≡ access → s.limits ≡ limits → IsSince IsReading old.since → IsDoingAt IsReading s (here_of there given reads writes (sitting_of seat) old) seat old.doing → Ends IsReading s (record { pass = r; stand = stand; written = given conn; reads = reads conn; writes = writes conn }) ending)
+      → ((s : Start) → s.access ≡ access → s.limits ≡ limits → IsSince IsReading old.since → IsDoingAt IsReading s (here_of there given reads writes (sitting_of seat) old) seat old.doing → Ends IsReading s (record { pass = r; stand = stand; written = given conn; reads = reads conn; writes = writes conn }) ending) → IsReadTo stand (there conn)
       → Stays (waiting e) (waiting f) → Gains (taken e) (taken f) (conn ∷ []) → count f ≡ count e → out f ≡ out e - 1 → At (Free r) f (stage_behind (stop_of ending) left)
-  at_over seat r e f left old stand conn ending w steps stays gains later less =
+  at_over seat r e f left old stand conn ending w steps read stays gains later less =
       let v : Visit X = record { before = w.conn; after = conn; ending = ending } in
       behind w.mid r e f left w.visits v w.waited (waiting f) w.given_back (stop_of ending) w.works w.on w.few w.count_is
-      (works_one By w.mid r w.waited (waiting e) (waiting f) w.given_back (taken e) (taken f) v w.gives stays w.stays gains (stand, steps (start_of there given reads writes access limits w.mid w.conn) refl refl w.since w.doing))
+      (works_one By w.mid r w.waited (waiting e) (waiting f) w.given_back (taken e) (taken f) v w.gives stays w.stays gains (stand, read, steps (start_of there given reads writes access limits w.mid w.conn) refl refl w.since w.doing))
       (may_stop v (ended f) (count e) (count e) (count f) (stop_of ending) refl later refl) (omega (arith, less, w.out_is))

@@ -33,8 +33,8 @@ took_nothing o now none view = (
 
 -- ---- what is left stays
 
-pub stand_kept : (new old : Untaken) (fed : ℕ) (there : Option (List ℕ)) → new ≡ old → ◌≡◌ {A = Stand} (record { left = new.left; fed = fed; there = there }) (record { left = old.left; fed = fed; there = there })
-stand_kept new old fed there same = ap (λ (u : Untaken). let s : Stand = record { left = u.left; fed = fed; there = there } in s) same
+pub stand_kept : (new old : Untaken) (fed : ℕ) (unfed : List ℕ) (there : Option (List ℕ)) → new ≡ old → ◌≡◌ {A = Stand} (record { left = new.left; fed = fed; unfed = unfed; there = there }) (record { left = old.left; fed = fed; unfed = unfed; there = there })
+stand_kept new old fed unfed there same = ap (λ (u : Untaken). let s : Stand = record { left = u.left; fed = fed; unfed = unfed; there = there } in s) same
 
 pub takes_kept : (a b : Stand) → b ≡ a → Takes a [] b
 takes_kept a b same = subst (λ (s : Stand). Takes a [] s) (sym same) (takes_start a)

@@ -98,6 +98,7 @@ recounted IsReading s h k (inr (all, l, part)) = inr (
     given_up = l.given_up;
     all_is = l.all_is;
     cause = l.cause;
+    all_fed = l.all_fed;
   },
   part,
 )

@@ -66,7 +66,7 @@ ends_go IsReading s h Lost t = (t.made, t.goes)
 pub worked_goes : {X : Type 0} (IsReading : ℕ → Type 0) (access : Access) (limits : Limits) (there given : X → Option (List ℕ)) (reads writes : X → ℕ) (p q : Sitting) (vs : List (Visit X)) → Worked (ServesBy IsReading access limits there given reads writes) p vs q → (made : List Entry) × GoesBy p made q
 worked_goes IsReading access limits there given reads writes p q [] w = ([], subst (λ (r : Sitting). GoesBy p [] r) (sym w) (goes_by_none p))
 worked_goes IsReading access limits there given reads writes p q (v ∷ vs) w =
-    let one = ends_go IsReading _ _ v.ending w.1.1 in
+    let one = ends_go IsReading _ _ v.ending w.1.2 in
     let rest = worked_goes IsReading access limits there given reads writes w.0 q vs w.2 in
     (one.0 ++ rest.0, goes_by_both p w.0 q one.0 rest.0 one.1 rest.1)
 
@@ -188,7 +188,7 @@ last_stops : {X : Type 0} (IsReading : ℕ → Type 0) (access : Access) (limits
 last_stops IsReading access limits there given reads writes p q [] v is w =
     let s : Start = record { access = access; limits = limits; pass = p; there = there v.before; given = given v.before; reads = reads v.before; writes = writes v.before } in
     let h : Here = record { pass = w.0; stand = w.1.0; written = given v.after; reads = reads v.after; writes = writes v.after } in
-    ap (λ (r : Sitting). list_any is_stop r.seen) w.2 ∙ stop_seen IsReading s h (subst (λ (e : Ending). Ends IsReading s h e) is w.1.1)
+    ap (λ (r : Sitting). list_any is_stop r.seen) w.2 ∙ stop_seen IsReading s h (subst (λ (e : Ending). Ends IsReading s h e) is w.1.2)
 last_stops IsReading access limits there given reads writes p q (u ∷ front) v is w = last_stops IsReading access limits there given reads writes w.0 q front v is w.2
 
 -- a worker that ended with the namespace has seen that it acts no more

@@ -15,7 +15,7 @@ use Rattle.sb_server.specs.declared.came.Filled.TheVariants.{Over as Done}
 use Rattle.sb_server.specs.declared.ending.Ending.TheVariants.{Closed, Truncated, ReadFault}
 use Rattle.sb_server.specs.declared.inbox.Inbox.{Inbox}
 use Rattle.sb_server.specs.Readers.{HasAnswer}
-use Rattle.sb_server.specs.Reads.{Stand, and_before, stand_of, HasRead, Takes, IsDone, WaitsForMore, GoesOnBy, FillsWith, Fills, IfOver, EndsWith, has_ended, IsGone}
+use Rattle.sb_server.specs.Reads.{Stand, and_before, stand_of, IsReadTo, HasRead, Takes, IsDone, WaitsForMore, GoesOnBy, FillsWith, Fills, IfNone, IfOver, EndsWith, has_ended, IsGone}
 
 -- ---- what the reader answers
 
@@ -92,8 +92,8 @@ first_piece xs n = let all : n - 0 ≡ n = omega arith in ap (λ (k : ℕ). take
 -- n bytes of a piece were fed
 pub feeds : (old new : Left) (xs : List ℕ) (at end n taken : ℕ) (left : Option (List ℕ))
     → n ≤ length (slice_range xs at end) → at ≤ end → end ≤ length xs → end - at ≤ taken → FeedGoesOn old (take n (slice_range xs at end)) new
-    → Takes (record { left = old; fed = taken - (end - at); there = and_before (slice_range xs at end) left }) []
-    (record { left = new; fed = taken - (end - (at + n)); there = and_before (slice_range xs (at + n) end) left })
+    → Takes (record { left = old; fed = taken - (end - at); unfed = slice_range xs at end; there = and_before (slice_range xs at end) left }) []
+    (record { left = new; fed = taken - (end - (at + n)); unfed = slice_range xs (at + n) end; there = and_before (slice_range xs (at + n) end) left })
 feeds old new xs at end n taken left few ordered within counted goes = record {
   fed = fed;
   goes = λ stream before r. subst (λ (l : List RequestMessage). Requests (stream ++ fed) l new) (sym (append-nil before)) (goes stream before r);
@@ -151,13 +151,17 @@ pub takes_to : (a : Stand) (ms : List RequestMessage) (i : Inbox) (l k : Option 
 takes_to a ms i l k same x = subst (λ (o : Option (List ℕ)). Takes a ms (stand_of i o)) (sym same) x
 
 -- requests were taken of what was fed
-pub takes_of : (a b : Left) (n : ℕ) (t : Option (List ℕ)) (ms : List RequestMessage) → GoesOnBy a ms b → Takes (record { left = a; fed = n; there = t }) ms (record { left = b; fed = n; there = t })
-takes_of a b n t ms g = record {
+pub takes_of : (a b : Left) (n : ℕ) (u : List ℕ) (t : Option (List ℕ)) (ms : List RequestMessage) → GoesOnBy a ms b → Takes (record { left = a; fed = n; unfed = u; there = t }) ms (record { left = b; fed = n; unfed = u; there = t })
+takes_of a b n u t ms g = record {
   fed = [];
   goes = λ stream before r. subst (λ (l : List ℕ). Requests l (before ++ ms) b) (sym (append-nil stream)) (g stream before r);
   read = read_none t;
   count = omega arith;
 }
+
+-- no byte but those of the piece was read and not fed
+pub read_to : (i : Inbox) (left : Option (List ℕ)) → IsReadTo (stand_of i left) left
+read_to i left = (omega (arith, length-slice_range i.piece.items i.at i.end i.ordered i.within, i.within, i.room), refl)
 
 -- ---- filling
 
@@ -189,13 +193,13 @@ fills_none s = record { left = refl; fed = refl; there = by s.there }
     by (Some l) = refl
 
 -- a read failed
-pub fills_failed : (l : Left) (n : ℕ) (piece : List ℕ) (a b : Option (List ℕ)) → Stays a b → Fills (record { left = l; fed = n; there = and_before piece a }) (record { left = l; fed = n; there = and_before piece b })
+pub fills_failed : (l : Left) (n : ℕ) (piece : List ℕ) (a b : Option (List ℕ)) → Stays a b → Fills (record { left = l; fed = n; unfed = piece; there = and_before piece a }) (record { left = l; fed = n; unfed = piece; there = and_before piece b })
 fills_failed l n piece a b s = record { left = refl; fed = refl; there = fills_stays piece a b s }
 
 -- n bytes were read into a piece of which all had been fed
 pub fills_read : (l : Left) (taken at end n : ℕ) (xs into : List ℕ) (there after : Option (List ℕ)) → Consumes there after n into → at ≡ end
-    → Fills (record { left = l; fed = taken - (end - at); there = and_before (slice_range xs at end) there })
-    (record { left = l; fed = (taken + n) - (n - 0); there = and_before (slice_range into 0 n) after })
+    → Fills (record { left = l; fed = taken - (end - at); unfed = slice_range xs at end; there = and_before (slice_range xs at end) there })
+    (record { left = l; fed = (taken + n) - (n - 0); unfed = slice_range into 0 n; there = and_before (slice_range into 0 n) after })
 fills_read l taken at end n xs into there after c same = record { left = refl; fed = omega (arith, same); there = by there c }
   where
     by : (t : Option (List ℕ)) → Consumes t after n into → FillsWith (and_before (slice_range xs at end) t) (and_before (slice_range into 0 n) after)
@@ -218,8 +222,8 @@ done_before (Some l) u v fed h d = subst (λ (o : Option (List ℕ)). IsDone o v
 
 -- ---- whether the other side has gone
 
-pub gone_of : (filled : Filled) (there : Option (List ℕ)) (new : Stand) (count_before count : ℕ) → IfOver filled (λ ending. EndsWith ending there new count_before count) → has_ended filled ≡ true → IsGone there new.there count_before count
-gone_of (Done Closed) there new count_before count x e = inl x.0
-gone_of (Done Truncated) there new count_before count x e = inl x.0
-gone_of (Done ReadFault) there new count_before count x e = inr x
-gone_of _ there new count_before count x e = absurd cc
+pub gone_of : (filled : Filled) (there : Option (List ℕ)) (new : Stand) (count_before count : ℕ) → IfOver filled (λ ending. EndsWith ending there new count_before count) → IfNone filled (new.unfed ≡ []) → has_ended filled ≡ true → IsGone there new count_before count
+gone_of (Done Closed) there new count_before count x none e = (inl x.0, none)
+gone_of (Done Truncated) there new count_before count x none e = (inl x.0, none)
+gone_of (Done ReadFault) there new count_before count x none e = (inr x, none)
+gone_of _ there new count_before count x none e = absurd cc

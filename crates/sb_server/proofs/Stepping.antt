@@ -54,11 +54,11 @@ due_asked IsReading s h n m ask closes told t x asks is a written writes = recor
 }
 
 -- who asked has gone
-pub due_gone : (IsReading : ℕ → Type 0) (s : Start) (h n : Here) (p : Patience) → IsAsking IsReading s h p → Reaches h n [] → IsGone h.stand.there n.stand.there h.reads n.reads → n.pass ≡ h.pass → n.written ≡ h.written → h.writes ≤ n.writes
+pub due_gone : (IsReading : ℕ → Type 0) (s : Start) (h n : Here) (p : Patience) → IsAsking IsReading s h p → Reaches h n [] → IsGone h.stand.there n.stand h.reads n.reads → n.pass ≡ h.pass → n.written ≡ h.written → h.writes ≤ n.writes
     → IsDue IsReading s n (farewell p)
 due_gone IsReading s h n p a x left pass written writes = record {
-  whole = λ out w k says le gains. gone IsReading s a.old (record n { written = w; writes = k }) a.m found.0 out a.talks takes goes (up out says) cause (subst (λ (o : Option (List ℕ)). Gains o w out) (written ∙ a.written) gains);
-  part = λ out w k says rose part. gone_part IsReading s a.old (record n { written = w; writes = k }) a.m found.0 out a.talks takes goes (up out says) cause (subst (λ (o : Option (List ℕ)). GainsPart o w out) (written ∙ a.written) part)
+  whole = λ out w k says le gains. gone IsReading s a.old (record n { written = w; writes = k }) a.m found.0 out a.talks takes goes (up out says) cause left.1 (subst (λ (o : Option (List ℕ)). Gains o w out) (written ∙ a.written) gains);
+  part = λ out w k says rose part. gone_part IsReading s a.old (record n { written = w; writes = k }) a.m found.0 out a.talks takes goes (up out says) cause left.1 (subst (λ (o : Option (List ℕ)). GainsPart o w out) (written ∙ a.written) part)
       (rose_later a.old.writes n.writes k (omega (arith, a.writes, writes)) rose);
 }
   where
@@ -80,12 +80,12 @@ due_gone IsReading s h n p a x left pass written writes = record {
       says = subst (λ (r : Result Answered Refusal). AnswersWaiter p.waiter r true out) (nothing_is p.answer a.patient.empty) (said_answers p.waiter p.answer true out says);
     }
 
-    left_at : IsGone h.stand.there n.stand.there h.reads n.reads → IsDone s.there n.stand.there ⊎ Rose s.reads n.reads
+    left_at : IsDone h.stand.there n.stand.there ⊎ Rose h.reads n.reads → IsDone s.there n.stand.there ⊎ Rose s.reads n.reads
     left_at (inl done) = inl (done_before s.there h.stand.there n.stand.there (a.talks.fed ++ a.takes.fed) (read_on s.there a.old.stand.there h.stand.there a.talks.fed a.takes.fed a.talks.read a.takes.read) done)
     left_at (inr rose) = inr (rose_later s.reads h.reads n.reads (omega (arith, a.talks.reads, a.reads)) rose)
 
     cause : IsDone s.there n.stand.there ⊎ Rose s.reads n.reads
-    cause = left_at left
+    cause = left_at left.0
 
 -- its bytes stand
 pub due_owes : (IsReading : ℕ → Type 0) (s : Start) (h : Here) (told : Telling) (v : Vec ℕ Global) (w : Option (List ℕ)) (k : ℕ) → IsDue IsReading s h told → Says told.said told.closes v.items → w ≡ h.written → k ≡ h.writes

@@ -1,5 +1,5 @@
 -- One turn of a connection.
-use Rattle.std.proofs.Common.{◌≡◌, ◌⊎◌, ℕ, ◌≤◌, List, [], ◌∷◌, ◌++◌, length-append, sym, refl, ap, subst, inl, inr, arith, append-nil, Bool, Option}
+use Rattle.std.proofs.Common.{◌≡◌, ◌⊎◌, ℕ, ◌≤◌, List, [], ◌∷◌, ◌++◌, length-append, sym, refl, ap, subst, inl, inr, arith, append-nil, Bool, Option, Some, None}
 use Rattle.sb_machine.specs.declared.history.Entry.{Entry}
 use Rattle.sb_desk.specs.Desks.{Sitting}
 use Rattle.sb_outside.specs.Causes.{Rose}
@@ -18,7 +18,7 @@ use Rattle.sb_server.specs.declared.ask.Ask.{Ask}
 use Rattle.sb_server.specs.declared.ending.Ending.{Ending}
 use Rattle.sb_server.specs.declared.ending.Ending.TheVariants.{Closed, BadHead, HeadTooLarge, BodyTooLarge, Truncated, LongConnection, ReadFault, Gone, WriteFault, Slow, Stopped, OutOfMemory}
 use Rattle.sb_server.specs.Asks.{AsksFor, asks_close}
-use Rattle.sb_server.specs.Reads.{Stand, Takes, EndsWith, IsDone, WaitsForMore}
+use Rattle.sb_server.specs.Reads.{Stand, Takes, EndsWith, IsDone, IsReadTo, NeedsMore}
 use Rattle.sb_server.specs.Responds.{GivenUp, RespondsTo, Responds}
 use Rattle.sb_server.specs.Talks.{Start, Here, Talks, IsRefused, Leaves, ReadsOut, Ends, TurnsTo, ending_of, refusal_bytes, refusal_ending}
 use Rattle.sb_server.specs.Waiting.{GoesBy}
@@ -53,7 +53,7 @@ reads_on IsReading s h n t x pass written writes = record {
 }
 
 -- reading ended
-pub over : (IsReading : ℕ → Type 0) (s : Start) (h n : Here) (ending : Ending) → Talks IsReading s h Goes → Reaches h n [] → EndsWith ending h.stand.there n.stand h.reads n.reads → WaitsForMore n.stand.left
+pub over : (IsReading : ℕ → Type 0) (s : Start) (h n : Here) (ending : Ending) → Talks IsReading s h Goes → Reaches h n [] → EndsWith ending h.stand.there n.stand h.reads n.reads → NeedsMore n.stand
     → n.pass ≡ h.pass → n.written ≡ h.written → h.writes ≤ n.writes → Ends IsReading s n ending
 over IsReading s h n ending t x e waits pass written writes = by ending e
   where
@@ -183,8 +183,8 @@ asked_part IsReading s h n m ask closes made out turn t x a responds part rose =
 
 -- these were due
 leaves : (IsReading : ℕ → Type 0) (s : Start) (h n : Here) (m : RequestMessage) (made : List Entry) (said : List ℕ) (t : Talks IsReading s h Goes) → Takes h.stand (m ∷ []) n.stand → GoesBy h.pass made n.pass
-    → GivenUp IsReading s.access h.pass.seat m made said → IsDone s.there n.stand.there ⊎ Rose s.reads n.reads → Leaves IsReading s n (t.out ++ said)
-leaves IsReading s h n m made said t takes goes up cause = record {
+    → GivenUp IsReading s.access h.pass.seat m made said → IsDone s.there n.stand.there ⊎ Rose s.reads n.reads → n.stand.unfed ≡ [] → Leaves IsReading s n (t.out ++ said)
+leaves IsReading s h n m made said t takes goes up cause all_fed = record {
   fed = t.fed ++ takes.fed;
   ms = t.ms;
   m = m;
@@ -199,25 +199,26 @@ leaves IsReading s h n m made said t takes goes up cause = record {
   given_up = subst (λ (k : ℕ). GivenUp IsReading s.access k m made said) (same_seat s.pass h.pass t.made t.goes) up;
   all_is = refl;
   cause = cause;
+  all_fed = all_fed;
 }
 
 -- all was written
 pub gone : (IsReading : ℕ → Type 0) (s : Start) (h n : Here) (m : RequestMessage) (made : List Entry) (said : List ℕ) → Talks IsReading s h Goes → Takes h.stand (m ∷ []) n.stand → GoesBy h.pass made n.pass
-    → GivenUp IsReading s.access h.pass.seat m made said → IsDone s.there n.stand.there ⊎ Rose s.reads n.reads → Gains h.written n.written said → Ends IsReading s n Gone
-gone IsReading s h n m made said t takes goes up cause wrote =
-    (t.out ++ said, leaves IsReading s h n m made said t takes goes up cause, gains-gains s.given h.written n.written t.out said t.wrote wrote)
+    → GivenUp IsReading s.access h.pass.seat m made said → IsDone s.there n.stand.there ⊎ Rose s.reads n.reads → n.stand.unfed ≡ [] → Gains h.written n.written said → Ends IsReading s n Gone
+gone IsReading s h n m made said t takes goes up cause all_fed wrote =
+    (t.out ++ said, leaves IsReading s h n m made said t takes goes up cause all_fed, gains-gains s.given h.written n.written t.out said t.wrote wrote)
 
 -- a front of it was written
 pub gone_part : (IsReading : ℕ → Type 0) (s : Start) (h n : Here) (m : RequestMessage) (made : List Entry) (said : List ℕ) → Talks IsReading s h Goes → Takes h.stand (m ∷ []) n.stand → GoesBy h.pass made n.pass
-    → GivenUp IsReading s.access h.pass.seat m made said → IsDone s.there n.stand.there ⊎ Rose s.reads n.reads → GainsPart h.written n.written said → Rose h.writes n.writes → Ends IsReading s n WriteFault
-gone_part IsReading s h n m made said t takes goes up cause part rose = (
-  inr (t.out ++ said, leaves IsReading s h n m made said t takes goes up cause, gains-part s.given h.written n.written t.out said (t.out ++ said) t.wrote part [] (ap (λ (l : List ℕ). t.out ++ l) (sym (append-nil said)))),
+    → GivenUp IsReading s.access h.pass.seat m made said → IsDone s.there n.stand.there ⊎ Rose s.reads n.reads → n.stand.unfed ≡ [] → GainsPart h.written n.written said → Rose h.writes n.writes → Ends IsReading s n WriteFault
+gone_part IsReading s h n m made said t takes goes up cause all_fed part rose = (
+  inr (t.out ++ said, leaves IsReading s h n m made said t takes goes up cause all_fed, gains-part s.given h.written n.written t.out said (t.out ++ said) t.wrote part [] (ap (λ (l : List ℕ). t.out ++ l) (sym (append-nil said)))),
   rose_later s.writes h.writes n.writes t.writes rose,
 )
 
 -- ---- how a connection begins
 
-pub talks_start : (IsReading : ℕ → Type 0) (s : Start) (left : Left) → Requests [] [] left → Talks IsReading s (record { pass = s.pass; stand = record { left = left; fed = 0; there = s.there }; written = s.given; reads = s.reads; writes = s.writes }) Goes
+pub talks_start : (IsReading : ℕ → Type 0) (s : Start) (left : Left) → Requests [] [] left → Talks IsReading s (record { pass = s.pass; stand = record { left = left; fed = 0; unfed = []; there = s.there }; written = s.given; reads = s.reads; writes = s.writes }) Goes
 talks_start IsReading s left requests = record {
   fed = [];
   ms = [];
@@ -233,10 +234,15 @@ talks_start IsReading s left requests = record {
   writes = omega arith;
 }
 
-pub talks_from : (IsReading : ℕ → Type 0) (s : Start) (left : Left) (stand : Stand) → Requests [] [] left → stand ≡ record { left = left; fed = 0; there = s.there }
+pub talks_from : (IsReading : ℕ → Type 0) (s : Start) (left : Left) (stand : Stand) → Requests [] [] left → stand ≡ record { left = left; fed = 0; unfed = []; there = s.there }
     → Talks IsReading s (record { pass = s.pass; stand = stand; written = s.given; reads = s.reads; writes = s.writes }) Goes
 talks_from IsReading s left stand requests is = subst (λ (x : Stand). Talks IsReading s (record { pass = s.pass; stand = x; written = s.given; reads = s.reads; writes = s.writes }) Goes) (sym is) (talks_start IsReading s left requests)
 
 -- there was no memory to begin it
-pub no_inbox : (IsReading : ℕ → Type 0) (s : Start) → Ends IsReading s (record { pass = s.pass; stand = record { left = whole []; fed = 0; there = s.there }; written = s.given; reads = s.reads; writes = s.writes }) OutOfMemory
+pub no_inbox : (IsReading : ℕ → Type 0) (s : Start) → Ends IsReading s (record { pass = s.pass; stand = record { left = whole []; fed = 0; unfed = []; there = s.there }; written = s.given; reads = s.reads; writes = s.writes }) OutOfMemory
 no_inbox IsReading s = talks_start IsReading s (whole []) (record { here = λ more m rest r. r; there = λ more m rest r. r; unread = λ e. refl })
+
+-- nor was anything read
+pub unread : (there : Option (List ℕ)) → IsReadTo (record { left = whole []; fed = 0; unfed = []; there = there }) there
+unread None = (omega arith, refl)
+unread (Some l) = (omega arith, refl)

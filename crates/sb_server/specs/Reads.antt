@@ -18,10 +18,11 @@ use Rattle.sb_server.specs.declared.inbox.Inbox.{Inbox}
 use Rattle.sb_server.specs.Asks.{AsksFor, asks_close}
 
 -- How far a connection was read: what is left of what was fed to the reader of requests, how many bytes that
--- was fed, and what wasn't fed yet, where the connection tells.
+-- was fed, what was read and not fed yet, and all that wasn't fed yet, where the connection tells.
 pub record Stand : Type 0 where
   pub left : Left
   pub fed : ℕ
+  pub unfed : List ℕ
   pub there : Option (List ℕ)
 
 -- what is behind these, where it is told
@@ -29,9 +30,17 @@ abbrev pub and_before : List ℕ → Option (List ℕ) → Option (List ℕ)
 and_before piece None = None
 and_before piece (Some left) = Some (piece ++ left)
 
+-- how many bytes one read takes at most
+abbrev pub max_piece : ℕ
+max_piece = 4096
+
+-- this is left of the connection to be read: what was read and not fed yet, a piece at most, stands before it, and nothing else
+abbrev pub IsReadTo : Stand → Option (List ℕ) → Type 0
+IsReadTo stand left = (length stand.unfed ≤ max_piece) × (stand.there ≡ and_before stand.unfed left)
+
 -- the bytes that came and weren't fed yet stand before those that are left
 abbrev pub stand_of : Inbox → Option (List ℕ) → Stand
-stand_of i left = record { left = i.incoming.left; fed = i.taken - (i.end - i.at); there = and_before (slice_range i.piece.items i.at i.end) left }
+stand_of i left = record { left = i.incoming.left; fed = i.taken - (i.end - i.at); unfed = slice_range i.piece.items i.at i.end; there = and_before (slice_range i.piece.items i.at i.end) left }
 
 -- these were the first of what was there
 abbrev pub HasRead : Option (List ℕ) → List ℕ → Option (List ℕ) → Type 0
@@ -55,6 +64,10 @@ IsDone (Some before) after = after ≡ Some []
 -- what is left begins with no request yet, and isn't refused
 abbrev pub WaitsForMore : Left → Type 0
 WaitsForMore left = HasNone left × IsUnderWay left
+
+-- all that was read was fed, and what is left of it begins with no request yet, and isn't refused
+abbrev pub NeedsMore : Stand → Type 0
+NeedsMore stand = WaitsForMore stand.left × (stand.unfed ≡ [])
 
 -- these requests were taken, whatever was taken before
 abbrev pub GoesOnBy : Left → List RequestMessage → Left → Type 0
@@ -100,12 +113,18 @@ IfOver Full P = Unit {0}
 IfOver NotYet P = Unit {0}
 IfOver (Done ending) P = P ending
 
+-- where nothing came in
+abbrev pub IfNone : Filled → Type 0 → Type 0
+IfNone Full P = Unit {0}
+IfNone NotYet P = P
+IfNone (Done ending) P = P
+
 -- a request, none yet, a fault, an end, or no memory for what has come
 abbrev pub Comes : Access → Stand → Came → Stand → ℕ → ℕ → Type 0
 Comes access old (Asked ask closes) new count_before count = (m : RequestMessage) × AsksFor access m ask × (closes ≡ asks_close m) × Takes old (m ∷ []) new
-Comes access old NothingYet new count_before count = Takes old [] new × WaitsForMore new.left
+Comes access old NothingYet new count_before count = Takes old [] new × NeedsMore new
 Comes access old (Refused fault) new count_before count = Takes old [] new × Refuses fault new.left
-Comes access old (Over ending) new count_before count = Takes old [] new × EndsWith ending old.there new count_before count × WaitsForMore new.left
+Comes access old (Over ending) new count_before count = Takes old [] new × EndsWith ending old.there new count_before count × NeedsMore new
 Comes access old NoMemory new count_before count = Takes old [] new
 
 -- whether one read found that the other side has ended, or failed
@@ -115,6 +134,6 @@ has_ended (Done Truncated) = true
 has_ended (Done ReadFault) = true
 has_ended _ = false
 
--- the other side has ended, or a read has failed
-abbrev pub IsGone : Option (List ℕ) → Option (List ℕ) → ℕ → ℕ → Type 0
-IsGone there there_now count_before count = IsDone there there_now ⊎ Rose count_before count
+-- the other side has ended, or a read has failed, and all that was read was fed
+abbrev pub IsGone : Option (List ℕ) → Stand → ℕ → ℕ → Type 0
+IsGone there new count_before count = (IsDone there new.there ⊎ Rose count_before count) × (new.unfed ≡ [])

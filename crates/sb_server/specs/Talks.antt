@@ -19,7 +19,7 @@ use Rattle.sb_server.specs.declared.telling.Turn.{Turn}
 use Rattle.sb_server.specs.declared.telling.Turn.TheVariants.{Goes, Closes, Stops}
 use Rattle.sb_server.specs.declared.ending.Ending.{Ending}
 use Rattle.sb_server.specs.declared.ending.Ending.TheVariants.{Closed, BadHead, HeadTooLarge, BodyTooLarge, Truncated, LongConnection, ReadFault, Gone, WriteFault, Slow, Stopped, OutOfMemory}
-use Rattle.sb_server.specs.Reads.{Stand, HasRead, IsDone, WaitsForMore}
+use Rattle.sb_server.specs.Reads.{Stand, HasRead, IsDone, NeedsMore}
 use Rattle.sb_server.specs.Responds.{GivenUp, Responds}
 use Rattle.sb_server.specs.Times.{Passed, with_bytes}
 use Rattle.sb_server.specs.Waiting.{GoesBy}
@@ -112,7 +112,7 @@ pub record Parts (IsReading : ℕ → Type 0) (s : Start) (h : Here) : Type 0 wh
 -- ---- who has gone
 
 -- These were due, where the other side has ended, or a read has failed, while a call waited: the responses to all
--- requests but the last, and that of the last, which is given up.
+-- requests but the last, and that of the last, which is given up; all that was read was fed.
 pub record Leaves (IsReading : ℕ → Type 0) (s : Start) (h : Here) (all : List ℕ) : Type 0 where
   pub fed : List ℕ
   pub ms : List RequestMessage
@@ -128,6 +128,7 @@ pub record Leaves (IsReading : ℕ → Type 0) (s : Start) (h : Here) (all : Lis
   pub given_up : GivenUp IsReading s.access s.pass.seat m mine said
   pub all_is : all ≡ out ++ said
   pub cause : IsDone s.there h.stand.there ⊎ Rose s.reads h.reads
+  pub all_fed : h.stand.unfed ≡ []
 
 -- all of it was written
 abbrev pub HasGone : (ℕ → Type 0) → Start → Here → Type 0
@@ -139,9 +140,9 @@ LeavesPart IsReading s h = (all : List ℕ) × Leaves IsReading s h all × Gains
 
 -- ---- how it ends
 
--- where reading ended, each request that had come whole was taken
+-- where reading ended, all that was read was fed, and each request that had come whole was taken
 abbrev pub ReadsOut : (ℕ → Type 0) → Start → Here → Type 0
-ReadsOut IsReading s h = Talks IsReading s h Goes × WaitsForMore h.stand.left
+ReadsOut IsReading s h = Talks IsReading s h Goes × NeedsMore h.stand
 
 -- the limit of the next request has passed: none has begun, or one has and isn't whole
 abbrev pub IsUnasked : (ℕ → Type 0) → Start → Here → Type 0

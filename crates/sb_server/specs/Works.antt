@@ -13,7 +13,7 @@ use Rattle.sb_server.specs.declared.ending.Ending.{Ending}
 use Rattle.sb_server.specs.declared.ending.Ending.TheVariants.{Closed, BadHead, HeadTooLarge, BodyTooLarge, Truncated, LongConnection, ReadFault, Gone, WriteFault, Slow, Stopped as NodeStopped, OutOfMemory as NoMemory}
 use Rattle.sb_server.specs.declared.work.Stop.{Stop}
 use Rattle.sb_server.specs.declared.work.Stop.TheVariants.{Enough, Ended, Fault, Stopped, OutOfMemory}
-use Rattle.sb_server.specs.Reads.{Stand}
+use Rattle.sb_server.specs.Reads.{Stand, IsReadTo}
 use Rattle.sb_server.specs.Talks.{Ends}
 
 -- a connection that was served: as it was given, and as it was taken back
@@ -22,9 +22,11 @@ pub record Visit (X : Type 0) : Type 0 where
   pub after : X
   pub ending : Ending
 
--- the connection was served with this pass within these limits of time, by a clock that may read what `IsReading` holds of
+-- the connection was served with this pass within these limits of time, by a clock that may read what `IsReading` holds of,
+-- and it has left what wasn't read of it
 abbrev pub ServesBy : {X : Type 0} → (ℕ → Type 0) → Access → Limits → (X → Option (List ℕ)) → (X → Option (List ℕ)) → (X → ℕ) → (X → ℕ) → Sitting → Visit X → Sitting → Type 0
 ServesBy IsReading access limits there given reads writes p v q = (stand : Stand)
+    × IsReadTo stand (there v.after)
     × Ends IsReading (record { access = access; limits = limits; pass = p; there = there v.before; given = given v.before; reads = reads v.before; writes = writes v.before })
     (record { pass = q; stand = stand; written = given v.after; reads = reads v.after; writes = writes v.after }) v.ending
 

@@ -29,7 +29,7 @@ pub(crate) struct Inbox {
     taken: u64,
     ghost ordered: { at ≤ end },
     ghost within: { end ≤ length piece.items },
-    ghost room: { 1 ≤ length piece.items },
+    ghost room: { length piece.items ≡ 4096 },
     ghost counted: { end - at ≤ taken },
 }
 
@@ -45,12 +45,12 @@ fn part_of(buf: &Vec<u8>, from: usize, to: usize) -> &[u8]
 impl Inbox {
     ghost use Rattle.sb_http.specs.Streams.{Requests};
     ghost use Rattle.sb_server.specs.Readers.{HasAnswer};
-    ghost use Rattle.sb_server.specs.Reads.{Takes, Fills, EndsWith, IfOver, Comes, IsGone, stand_of};
+    ghost use Rattle.sb_server.specs.Reads.{Takes, Fills, EndsWith, IfNone, IfOver, Comes, IsGone, stand_of};
 
     /// Nothing has come yet.
     pub(crate) fn new(alloc: Global) -> Result<Inbox, AllocError>
         ensures requests { IfOk result (λ i. Requests [] [] i.incoming.left) }
-        ensures stand { IfOk result (λ i. (left : Option (List ℕ)) → stand_of i left ≡ record { left = i.incoming.left; fed = 0; there = left }) }
+        ensures stand { IfOk result (λ i. (left : Option (List ℕ)) → stand_of i left ≡ record { left = i.incoming.left; fed = 0; unfed = []; there = left }) }
     {
         Ok(Inbox {
             incoming: Reader::new(),
@@ -124,7 +124,7 @@ impl Inbox {
     /// is kept, as far as there is room and memory.
     pub(crate) fn watch<N: Conn>(&mut self, alloc: Global, conn: &mut N) -> bool
         ensures takes { Takes (stand_of self.old (N.left conn.old)) [] (stand_of self.new (N.left conn.new)) }
-        ensures gone { result ≡ true → IsGone (stand_of self.old (N.left conn.old)).there (stand_of self.new (N.left conn.new)).there (N.reads conn.old) (N.reads conn.new) }
+        ensures gone { result ≡ true → IsGone (stand_of self.old (N.left conn.old)).there (stand_of self.new (N.left conn.new)) (N.reads conn.old) (N.reads conn.new) }
         ensures given { N.given conn.new ≡ N.given conn.old }
         ensures later { N.reads conn.old ≤ N.reads conn.new }
         ensures writes { N.writes conn.new ≡ N.writes conn.old }
@@ -141,6 +141,7 @@ impl Inbox {
     fn fill<N: Conn>(&mut self, conn: &mut N) -> Filled
         requires { self.old.at ≡ self.old.end }
         ensures fills { Fills (stand_of self.old (N.left conn.old)) (stand_of self.new (N.left conn.new)) }
+        ensures none { IfNone result ((stand_of self.new (N.left conn.new)).unfed ≡ []) }
         ensures ends { IfOver result (λ ending. EndsWith ending (stand_of self.old (N.left conn.old)).there (stand_of self.new (N.left conn.new)) (N.reads conn.old) (N.reads conn.new)) }
         ensures given { N.given conn.new ≡ N.given conn.old }
         ensures later { N.reads conn.old ≤ N.reads conn.new }

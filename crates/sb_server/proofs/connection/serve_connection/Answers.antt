@@ -6,7 +6,8 @@ use Rattle.sb_server.specs.declared.doing.Went.TheVariants.{NothingYet, Blocked}
 use Rattle.sb_server.specs.Doings.{IsDoing, IsNext}
 use Rattle.sb_server.specs.Reads.{stand_of}
 use Rattle.sb_server.specs.Talks.{Start, Here, ReadsOut}
-use Rattle.sb_server.proofs.Turning.{talks_from, no_inbox}
+use Rattle.sb_server.proofs.Turning.{talks_from, no_inbox, unread}
+use Rattle.sb_server.proofs.Reading.{read_to}
 use Rattle.sb_server.proofs.connection.serve_connection.Goals as goal
 
 -- Where nothing could be read, and where it is blocked, it goes on with what it did.
@@ -17,7 +18,7 @@ behind_pause IsReading s n went doing (inl is) next =
 behind_pause IsReading s n went doing (inr is) next = subst (λ (w : Went). IsNext IsReading s n w doing) is next
 
 pub returns-in_default-clause-ends : goal.returns-in_default-clause-ends
-returns-in_default-clause-ends g c = (_, no_inbox (g.C.Clock.reads c.args.clock.now) _)
+returns-in_default-clause-ends g c = (_, unread _, no_inbox (g.C.Clock.reads c.args.clock.now) _)
 
 pub loop-init : goal.loop-init
 loop-init g c = record { desk = c.requires; order = tt; since = tt; doing = talks_from (g.C.Clock.reads c.args.clock.now) _ _ _ c.in-Ok.ensures.requests (c.in-Ok.ensures.stand _) }
@@ -53,4 +54,4 @@ returns-in-Over-clause-ends g c =
     let n : Here = record { pass = c.step_through-next.result.0; stand = stand_of c.step_through-next.new.inbox (g.N.Conn.left c.step_through-next.new.conn); written = g.N.Conn.given c.step_through-next.new.conn; reads = g.N.Conn.reads c.step_through-next.new.conn; writes = g.N.Conn.writes c.step_through-next.new.conn } in
     let next : IsNext (g.C.Clock.reads c.args.clock.now) s n c.look-went.result.0 c.step_through-next.new.doing = c.look-went.ensures.next s n refl refl c.loop.invariant.since (c.step_through-next.ensures.steps s refl c.loop.invariant.doing) in
     let here = subst (λ (w : Went). IsNext (g.C.Clock.reads c.args.clock.now) s n w c.step_through-next.new.doing) c.in-Over.is next in
-    (n.stand, here)
+    (n.stand, read_to c.step_through-next.new.inbox (g.N.Conn.left c.step_through-next.new.conn), here)

@@ -10,6 +10,7 @@ use Rattle.sb_server.specs.Stages.{IsAt, IsSound, here_of, stage_behind}
 use Rattle.sb_server.specs.Talks.{Here, Ends}
 use Rattle.sb_server.specs.Works.{stop_of}
 use Rattle.sb_server.proofs.Attending.{at_step, at_over, sound_behind}
+use Rattle.sb_server.proofs.Reading.{read_to}
 use Rattle.sb_server.proofs.work.go_on.Goals as goal
 
 pub returns-in-Wants-clause-goes : goal.returns-in-Wants-clause-goes
@@ -48,7 +49,7 @@ returns-in-Some-clause-goes g c = λ most p d w.
     (at_over (g.C.Clock.reads c.args.clock.now) c.args.access.now c.args.limits g.D.Conn.Conn.left g.D.Conn.Conn.given g.D.Conn.Conn.reads g.D.Conn.Conn.writes g.D.Door.left g.D.Door.taken g.D.Door.ended g.D.Door.count g.D.Door.out most p d c.args.seat free.0 c.args.door.now c.give_back.new.door c.in-Serves.left c.in-Serves.guest stand new.conn c.in-Some.ending
     (subst (λ (x : Stage g.row.D-Conn.Denot). IsAt (g.C.Clock.reads c.args.clock.now) c.args.access.now c.args.limits g.D.Conn.Conn.left g.D.Conn.Conn.given g.D.Conn.Conn.reads g.D.Conn.Conn.writes g.D.Door.left g.D.Door.taken g.D.Door.ended g.D.Door.count g.D.Door.out most p d c.args.seat c.args.door.now x) c.in-Serves.is w)
     (λ s same limits since i. subst (λ (x : Seat). Ends (g.C.Clock.reads c.args.clock.now) s (record n { pass = sitting_of x }) c.in-Some.ending) free.1 (subst (λ (o : Option Ending). GoesToAt (g.C.Clock.reads c.args.clock.now) s n c.attend-seat.result.0 o new.doing) c.in-Some.is (c.attend-seat.ensures.goes s same limits since i)))
-    c.give_back.ensures.left (c.give_back.ensures.taken new refl) c.give_back.ensures.count c.give_back.ensures.out))
+    (read_to new.inbox (g.D.Conn.Conn.left new.conn)) c.give_back.ensures.left (c.give_back.ensures.taken new refl) c.give_back.ensures.count c.give_back.ensures.out))
 
 pub returns-in-Some-clause-sound : goal.returns-in-Some-clause-sound
 returns-in-Some-clause-sound g c =

@@ -9,7 +9,7 @@ use Rattle.sb_server.proofs.inbox.Inbox.feed_piece.Goals as goal
 pub returns-in_err-count-clause-takes : goal.returns-in_err-count-clause-takes
 returns-in_err-count-clause-takes c = λ left.
     let i = c.args.self.now in
-    takes_kept (stand_of i left) _ (stand_kept c.feed.new.self i.incoming (i.taken - (i.end - i.at)) (and_before (slice_range i.piece.items i.at i.end) left) c.in_err-count.ensures.err)
+    takes_kept (stand_of i left) _ (stand_kept c.feed.new.self i.incoming (i.taken - (i.end - i.at)) (slice_range i.piece.items i.at i.end) (and_before (slice_range i.piece.items i.at i.end) left) c.in_err-count.ensures.err)
 
 pub returns-clause-takes : goal.returns-clause-takes
 returns-clause-takes c = λ left.

@@ -9,4 +9,4 @@ returns-clause-takes g c =
     takes_filled old old (stand_of c.fill-filled.new.self (g.N.Conn.left c.fill-filled.new.conn)) [] (takes_start old) c.fill-filled.ensures.fills
 
 pub returns-clause-gone : goal.returns-clause-gone
-returns-clause-gone g c = λ e. gone_of c.fill-filled.result _ _ _ _ c.fill-filled.ensures.ends (sym c.has_ended.ensures ∙ e)
+returns-clause-gone g c = λ e. gone_of c.fill-filled.result _ _ _ _ c.fill-filled.ensures.ends c.fill-filled.ensures.none (sym c.has_ended.ensures ∙ e)
