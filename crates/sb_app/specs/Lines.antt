@@ -5,19 +5,17 @@ use Rattle.sb_machine.specs.Ordered.{IsActInOrder}
 use Rattle.sb_app.specs.declared.script_line.ScriptLine.{ScriptLine}
 use Rattle.sb_app.specs.declared.script_line.ScriptLine.TheVariants.{Blank, Malformed, Request}
 use Rattle.sb_lines.specs.Lines.{line_of}
-use Rattle.sb_lines.specs.declared.fault.LineFault.{LineFault}
-use Rattle.sb_lines.specs.declared.fault.LineFault.TheVariants.{BadKey, OutOfMemory}
+use Rattle.sb_lines.specs.declared.fault.KeyFault.{KeyFault}
 use Rattle.sb_lines.specs.declared.form.Form.{Form}
 use Rattle.sb_lines.specs.declared.form.Form.TheVariants.{Plain}
 use Rattle.sb_lines.specs.declared.line.Line.{Line}
 use Rattle.sb_input.specs.Limits.{max_line}
 use Rattle.sb_input.specs.Lines.{lines_of, is_blank}
 
--- A call, in the form that its reply has, or the key at fault. No text is read as want of memory.
-abbrev pub script_line_of : Result Line LineFault → ScriptLine
+-- a call, in the form that its reply has, or the key at fault
+abbrev pub script_line_of : Result Line KeyFault → ScriptLine
 script_line_of (Ok line) = Request line.timed line.form
-script_line_of (Err (BadKey part key)) = Malformed part key
-script_line_of (Err OutOfMemory) = Blank
+script_line_of (Err fault) = Malformed fault.part fault.key
 
 -- What a line asks for: blank first, then the length, then whether it is text, then what the text says.
 abbrev pub script_line : List ℕ → ScriptLine

@@ -7,7 +7,7 @@ ghost use Rattle.sb_app.specs.declared.script_line.ScriptLine.TheVariants.{Malfo
 ghost use Rattle.sb_lines.specs.Lines.{line_of};
 
 use sb_input::{PartialLine, is_blank_line};
-use sb_lines::{Form, Line, LineFault, read_line};
+use sb_lines::{Form, KeyFault, Line, LineFault, read_line};
 use sb_machine::TimedCall;
 use sb_model::Text;
 use std::alloc::{AllocError, Global};
@@ -35,7 +35,7 @@ fn parse_text(alloc: Global, text: &str) -> Result<ScriptLine, AllocError>
 {
     match read_line(alloc, text) {
         Ok(Line { timed, form, .. }) => Ok(ScriptLine::Request(timed, form)),
-        Err(LineFault::BadKey { part, key }) => Ok(ScriptLine::Malformed { part, key }),
+        Err(LineFault::BadKey(KeyFault { part, key })) => Ok(ScriptLine::Malformed { part, key }),
         Err(LineFault::OutOfMemory) => Err(AllocError),
     }
 }

@@ -18,12 +18,12 @@ use Rattle.sb_model.specs.declared.message.PropertyValue.{PropertyValue}
 use Rattle.sb_model.specs.declared.message.SystemName.{SystemName}
 use Rattle.sb_model.specs.declared.message.SystemText.{SystemText}
 use Rattle.sb_model.proofs.Orders.{all_pass, rising_filter, rising_placed}
-use Rattle.sb_lines.specs.declared.fault.LineFault.{LineFault}
+use Rattle.sb_lines.specs.declared.fault.KeyFault.{KeyFault}
 use Rattle.sb_lines.specs.Faults.{then_by}
 
 -- ---- what holds of what is read
 
-abbrev pub Holds : {T : Type 0} → (T → Type 0) → Result T LineFault → Type 0
+abbrev pub Holds : {T : Type 0} → (T → Type 0) → Result T KeyFault → Type 0
 Holds P (Ok x) = P x
 Holds P (Err key) = Unit {0}
 
@@ -31,15 +31,15 @@ Holds P (Err key) = Unit {0}
 abbrev pub Any : {T : Type 0} → T → Type 0
 Any x = Unit {0}
 
-pub always : {T : Type 0} (r : Result T LineFault) → Holds Any r
+pub always : {T : Type 0} (r : Result T KeyFault) → Holds Any r
 always (Ok x) = tt
 always (Err key) = tt
 
-pub then_holds : {A B : Type 0} (P : A → Type 0) (Q : B → Type 0) (r : Result A LineFault) (next : A → Result B LineFault) → Holds P r → ((x : A) → P x → Holds Q (next x)) → Holds Q (then_by r next)
+pub then_holds : {A B : Type 0} (P : A → Type 0) (Q : B → Type 0) (r : Result A KeyFault) (next : A → Result B KeyFault) → Holds P r → ((x : A) → P x → Holds Q (next x)) → Holds Q (then_by r next)
 then_holds P Q (Ok x) next holds onwards = onwards x holds
 then_holds P Q (Err key) next holds onwards = tt
 
-pub known_holds : {A B : Type 0} (Q : B → Type 0) (r : Result A LineFault) (next : A → Result B LineFault) → ((x : A) → Holds Q (next x)) → Holds Q (then_by r next)
+pub known_holds : {A B : Type 0} (Q : B → Type 0) (r : Result A KeyFault) (next : A → Result B KeyFault) → ((x : A) → Holds Q (next x)) → Holds Q (then_by r next)
 known_holds Q (Ok x) next onwards = onwards x
 known_holds Q (Err key) next onwards = tt
 
@@ -47,12 +47,12 @@ known_holds Q (Err key) next onwards = tt
 abbrev pub Two : {A B : Type 0} → (A → Type 0) → (B → Type 0) → A × B → Type 0
 Two P Q x = P x.0 × Q x.1
 
-pub two_hold : {A B : Type 0} (P : A → Type 0) (Q : B → Type 0) (a : Result A LineFault) (b : Result B LineFault) → Holds P a → Holds Q b → Holds (Two P Q) (then_by a (λ x. then_by b (λ y. Ok (x, y))))
+pub two_hold : {A B : Type 0} (P : A → Type 0) (Q : B → Type 0) (a : Result A KeyFault) (b : Result B KeyFault) → Holds P a → Holds Q b → Holds (Two P Q) (then_by a (λ x. then_by b (λ y. Ok (x, y))))
 two_hold P Q (Err key) b one two = tt
 two_hold P Q (Ok x) (Err key) one two = tt
 two_hold P Q (Ok x) (Ok y) one two = (one, two)
 
-pub made_holds : {A B : Type 0} (make : A → B) (P : A → Type 0) (Q : B → Type 0) (r : Result A LineFault) → Holds P r → ((x : A) → P x → Q (make x)) → Holds Q (then_by r (λ x. Ok (make x)))
+pub made_holds : {A B : Type 0} (make : A → B) (P : A → Type 0) (Q : B → Type 0) (r : Result A KeyFault) → Holds P r → ((x : A) → P x → Q (make x)) → Holds Q (then_by r (λ x. Ok (make x)))
 made_holds make P Q (Ok x) holds onwards = onwards x holds
 made_holds make P Q (Err key) holds onwards = tt
 

@@ -30,9 +30,9 @@ use Rattle.sb_lines.specs.declared.texts.Nulls.{Nulls}
 use Rattle.sb_lines.specs.declared.texts.Nulls.TheVariants.{Wrong}
 use Rattle.sb_model.specs.Effects.{with_user}
 use Rattle.std.specs.Prelude.{IfOk}
+use Rattle.sb_lines.specs.declared.fault.KeyFault.{KeyFault}
 use Rattle.sb_lines.specs.declared.fault.LineFault.{LineFault}
-use Rattle.sb_lines.specs.declared.fault.LineFault.TheVariants.{BadKey, OutOfMemory}
-use Rattle.sb_lines.specs.Faults.{Answers, or_key, none_or_key, then_by, at_place}
+use Rattle.sb_lines.specs.Faults.{Answers, bad_key, or_key, none_or_key, then_by, at_place}
 use Rattle.sb_lines.specs.Fields.{unknown_key, text_at, hex_at}
 use Rattle.sb_lines.specs.Descriptions.{queue_fields, topic_fields, subscription_fields}
 use Rattle.sb_lines.specs.Tables.{Field, text, name, address, entity, token, whole, number, mode, nothing, ◌and◌, optional, first_or_second, object_of}
@@ -157,7 +157,7 @@ amqp_holds d = found_holds (hex_at msg.amqp_key d) where
   found_holds None = tt
   found_holds (Some bytes) = one_holds (message_in bytes) (read_in_order bytes)
 
-whole_holds : (r : Result Message LineFault) → Holds IsInOrder r → Holds IsInOrder (or_key msg.amqp_key (result_ok r))
+whole_holds : (r : Result Message KeyFault) → Holds IsInOrder r → Holds IsInOrder (or_key msg.amqp_key (result_ok r))
 whole_holds (Ok m) holds = holds
 whole_holds (Err key) holds = tt
 
@@ -171,7 +171,7 @@ sent_holds d = by_key (get msg.amqp_key d) where
 message_holds : (d : Data) → Holds IsInOrder (msg.message_of d)
 message_holds d = known_holds IsInOrder (or_key (codes "messages") (as_object d)) (λ _. object_of msg.sent_fields d) (λ _. object_holds IsInOrder msg.sent_fields d (sent_holds d))
 
-pub before_holds : {T : Type 0} (P : T → Type 0) (x : T) (r : Result (List T) LineFault) → P x → Holds (Each P) r → Holds (Each P) (msg.before_those (x ∷ []) r)
+pub before_holds : {T : Type 0} (P : T → Type 0) (x : T) (r : Result (List T) KeyFault) → P x → Holds (Each P) r → Holds (Each P) (msg.before_those (x ∷ []) r)
 before_holds P x (Ok xs) one all = (one, all)
 before_holds P x (Err key) one all = tt
 
@@ -186,7 +186,7 @@ messages_at_hold key d = known_holds (Each IsInOrder) (or_key key (option_and_th
 -- ---- one of several
 
 -- whichever a test takes
-one_holds : {T : Type 0} (P : T → Type 0) (b : Bool) (x y : Result T LineFault) → Holds P x → Holds P y → Holds P (if b then x else y)
+one_holds : {T : Type 0} (P : T → Type 0) (b : Bool) (x y : Result T KeyFault) → Holds P x → Holds P y → Holds P (if b then x else y)
 one_holds P true x y one two = one
 one_holds P false x y one two = two
 
@@ -221,21 +221,20 @@ session_set_step_holds d = bare_step lines.remembered (λ x. step.SessionSet x.0
 step_named_holds : (word : List ℕ) (d : Data) → Holds IsStepInOrder (lines.step_named word d)
 unfolding lines.step_named
 step_named_holds word d =
-    one_holds IsStepInOrder (bytes_eq word (codes "send")) (lines.send_step d) (if bytes_eq word (codes "complete") then lines.settle_step Complete d else (if bytes_eq word (codes "abandon") then lines.settle_step Abandon d else (if bytes_eq word (codes "defer") then lines.settle_step Defer d else (if bytes_eq word (codes "dead-letter") then lines.dead_letter_step d else (if bytes_eq word (codes "session-set") then lines.session_set_step d else (Err (BadKey None (codes "operations")))))))) (send_step_holds d) (
-    one_holds IsStepInOrder (bytes_eq word (codes "complete")) (lines.settle_step Complete d) (if bytes_eq word (codes "abandon") then lines.settle_step Abandon d else (if bytes_eq word (codes "defer") then lines.settle_step Defer d else (if bytes_eq word (codes "dead-letter") then lines.dead_letter_step d else (if bytes_eq word (codes "session-set") then lines.session_set_step d else (Err (BadKey None (codes "operations"))))))) (settle_step_holds Complete d) (
-    one_holds IsStepInOrder (bytes_eq word (codes "abandon")) (lines.settle_step Abandon d) (if bytes_eq word (codes "defer") then lines.settle_step Defer d else (if bytes_eq word (codes "dead-letter") then lines.dead_letter_step d else (if bytes_eq word (codes "session-set") then lines.session_set_step d else (Err (BadKey None (codes "operations")))))) (settle_step_holds Abandon d) (
-    one_holds IsStepInOrder (bytes_eq word (codes "defer")) (lines.settle_step Defer d) (if bytes_eq word (codes "dead-letter") then lines.dead_letter_step d else (if bytes_eq word (codes "session-set") then lines.session_set_step d else (Err (BadKey None (codes "operations"))))) (settle_step_holds Defer d) (
-    one_holds IsStepInOrder (bytes_eq word (codes "dead-letter")) (lines.dead_letter_step d) (if bytes_eq word (codes "session-set") then lines.session_set_step d else (Err (BadKey None (codes "operations")))) (dead_letter_step_holds d) (
-    one_holds IsStepInOrder (bytes_eq word (codes "session-set")) (lines.session_set_step d) (Err (BadKey None (codes "operations"))) (session_set_step_holds d) (
+    one_holds IsStepInOrder (bytes_eq word (codes "send")) (lines.send_step d) (if bytes_eq word (codes "complete") then lines.settle_step Complete d else (if bytes_eq word (codes "abandon") then lines.settle_step Abandon d else (if bytes_eq word (codes "defer") then lines.settle_step Defer d else (if bytes_eq word (codes "dead-letter") then lines.dead_letter_step d else (if bytes_eq word (codes "session-set") then lines.session_set_step d else (Err (bad_key None (codes "operations")))))))) (send_step_holds d) (
+    one_holds IsStepInOrder (bytes_eq word (codes "complete")) (lines.settle_step Complete d) (if bytes_eq word (codes "abandon") then lines.settle_step Abandon d else (if bytes_eq word (codes "defer") then lines.settle_step Defer d else (if bytes_eq word (codes "dead-letter") then lines.dead_letter_step d else (if bytes_eq word (codes "session-set") then lines.session_set_step d else (Err (bad_key None (codes "operations"))))))) (settle_step_holds Complete d) (
+    one_holds IsStepInOrder (bytes_eq word (codes "abandon")) (lines.settle_step Abandon d) (if bytes_eq word (codes "defer") then lines.settle_step Defer d else (if bytes_eq word (codes "dead-letter") then lines.dead_letter_step d else (if bytes_eq word (codes "session-set") then lines.session_set_step d else (Err (bad_key None (codes "operations")))))) (settle_step_holds Abandon d) (
+    one_holds IsStepInOrder (bytes_eq word (codes "defer")) (lines.settle_step Defer d) (if bytes_eq word (codes "dead-letter") then lines.dead_letter_step d else (if bytes_eq word (codes "session-set") then lines.session_set_step d else (Err (bad_key None (codes "operations"))))) (settle_step_holds Defer d) (
+    one_holds IsStepInOrder (bytes_eq word (codes "dead-letter")) (lines.dead_letter_step d) (if bytes_eq word (codes "session-set") then lines.session_set_step d else (Err (bad_key None (codes "operations")))) (dead_letter_step_holds d) (
+    one_holds IsStepInOrder (bytes_eq word (codes "session-set")) (lines.session_set_step d) (Err (bad_key None (codes "operations"))) (session_set_step_holds d) (
     tt))))))
 
 step_holds : (d : Data) → Holds IsStepInOrder (lines.step_of d)
 step_holds d = known_holds IsStepInOrder (or_key (codes "operations") (text_at (codes "do") d)) (λ word. lines.step_named word d) (λ word. step_named_holds word d)
 
-placed_holds : {T : Type 0} (P : T → Type 0) (i : ℕ) (r : Result T LineFault) → Holds P r → Holds P (at_place i r)
+placed_holds : {T : Type 0} (P : T → Type 0) (i : ℕ) (r : Result T KeyFault) → Holds P r → Holds P (at_place i r)
 placed_holds P i (Ok x) holds = holds
-placed_holds P i (Err (BadKey part key)) holds = tt
-placed_holds P i (Err OutOfMemory) holds = tt
+placed_holds P i (Err fault) holds = tt
 
 steps_hold : (i : ℕ) (ds : Items) → Holds (Each IsStepInOrder) (lines.steps_of i ds)
 steps_hold i no_items = tt
@@ -267,7 +266,7 @@ abbrev IsOrdered : Option (Either (List ℕ) Conditions) → Type 0
 IsOrdered None = Unit {0}
 IsOrdered (Some e) = IsFilterInOrder (lines.filter_of e)
 
-either_holds : (other : List ℕ) (one two : Option Data) (a : Result (List ℕ) LineFault) (b : Result Conditions LineFault) → Holds AreConditions b → Holds IsOrdered (first_or_second other one two a b)
+either_holds : (other : List ℕ) (one two : Option Data) (a : Result (List ℕ) KeyFault) (b : Result Conditions KeyFault) → Holds AreConditions b → Holds IsOrdered (first_or_second other one two a b)
 either_holds other None None a b holds = tt
 either_holds other (Some d) two (Err key) b holds = tt
 either_holds other (Some d) None (Ok x) b holds = tt
@@ -275,7 +274,7 @@ either_holds other (Some d) (Some e) (Ok x) b holds = tt
 either_holds other None (Some d) a (Err key) holds = tt
 either_holds other None (Some d) a (Ok y) holds = holds
 
-chosen_holds : (key : List ℕ) (r : Result (Option (Either (List ℕ) Conditions)) LineFault) → Holds IsOrdered r → Holds IsFilterInOrder (then_by (then_by r (or_key key)) (λ x. Ok (lines.filter_of x)))
+chosen_holds : (key : List ℕ) (r : Result (Option (Either (List ℕ) Conditions)) KeyFault) → Holds IsOrdered r → Holds IsFilterInOrder (then_by (then_by r (or_key key)) (λ x. Ok (lines.filter_of x)))
 chosen_holds key (Err k) holds = tt
 chosen_holds key (Ok None) holds = tt
 chosen_holds key (Ok (Some e)) holds = holds
@@ -454,22 +453,22 @@ create_rule_holds d =
 
 -- ---- lines
 
-either_act : (b : Bool) (x y : Result Act LineFault) → Holds IsActInOrder x → Holds IsActInOrder y → Holds IsActInOrder (if b then x else y)
+either_act : (b : Bool) (x y : Result Act KeyFault) → Holds IsActInOrder x → Holds IsActInOrder y → Holds IsActInOrder (if b then x else y)
 either_act b x y one two = one_holds IsActInOrder b x y one two
 
 pub alone_holds : (d : Data) → Holds IsActInOrder (lines.together_of d)
 alone_holds d =
     known_holds IsActInOrder (or_key (codes "do") (text_at (codes "do") d)) (λ word. lines.together_named word d) (λ word.
-    either_act (bytes_eq word (codes "together")) (lines.together_alone d) (Err (BadKey None (codes "do"))) (together_alone_holds d) tt)
+    either_act (bytes_eq word (codes "together")) (lines.together_alone d) (Err (bad_key None (codes "do"))) (together_alone_holds d) tt)
 
 look_act_holds : (word : List ℕ) (d : Data) → Holds IsActInOrder (lines.look_act word d)
 unfolding lines.look_act
 look_act_holds word d =
-    either_act (bytes_eq word (codes "list")) (lines.list d) (if bytes_eq word (codes "describe") then lines.describe d else (if bytes_eq word (codes "sessions") then lines.sessions d else (if bytes_eq word (codes "transactions") then lines.transactions d else (if bytes_eq word (codes "clients") then lines.clients d else (Err (BadKey None (codes "do"))))))) (list_holds d) (
-    either_act (bytes_eq word (codes "describe")) (lines.describe d) (if bytes_eq word (codes "sessions") then lines.sessions d else (if bytes_eq word (codes "transactions") then lines.transactions d else (if bytes_eq word (codes "clients") then lines.clients d else (Err (BadKey None (codes "do")))))) (describe_holds d) (
-    either_act (bytes_eq word (codes "sessions")) (lines.sessions d) (if bytes_eq word (codes "transactions") then lines.transactions d else (if bytes_eq word (codes "clients") then lines.clients d else (Err (BadKey None (codes "do"))))) (sessions_hold d) (
-    either_act (bytes_eq word (codes "transactions")) (lines.transactions d) (if bytes_eq word (codes "clients") then lines.clients d else (Err (BadKey None (codes "do")))) (transactions_hold d) (
-    either_act (bytes_eq word (codes "clients")) (lines.clients d) (Err (BadKey None (codes "do"))) (clients_hold d) (
+    either_act (bytes_eq word (codes "list")) (lines.list d) (if bytes_eq word (codes "describe") then lines.describe d else (if bytes_eq word (codes "sessions") then lines.sessions d else (if bytes_eq word (codes "transactions") then lines.transactions d else (if bytes_eq word (codes "clients") then lines.clients d else (Err (bad_key None (codes "do"))))))) (list_holds d) (
+    either_act (bytes_eq word (codes "describe")) (lines.describe d) (if bytes_eq word (codes "sessions") then lines.sessions d else (if bytes_eq word (codes "transactions") then lines.transactions d else (if bytes_eq word (codes "clients") then lines.clients d else (Err (bad_key None (codes "do")))))) (describe_holds d) (
+    either_act (bytes_eq word (codes "sessions")) (lines.sessions d) (if bytes_eq word (codes "transactions") then lines.transactions d else (if bytes_eq word (codes "clients") then lines.clients d else (Err (bad_key None (codes "do"))))) (sessions_hold d) (
+    either_act (bytes_eq word (codes "transactions")) (lines.transactions d) (if bytes_eq word (codes "clients") then lines.clients d else (Err (bad_key None (codes "do")))) (transactions_hold d) (
+    either_act (bytes_eq word (codes "clients")) (lines.clients d) (Err (bad_key None (codes "do"))) (clients_hold d) (
     tt)))))
 
 transaction_act_holds : (word : List ℕ) (d : Data) → Holds IsActInOrder (lines.transaction_act word d)

@@ -12,7 +12,7 @@ use Rattle.sb_machine.specs.declared.call.Mode.TheVariants.{Lock, Delete}
 use Rattle.sb_machine.specs.declared.call.Path.{Path}
 use Rattle.sb_machine.specs.declared.call.Token.{Token}
 use Rattle.sb_names.specs.Addresses.{address_of}
-use Rattle.sb_lines.specs.declared.fault.LineFault.{LineFault}
+use Rattle.sb_lines.specs.declared.fault.KeyFault.{KeyFault}
 use Rattle.sb_lines.specs.declared.form.Form.{Form}
 use Rattle.sb_lines.specs.declared.form.Form.TheVariants.{Amqp}
 use Rattle.sb_lines.specs.Faults.{or_key}
@@ -101,7 +101,7 @@ abbrev pub hex_at : List ℕ → Data → Option (List ℕ)
 hex_at key d = option_and_then (λ text. result_ok (decode_of text)) (text_at key d)
 
 -- what a key that is left out stands for
-abbrev pub or_default : {T : Type 0} → List ℕ → T → (Data → Option T) → Option Data → Result T LineFault
+abbrev pub or_default : {T : Type 0} → List ℕ → T → (Data → Option T) → Option Data → Result T KeyFault
 or_default key default reads None = Ok default
 or_default key default reads (Some d) = or_key key (reads d)
 

@@ -16,12 +16,11 @@ use Rattle.sb_model.specs.declared.message.SystemText.{SystemText}
 use Rattle.sb_amqp.specs.Found.{message_in}
 use Rattle.sb_machine.specs.Fields.{is_between, max_ttl}
 use Rattle.sb_machine.specs.declared.rule.Conditions.{Conditions}
-use Rattle.sb_lines.specs.declared.fault.LineFault.{LineFault}
-use Rattle.sb_lines.specs.declared.fault.LineFault.TheVariants.{BadKey}
+use Rattle.sb_lines.specs.declared.fault.KeyFault.{KeyFault}
 use Rattle.sb_lines.specs.declared.texts.Nulls.{Nulls}
 use Rattle.sb_lines.specs.declared.texts.Nulls.TheVariants.{Wrong, Absent}
 use Rattle.sb_lines.specs.declared.table.Either.{Either}
-use Rattle.sb_lines.specs.Faults.{or_key, then_by}
+use Rattle.sb_lines.specs.Faults.{bad_key, or_key, then_by}
 use Rattle.sb_lines.specs.Fields.{whole_in, hex_at}
 use Rattle.sb_lines.specs.Tables.{Field, at_key, text, digits, whole, ◌and◌, optional, at_most_one, either, made, object_of}
 
@@ -49,16 +48,16 @@ with_text name [] sys = sys
 with_text name (b ∷ bs) sys = sys ++ record { name = name; text = b ∷ bs } ∷ []
 
 -- the texts with the one that stands here, if any
-abbrev pub text_from : SystemName → Option Data → List SystemText → Result (List SystemText) LineFault
+abbrev pub text_from : SystemName → Option Data → List SystemText → Result (List SystemText) KeyFault
 text_from name None sys = Ok sys
 text_from name (Some d) sys = then_by (or_key (system_name name) (as_str d)) (λ text. Ok (with_text name text sys))
 
 -- the texts with the one of this name, where it stands in the object
-abbrev pub text_with : Nulls → SystemName → Data → List SystemText → Result (List SystemText) LineFault
+abbrev pub text_with : Nulls → SystemName → Data → List SystemText → Result (List SystemText) KeyFault
 text_with nulls name d sys = text_from name (member_at nulls (system_name name) d) sys
 
 -- the seven beside ContentType, in the order of their codes
-abbrev pub broker_texts : Nulls → Data → Result (List SystemText) LineFault
+abbrev pub broker_texts : Nulls → Data → Result (List SystemText) KeyFault
 broker_texts nulls d =
     then_by (text_with nulls MessageId d []) (λ sys1.
     then_by (text_with nulls Label d sys1) (λ sys2.
@@ -69,7 +68,7 @@ broker_texts nulls d =
     text_with nulls ReplyToSessionId d sys6))))))
 
 -- the seven, and then ContentType
-abbrev pub all_texts : Data → Result (List SystemText) LineFault
+abbrev pub all_texts : Data → Result (List SystemText) KeyFault
 all_texts d = then_by (broker_texts Wrong d) (λ sys. text_with Wrong ContentType d sys)
 
 -- a system name as the service writes it
@@ -83,7 +82,7 @@ abbrev pub eight_texts : Field (List SystemText)
 eight_texts = record { knows = is_system_key; reads = all_texts }
 
 -- an object of such texts; none where the key isn't there
-abbrev pub texts_from : List ℕ → Option Data → Result (List SystemText) LineFault
+abbrev pub texts_from : List ℕ → Option Data → Result (List SystemText) KeyFault
 texts_from key None = Ok []
 texts_from key (Some d) = then_by (or_key key (as_object d)) (λ _. object_of eight_texts d)
 
@@ -103,16 +102,16 @@ value_in (array ds) = None
 value_in (object ms) = None
 
 -- the name is at fault, as it is written, where it or its value is
-abbrev pub property_from : List ℕ → Data → Result PropertyValue LineFault
-property_from name d = if is_between 1 128 (length name) then or_key name (value_in d) else Err (BadKey None name)
+abbrev pub property_from : List ℕ → Data → Result PropertyValue KeyFault
+property_from name d = if is_between 1 128 (length name) then or_key name (value_in d) else Err (bad_key None name)
 
 -- One after the other, in byte order of the names as they are written: of two that fold alike the last stands.
-abbrev pub with_members : Members → List Property → Result (List Property) LineFault
+abbrev pub with_members : Members → List Property → Result (List Property) KeyFault
 with_members no_members props = Ok props
 with_members (member name d ms) props = then_by (property_from name d) (λ value. with_members ms (with_user (str_to_ascii_lowercase name) (Some value) props))
 
 -- an object of properties; none where the key isn't there
-abbrev pub properties_from : List ℕ → Option Data → Result (List Property) LineFault
+abbrev pub properties_from : List ℕ → Option Data → Result (List Property) KeyFault
 properties_from key None = Ok []
 properties_from key (Some d) = then_by (or_key key (as_object d)) (λ ms. with_members ms [])
 
@@ -131,12 +130,12 @@ abbrev pub if_positive : ℕ → Option (Option ℕ)
 if_positive n = if nat_le 1 n then Some (capped n) else None
 
 -- the time to live that stands here; left out is none
-abbrev pub lifetime_from : List ℕ → Option Data → Result (Option ℕ) LineFault
+abbrev pub lifetime_from : List ℕ → Option Data → Result (Option ℕ) KeyFault
 lifetime_from key None = Ok None
 lifetime_from key (Some d) = or_key key (option_and_then if_positive (whole_in d))
 
 -- the same at a key
-abbrev pub lifetime_at : Nulls → List ℕ → Data → Result (Option ℕ) LineFault
+abbrev pub lifetime_at : Nulls → List ℕ → Data → Result (Option ℕ) KeyFault
 lifetime_at nulls key d = lifetime_from key (member_at nulls key d)
 
 -- a time to live, as a field
@@ -180,7 +179,7 @@ unfoldable pub amqp_field : Field Message
 amqp_field = at_key amqp_key amqp_at
 
 -- it stands alone: whatever is wrong with it or beside it, its own key is at fault
-abbrev pub sent_from : Option Data → Data → Result Message LineFault
+abbrev pub sent_from : Option Data → Data → Result Message KeyFault
 sent_from None d = message_fields.reads d
 sent_from (Some bytes) d = or_key amqp_key (result_ok (object_of amqp_field d))
 
@@ -191,16 +190,16 @@ sent_fields = record { knows = λ k. bytes_eq k amqp_key || message_fields.knows
 -- ---- lists of messages
 
 -- one message of a send
-abbrev pub message_of : Data → Result Message LineFault
+abbrev pub message_of : Data → Result Message KeyFault
 message_of d = then_by (or_key (codes "messages") (as_object d)) (λ _. object_of sent_fields d)
 
 -- what was read before the rest, unless that has a fault
-abbrev pub before_those : {T : Type 0} → List T → Result (List T) LineFault → Result (List T) LineFault
+abbrev pub before_those : {T : Type 0} → List T → Result (List T) KeyFault → Result (List T) KeyFault
 before_those first (Err fault) = Err fault
 before_those first (Ok rest) = Ok (first ++ rest)
 
 -- each in turn, or the first key at fault
-abbrev pub messages_of : Items → Result (List Message) LineFault
+abbrev pub messages_of : Items → Result (List Message) KeyFault
 messages_of no_items = Ok []
 messages_of (item d ds) = then_by (message_of d) (λ m. before_those (m ∷ []) (messages_of ds))
 
@@ -213,8 +212,8 @@ unfoldable pub condition_fields : Field Conditions
 condition_fields = made (λ x. record { sys = x.0; props = x.1 }) (system_texts (codes "sys") and user_properties (codes "props"))
 
 -- the conditions that stand here; left out is a fault
-abbrev pub conditions_from : List ℕ → Option Data → Result Conditions LineFault
-conditions_from key None = Err (BadKey None key)
+abbrev pub conditions_from : List ℕ → Option Data → Result Conditions KeyFault
+conditions_from key None = Err (bad_key None key)
 conditions_from key (Some d) = then_by (or_key key (as_object d)) (λ _. object_of condition_fields d)
 
 -- what a correlation filter asks for

@@ -6,19 +6,18 @@ use Rattle.sb_machine.specs.declared.call.Mode.{Mode}
 use Rattle.sb_machine.specs.declared.call.Mode.TheVariants.{Lock}
 use Rattle.sb_machine.specs.declared.call.Path.{Path}
 use Rattle.sb_machine.specs.declared.call.Token.{Token}
-use Rattle.sb_lines.specs.declared.fault.LineFault.{LineFault}
-use Rattle.sb_lines.specs.declared.fault.LineFault.TheVariants.{BadKey}
+use Rattle.sb_lines.specs.declared.fault.KeyFault.{KeyFault}
 use Rattle.sb_lines.specs.declared.form.Form.{Form}
 use Rattle.sb_lines.specs.declared.form.Form.TheVariants.{Plain}
 use Rattle.sb_lines.specs.declared.table.Either.{Either}
 use Rattle.sb_lines.specs.declared.table.Either.TheVariants.{First, Second}
-use Rattle.sb_lines.specs.Faults.{or_key, none_or_key, then_by}
+use Rattle.sb_lines.specs.Faults.{bad_key, or_key, none_or_key, then_by}
 use Rattle.sb_lines.specs.Fields.{text_at, whole_in, whole_at, number_at, name_at, path_at, entity_at, token_at, mode_in, form_in, wait_in, hex_at, or_default, unknown_key}
 
 -- which keys a field takes, and what it reads
 pub record Field (A : Type 0) : Type 0 where
   pub knows : List ℕ → Bool
-  pub reads : Data → Result A LineFault
+  pub reads : Data → Result A KeyFault
 
 -- ---- one key
 
@@ -94,7 +93,7 @@ abbrev pub ◌and◌ : {A B : Type 0} → Field A → Field B → Field (A × B)
 f and g = record { knows = λ k. f.knows k || g.knows k; reads = λ d. then_by (f.reads d) (λ x. then_by (g.reads d) (λ y. Ok (x, y))) }
 
 -- what was read, where the key stands
-abbrev pub where_there : {A : Type 0} → Option Data → Result A LineFault → Result (Option A) LineFault
+abbrev pub where_there : {A : Type 0} → Option Data → Result A KeyFault → Result (Option A) KeyFault
 where_there None said = Ok None
 where_there (Some d) said = then_by said (λ x. Ok (Some x))
 
@@ -103,12 +102,12 @@ abbrev pub optional : {A : Type 0} → List ℕ → Field A → Field (Option A)
 optional key f = record { knows = f.knows; reads = λ d. where_there (get key d) (f.reads d) }
 
 -- what was read, unless the other key stands too
-abbrev pub alone : {A : Type 0} → List ℕ → Option Data → A → Result A LineFault
+abbrev pub alone : {A : Type 0} → List ℕ → Option Data → A → Result A KeyFault
 alone other None x = Ok x
-alone other (Some d) x = Err (BadKey None other)
+alone other (Some d) x = Err (bad_key None other)
 
 -- whichever of two keys stands; the second is at fault where both do
-abbrev pub first_or_second : {A B : Type 0} → List ℕ → Option Data → Option Data → Result A LineFault → Result B LineFault → Result (Option (Either A B)) LineFault
+abbrev pub first_or_second : {A B : Type 0} → List ℕ → Option Data → Option Data → Result A KeyFault → Result B KeyFault → Result (Option (Either A B)) KeyFault
 first_or_second other None None a b = Ok None
 first_or_second other (Some d) o a b = then_by a (λ x. alone other o (Some (First x)))
 first_or_second other None (Some d) a b = then_by b (λ y. Ok (Some (Second y)))
@@ -131,5 +130,5 @@ abbrev pub made : {P A : Type 0} → (P → A) → Field P → Field A
 made make f = record { knows = f.knows; reads = λ d. then_by (f.reads d) (λ x. Ok (make x)) }
 
 -- what stands in an object that has these fields and no other keys: another key is at fault before they are
-abbrev pub object_of : {A : Type 0} → Field A → Data → Result A LineFault
+abbrev pub object_of : {A : Type 0} → Field A → Data → Result A KeyFault
 object_of f d = then_by (none_or_key (unknown_key f.knows d)) (λ _. f.reads d)

@@ -28,7 +28,7 @@ use Rattle.sb_machine.specs.declared.state.EntityKind.TheVariants.{Queue, Subscr
 use Rattle.sb_machine.specs.Namespace.{default_description, entity_path, subscription_path}
 use Rattle.sb_model.specs.declared.message.PropertyValue.TheVariants.{Int, Bool as Truth}
 use Rattle.sb_model.specs.declared.message.SystemName.TheVariants.{Label, To}
-use Rattle.sb_lines.specs.declared.fault.LineFault.{LineFault}
+use Rattle.sb_lines.specs.declared.fault.KeyFault.{KeyFault}
 use Rattle.sb_lines.specs.declared.form.Form.{Form}
 use Rattle.sb_lines.specs.declared.form.Form.TheVariants.{Plain}
 use Rattle.sb_lines.specs.declared.line.Line.{Line}
@@ -39,21 +39,21 @@ abbrev pub q : Path
 q = record { name = codes "q"; subscription = None; part = Main }
 
 -- this act of nobody at 0, with a reply in this form, which waits so many s
-abbrev pub asks_for : Act → Form → ℕ → Result Line LineFault
+abbrev pub asks_for : Act → Form → ℕ → Result Line KeyFault
 asks_for act form wait_s = Ok (record { timed = record { reading = 0; call = record { by = None; act = act } }; form = form; wait_s = wait_s })
 
 -- a receive under a lock from q, which waits so many s
-abbrev pub receives : Form → ℕ → Result Line LineFault
+abbrev pub receives : Form → ℕ → Result Line KeyFault
 receives form wait_s = asks_for (Receive q Lock None) form wait_s
 
 -- the next session of q is asked for
-abbrev pub accepts : ℕ → Result Line LineFault
+abbrev pub accepts : ℕ → Result Line KeyFault
 accepts wait_s = asks_for (Accept q None) Plain wait_s
 
 -- ---- what an operator looks at
 
 -- this look, of nobody at 0
-abbrev pub looks_at : Look → Result Line LineFault
+abbrev pub looks_at : Look → Result Line KeyFault
 looks_at what = asks_for (LookAt what) Plain 0
 
 -- the subscription eu of the topic news
@@ -92,7 +92,7 @@ abbrev pub correlated : View
 correlated = seen.Entity (record { kind = Subscription; description = default_description; forward_there = false; forward_dead_there = false; rules = record { name = codes "r"; filter = Correlation asked; action = None } ∷ [] })
 
 -- that rule is made
-abbrev pub asks_for_rule : Result Line LineFault
+abbrev pub asks_for_rule : Result Line KeyFault
 asks_for_rule = asks_for (CreateRule (codes "t") (codes "s") (codes "r") (Correlation asked) None) Plain 0
 
 -- a session that nobody holds, with two messages
@@ -106,11 +106,11 @@ open_transactions = record { number = 1; entity = Some (entity_path (codes "orde
 -- ---- clients
 
 -- the client shop-7 is forgotten: this is asked by nobody at 0
-abbrev pub forgets : Result Line LineFault
+abbrev pub forgets : Result Line KeyFault
 forgets = asks_for (ForgetClient (codes "shop-7")) Plain 0
 
 -- the same at 5, as its third call asked by the client ops
-abbrev pub ops_forgets : Result Line LineFault
+abbrev pub ops_forgets : Result Line KeyFault
 ops_forgets = Ok (record { timed = record { reading = 5; call = record { by = Some (record { client = codes "ops"; number = 3 }); act = ForgetClient (codes "shop-7") } }; form = Plain; wait_s = 0 })
 
 -- two clients that are remembered
@@ -124,7 +124,7 @@ abbrev pub sends_nothing : Step
 sends_nothing = Send q []
 
 -- these act together on q: this is asked by nobody at 0
-abbrev pub acts_together : List Step → Result Line LineFault
+abbrev pub acts_together : List Step → Result Line KeyFault
 acts_together steps = asks_for (Together q steps) Plain 0
 
 -- a settlement, a send of two messages of which the second is a duplicate, and a send of none

@@ -43,7 +43,7 @@ mod token;
 mod views;
 mod worked;
 
-pub use fault::{LineFault, bad, refusal_of};
+pub use fault::{KeyFault, LineFault, bad, refusal_of};
 pub use form::Form;
 pub use laws::each_is_one_line;
 pub use line::{Line, read_line};

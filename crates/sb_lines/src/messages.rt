@@ -133,7 +133,7 @@ fn amqp_alone(alloc: Global, value: &Value) -> Result<Message, LineFault>
 {
     match object_of(alloc, value, &AmqpDigits) {
         Ok(message) => Ok(message),
-        Err(LineFault::BadKey { .. }) => bad(alloc, "amqp_hex"),
+        Err(LineFault::BadKey(_)) => bad(alloc, "amqp_hex"),
         Err(LineFault::OutOfMemory) => Err(LineFault::OutOfMemory),
     }
 }

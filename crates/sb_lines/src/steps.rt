@@ -4,7 +4,7 @@ ghost use Rattle.serde_json.specs.View.{view, items_view};
 ghost use Rattle.sb_lines.specs.Faults.{Answers, at_place};
 ghost use Rattle.sb_lines.specs.Lines as lines;
 
-use crate::fault::{LineFault, bad};
+use crate::fault::{KeyFault, LineFault, bad};
 use crate::fields::text_at;
 use crate::in_line::InStep;
 use crate::keys::{Address, EntityAddress};
@@ -111,10 +111,10 @@ fn step_at(alloc: Global, part: usize, value: &Value) -> Result<Step, LineFault>
 {
     match step_of(alloc, value) {
         Ok(step) => Ok(step),
-        Err(LineFault::BadKey { key, .. }) => Err(LineFault::BadKey {
+        Err(LineFault::BadKey(KeyFault { key, .. })) => Err(LineFault::BadKey(KeyFault {
             part: Some(part as u64),
             key,
-        }),
+        })),
         Err(LineFault::OutOfMemory) => Err(LineFault::OutOfMemory),
     }
 }

@@ -16,8 +16,7 @@ use Rattle.sb_machine.specs.declared.call.How.TheVariants.{Complete}
 use Rattle.sb_machine.specs.declared.call.Which.TheVariants.{Id}
 use Rattle.sb_http.specs.Fields.{Field, same_word}
 use Rattle.sb_http.specs.Messages.{RequestMessage}
-use Rattle.sb_lines.specs.declared.fault.LineFault.{LineFault}
-use Rattle.sb_lines.specs.declared.fault.LineFault.TheVariants as fault
+use Rattle.sb_lines.specs.declared.fault.KeyFault.{KeyFault}
 use Rattle.sb_lines.specs.declared.texts.Nulls.TheVariants.{Absent}
 use Rattle.sb_lines.specs.Faults.{or_key, then_by}
 use Rattle.sb_lines.specs.Lines.{together_of}
@@ -82,7 +81,7 @@ broker_of_holds d =
 
 -- ---- headers
 
-either : {T : Type 0} (P : T → Type 0) (b : Bool) (x y : Result T LineFault) → Holds P x → Holds P y → Holds P (if b then x else y)
+either : {T : Type 0} (P : T → Type 0) (b : Bool) (x y : Result T KeyFault) → Holds P x → Holds P y → Holds P (if b then x else y)
 either P true x y one two = one
 either P false x y one two = two
 
@@ -176,7 +175,7 @@ sent_holds path query fields body =
     known_holds IsWantedInOrder (calls.beside query fields) _ (λ b.
     then_holds (Each IsInOrder) IsWantedInOrder (calls.messages_in fields body) _ (all_hold fields body) (λ messages is. is)))
 
-asked_holds_with : (query : List ℕ) (fields : List Field) (act : Result Act LineFault) → Holds IsActInOrder act → Holds IsWantedInOrder (calls.asked_with query fields act)
+asked_holds_with : (query : List ℕ) (fields : List Field) (act : Result Act KeyFault) → Holds IsActInOrder act → Holds IsWantedInOrder (calls.asked_with query fields act)
 asked_holds_with query fields act holds =
     then_holds IsActInOrder IsWantedInOrder act (λ a. then_by (calls.beside query fields) (λ b. Ok (calls.in_time b.1 a b.0))) holds (λ a is.
     known_holds IsWantedInOrder (calls.beside query fields) (λ b. Ok (calls.in_time b.1 a b.0)) (λ b. is))
@@ -231,10 +230,9 @@ wanted_holds asked.Peek path query fields body = known_holds IsWantedInOrder (pe
 abbrev AreInOrder : Result Wanted RestFault → Type 0
 AreInOrder r = IfOk r IsWantedInOrder
 
-bad_holds : (r : Result Wanted LineFault) → Holds IsWantedInOrder r → AreInOrder (calls.or_bad r)
+bad_holds : (r : Result Wanted KeyFault) → Holds IsWantedInOrder r → AreInOrder (calls.or_bad r)
 bad_holds (Ok w) is = is
-bad_holds (Err (fault.BadKey part key)) is = tt
-bad_holds (Err fault.OutOfMemory) is = tt
+bad_holds (Err fault) is = tt
 
 asked_holds : (r : Route) (o : Option Asked) (m : RequestMessage) → AreInOrder (calls.on_asked r o m)
 asked_holds r None m = tt

@@ -7,7 +7,7 @@ use Rattle.serde_json.specs.Data.{Data, Items, no_items, item, Members, no_membe
 use Rattle.serde_json.specs.Find.{get, as_str, as_array, as_object}
 use Rattle.serde_json.specs.Read.{read}
 use Rattle.sb_http.specs.Fields.{Field, same_word}
-use Rattle.sb_lines.specs.declared.fault.LineFault.{LineFault}
+use Rattle.sb_lines.specs.declared.fault.KeyFault.{KeyFault}
 use Rattle.sb_lines.specs.Faults.{or_key, then_by}
 use Rattle.sb_lines.specs.Messages.{unless_null, value_in, before_those}
 use Rattle.sb_model.specs.Effects.{with_user}
@@ -59,32 +59,32 @@ is_batch fields = has_media_type batch_type fields
 -- ---- one message
 
 -- the body that stands here; left out is empty
-abbrev pub body_from : Option Data → Result (List ℕ) LineFault
+abbrev pub body_from : Option Data → Result (List ℕ) KeyFault
 body_from None = Ok []
 body_from (Some d) = or_key (codes "Body") (as_str d)
 
 -- the BrokerProperties that stand here; left out say nothing
-abbrev pub broker_from : Option Data → Result Broker LineFault
+abbrev pub broker_from : Option Data → Result Broker KeyFault
 broker_from None = Ok no_broker
 broker_from (Some d) = then_by (or_key (codes "BrokerProperties") (object_itself d)) broker_of
 
 -- a null is left out; else the name is at fault, as it is written, where its value is
-abbrev pub property_from : List ℕ → Option Data → List Property → Result (List Property) LineFault
+abbrev pub property_from : List ℕ → Option Data → List Property → Result (List Property) KeyFault
 property_from name None props = Ok props
 property_from name (Some d) props = then_by (or_key name (value_in d)) (λ value. Ok (with_user (str_to_ascii_lowercase name) (Some value) props))
 
 -- one after the other, in byte order of the names as they are written: of two that fold alike the last stands
-abbrev pub with_members : Members → List Property → Result (List Property) LineFault
+abbrev pub with_members : Members → List Property → Result (List Property) KeyFault
 with_members no_members props = Ok props
 with_members (member name d ms) props = then_by (property_from name (unless_null d) props) (with_members ms)
 
 -- the user properties that stand here; left out are none
-abbrev pub properties_from : Option Data → Result (List Property) LineFault
+abbrev pub properties_from : Option Data → Result (List Property) KeyFault
 properties_from None = Ok []
 properties_from (Some d) = then_by (or_key (codes "UserProperties") (as_object d)) (λ ms. with_members ms [])
 
 -- an object; its other keys say nothing
-unfoldable pub message_of : Data → Result Message LineFault
+unfoldable pub message_of : Data → Result Message KeyFault
 message_of d =
     then_by (or_key (codes "Body") (as_object d)) (λ _.
     then_by (body_from (get (codes "Body") d)) (λ body.
@@ -95,7 +95,7 @@ message_of d =
 -- ---- the array
 
 -- each in turn, or the first key at fault
-abbrev pub messages_of : Items → Result (List Message) LineFault
+abbrev pub messages_of : Items → Result (List Message) KeyFault
 messages_of no_items = Ok []
 messages_of (item d ds) = then_by (message_of d) (λ m. before_those (m ∷ []) (messages_of ds))
 
@@ -104,5 +104,5 @@ abbrev pub array_in : List ℕ → Option Items
 array_in bytes = option_and_then as_array (option_and_then read (as_text bytes))
 
 -- the messages of a batch, or the key at fault
-abbrev pub messages_in : List ℕ → Result (List Message) LineFault
+abbrev pub messages_in : List ℕ → Result (List Message) KeyFault
 messages_in body = then_by (or_key (codes "Body") (array_in body)) messages_of

@@ -20,8 +20,7 @@ use Rattle.sb_machine.specs.declared.look.Look.TheVariants.{Transactions}
 use Rattle.sb_model.specs.declared.message.Message.{Message}
 use Rattle.sb_http.specs.Fields.{Field}
 use Rattle.sb_http.specs.Messages.{RequestMessage}
-use Rattle.sb_lines.specs.declared.fault.LineFault.{LineFault}
-use Rattle.sb_lines.specs.declared.fault.LineFault.TheVariants as fault
+use Rattle.sb_lines.specs.declared.fault.KeyFault.{KeyFault}
 use Rattle.sb_lines.specs.Faults.{or_key, then_by}
 use Rattle.sb_lines.specs.Lines.{together_of}
 use Rattle.sb_lines.specs.Tokens.{token_in}
@@ -152,15 +151,15 @@ MethodsAreAll = (r : Route) (method : List ℕ) → takes r method ≡ list_any 
 -- ---- what the path says
 
 -- what a segment stands for, with its escapes undone (RFC 3986, 2.1)
-abbrev pub text_in : ℕ → List ℕ → Result (List ℕ) LineFault
+abbrev pub text_in : ℕ → List ℕ → Result (List ℕ) KeyFault
 text_in n path = or_key (codes "path") (as_text (percent_decode (segment n path)))
 
 -- a name, folded to ASCII lower case
-abbrev pub name_in : ℕ → List ℕ → Result (List ℕ) LineFault
+abbrev pub name_in : ℕ → List ℕ → Result (List ℕ) KeyFault
 name_in n path = then_by (text_in n path) (λ text. Ok (str_to_ascii_lowercase text))
 
 -- the address in the path of a route
-unfoldable pub address_in : Address → List ℕ → Result Path LineFault
+unfoldable pub address_in : Address → List ℕ → Result Path KeyFault
 address_in (Entity part) path = then_by (name_in 1 path) (λ name. Ok (record { name = name; subscription = None; part = part }))
 address_in (Subscription part) path =
     then_by (name_in 1 path) (λ topic. then_by (name_in 3 path) (λ name. Ok (record { name = topic; subscription = Some name; part = part })))
@@ -182,26 +181,26 @@ message_place a scope.Whole = id_place a
 message_place a scope.Session = suc (suc (suc (id_place a)))
 
 -- the sequence number in a path, in decimal digits
-abbrev pub number_at : ℕ → List ℕ → Result ℕ LineFault
+abbrev pub number_at : ℕ → List ℕ → Result ℕ KeyFault
 number_at n path = then_by (text_in n path) (λ text. or_key (codes "seq") (number_in text))
 
 -- the token of a lock in a path
-abbrev pub token_at : ℕ → List ℕ → Result Token LineFault
+abbrev pub token_at : ℕ → List ℕ → Result Token KeyFault
 token_at n path = then_by (text_in n path) (λ text. or_key (codes "token") (token_in text))
 
 -- a session that is held: whose it is, and its token, which alone says which one
-abbrev pub held_in : Address → List ℕ → Result (Path × Token) LineFault
+abbrev pub held_in : Address → List ℕ → Result (Path × Token) KeyFault
 held_in a path = then_by (address_in a path) (λ from. then_by (token_at (suc (id_place a)) path) (λ session. Ok (from, session)))
 
 -- whose messages are meant, and the token of the session that they are in
-abbrev pub scope_in : Address → Scope → List ℕ → Result (Path × Option Token) LineFault
+abbrev pub scope_in : Address → Scope → List ℕ → Result (Path × Option Token) KeyFault
 scope_in a scope.Whole path = then_by (address_in a path) (λ from. Ok (from, None))
 scope_in a scope.Session path = then_by (held_in a path) (λ h. Ok (h.0, Some h.1))
 
 -- ---- the acts
 
 -- a message under a lock: whose it is, the session it is in, its id and its token
-abbrev pub locked_in : Address → Scope → List ℕ → Result (Path × Option Token × List ℕ × Token) LineFault
+abbrev pub locked_in : Address → Scope → List ℕ → Result (Path × Option Token × List ℕ × Token) KeyFault
 locked_in a s path =
     then_by (scope_in a s path) (λ x.
     then_by (text_in (message_place a s) path) (λ id.
@@ -212,39 +211,39 @@ abbrev pub settled : How → Path × Option Token × List ℕ × Token → Act
 settled how l = Settle l.0 (Id l.2) l.3 l.1 how None
 
 -- its completion
-abbrev pub completed : Address → Scope → List ℕ → Result Act LineFault
+abbrev pub completed : Address → Scope → List ℕ → Result Act KeyFault
 completed a s path = then_by (locked_in a s path) (λ l. Ok (settled Complete l))
 
 -- the renewal of its lock
-abbrev pub renewed : Address → List ℕ → Result Act LineFault
+abbrev pub renewed : Address → List ℕ → Result Act KeyFault
 renewed a path = then_by (locked_in a scope.Whole path) (λ l. Ok (Renew l.0 (Id l.2) l.3))
 
 -- a message that its number names: whose it is, the session it is in, and the number
-abbrev pub numbered_in : Address → Scope → List ℕ → Result (Path × Option Token × ℕ) LineFault
+abbrev pub numbered_in : Address → Scope → List ℕ → Result (Path × Option Token × ℕ) KeyFault
 numbered_in a s path = then_by (scope_in a s path) (λ x. then_by (number_at (message_place a s) path) (λ number. Ok (x.0, x.1, number)))
 
 -- a receive of a deferred message
-abbrev pub taken_deferred : Address → Scope → Mode → List ℕ → Result Act LineFault
+abbrev pub taken_deferred : Address → Scope → Mode → List ℕ → Result Act KeyFault
 taken_deferred a s mode path = then_by (numbered_in a s path) (λ x. Ok (ReceiveDeferred x.0 x.2 mode x.1))
 
 -- taking a scheduled message back
-abbrev pub cancelled : Address → List ℕ → Result Act LineFault
+abbrev pub cancelled : Address → List ℕ → Result Act KeyFault
 cancelled a path = then_by (numbered_in a scope.Whole path) (λ x. Ok (Cancel x.0 x.2))
 
 -- a receive of each mode
-abbrev pub taken : Address → Scope → Mode → List ℕ → Result Act LineFault
+abbrev pub taken : Address → Scope → Mode → List ℕ → Result Act KeyFault
 taken a s mode path = then_by (scope_in a s path) (λ x. Ok (Receive x.0 mode x.1))
 
 -- accepting the next session that nobody holds
-abbrev pub accepted_next : Address → List ℕ → Result Act LineFault
+abbrev pub accepted_next : Address → List ℕ → Result Act KeyFault
 accepted_next a path = then_by (address_in a path) (λ from. Ok (Accept from None))
 
 -- accepting the session of this id
-abbrev pub accepted_named : Address → List ℕ → Result Act LineFault
+abbrev pub accepted_named : Address → List ℕ → Result Act KeyFault
 accepted_named a path = then_by (address_in a path) (λ from. then_by (text_in (id_place a) path) (λ id. Ok (Accept from (Some id))))
 
 -- the act that path and method say whole
-abbrev pub act_in : PathAct → List ℕ → Result Act LineFault
+abbrev pub act_in : PathAct → List ℕ → Result Act KeyFault
 act_in (act.Take a s mode) path = taken a s mode path
 act_in (act.TakeDeferred a s mode) path = taken_deferred a s mode path
 act_in (act.Complete a s) path = completed a s path
@@ -257,7 +256,7 @@ act_in (act.CloseSession a) path = then_by (held_in a path) (λ h. Ok (SessionCl
 act_in (act.ReadState a) path = then_by (held_in a path) (λ h. Ok (SessionState h.0 h.1))
 
 -- that a session remembers the body, and at none forgets
-abbrev pub remembered : Address → List ℕ → List ℕ → Result Act LineFault
+abbrev pub remembered : Address → List ℕ → List ℕ → Result Act KeyFault
 remembered a path body = then_by (held_in a path) (λ h. Ok (SessionSet h.0 h.1 (unless_empty body)))
 
 -- a call that may wait so many seconds, and is answered as its act says
@@ -277,15 +276,15 @@ abbrev pub peeked : Path × ℕ × ℕ → Wanted
 peeked x = told sight.Line (Peek x.0 x.1 x.2)
 
 -- how long it may wait, and its number
-abbrev pub beside : List ℕ → List Field → Result (ℕ × Option By) LineFault
+abbrev pub beside : List ℕ → List Field → Result (ℕ × Option By) KeyFault
 beside query fields = then_by (timeout_in query) (λ timeout. then_by (by_of fields) (λ by. Ok (timeout, by)))
 
 -- the query is judged behind the path, and the number of the call behind that
-abbrev pub asked_with : List ℕ → List Field → Result Act LineFault → Result Wanted LineFault
+abbrev pub asked_with : List ℕ → List Field → Result Act KeyFault → Result Wanted KeyFault
 asked_with query fields act = then_by act (λ a. then_by (beside query fields) (λ b. Ok (in_time b.1 a b.0)))
 
 -- what the query says becomes of a message under a lock is judged behind how long it may wait, and BrokerProperties behind the number of the call
-unfoldable pub put : Address → Scope → List ℕ → List ℕ → List Field → Result Wanted LineFault
+unfoldable pub put : Address → Scope → List ℕ → List ℕ → List Field → Result Wanted KeyFault
 put a s path query fields =
     then_by (locked_in a s path) (λ l.
     then_by (timeout_in query) (λ timeout.
@@ -294,11 +293,11 @@ put a s path query fields =
     then_by (how_of disposition fields) (λ how. Ok (in_time by (settled how l) timeout))))))
 
 -- those of a batch, or the one whose headers and body these are
-abbrev pub messages_in : List Field → List ℕ → Result (List Message) LineFault
+abbrev pub messages_in : List Field → List ℕ → Result (List Message) KeyFault
 messages_in fields body = if batches.is_batch fields then batches.messages_in body else message_in fields body
 
 -- the message is judged behind these
-unfoldable pub sent : List ℕ → List ℕ → List Field → List ℕ → Result Wanted LineFault
+unfoldable pub sent : List ℕ → List ℕ → List Field → List ℕ → Result Wanted KeyFault
 sent path query fields body =
     then_by (name_in 1 path) (λ name.
     then_by (beside query fields) (λ b.
@@ -306,23 +305,22 @@ sent path query fields body =
     Ok (in_time b.1 (Send (record { name = name; subscription = None; part = Main }) messages None) b.0))))
 
 -- the operations that act together by a body: the object of a line that has nothing beside its act
-abbrev pub together_in : List ℕ → Result Act LineFault
+abbrev pub together_in : List ℕ → Result Act KeyFault
 together_in body = then_by (or_key (codes "Body") (object_in body)) together_of
 
 -- they are judged behind these
-unfoldable pub together : List ℕ → List Field → List ℕ → Result Wanted LineFault
+unfoldable pub together : List ℕ → List Field → List ℕ → Result Wanted KeyFault
 together query fields body = then_by (beside query fields) (λ b. then_by (together_in body) (λ act. Ok (in_time b.1 act b.0)))
 
 -- ---- the call
 
 -- what is wanted, or the key at fault, with the place of the operation that has it, if it is one of those that act together
-abbrev pub or_bad : Result Wanted LineFault → Result Wanted RestFault
+abbrev pub or_bad : Result Wanted KeyFault → Result Wanted RestFault
 or_bad (Ok w) = Ok w
-or_bad (Err (fault.BadKey part key)) = Err (Bad part key)
-or_bad (Err fault.OutOfMemory) = Err OutOfMemory
+or_bad (Err fault) = Err (Bad fault.part fault.key)
 
 -- the path, the query, the headers and the body together
-unfoldable pub wanted_by : Asked → List ℕ → List ℕ → List Field → List ℕ → Result Wanted LineFault
+unfoldable pub wanted_by : Asked → List ℕ → List ℕ → List Field → List ℕ → Result Wanted KeyFault
 wanted_by asked.Send path query fields body = sent path query fields body
 wanted_by (asked.Put a s) path query fields body = put a s path query fields
 wanted_by (asked.Remember a) path query fields body = asked_with query fields (remembered a path body)

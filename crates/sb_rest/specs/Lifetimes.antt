@@ -7,10 +7,9 @@ use Rattle.form_urlencoded.specs.Form.{split_once}
 use Rattle.serde_json.specs.Data.{Num, Data}
 use Rattle.serde_json.specs.Find.{as_str, as_number, as_u64, to_float}
 use Rattle.sb_http.specs.Fields.{is_number, number_of}
-use Rattle.sb_lines.specs.declared.fault.LineFault.{LineFault}
-use Rattle.sb_lines.specs.declared.fault.LineFault.TheVariants.{BadKey}
+use Rattle.sb_lines.specs.declared.fault.KeyFault.{KeyFault}
 use Rattle.sb_lines.specs.declared.texts.Nulls.TheVariants.{Absent}
-use Rattle.sb_lines.specs.Faults.{or_key}
+use Rattle.sb_lines.specs.Faults.{bad_key, or_key}
 use Rattle.sb_lines.specs.Messages.{member_at, if_positive}
 use Rattle.sb_rest.specs.Values.{number_in}
 
@@ -52,20 +51,20 @@ span_in text = option_and_then (λ days. option_map (λ rest. days * 86400 + res
 -- ---- the time to live
 
 -- the time to live in seconds that stands here
-abbrev pub of_seconds : Option Data → Result (Option ℕ) LineFault
+abbrev pub of_seconds : Option Data → Result (Option ℕ) KeyFault
 of_seconds None = Ok None
 of_seconds (Some d) = or_key (codes "TimeToLive") (option_and_then if_positive (seconds_in d))
 
 -- a span; beside a number of seconds it is a second time to live, and at fault
-abbrev pub of_span : Bool → Data → Result (Option ℕ) LineFault
+abbrev pub of_span : Bool → Data → Result (Option ℕ) KeyFault
 of_span beside d =
-    if beside then Err (BadKey None (codes "TimeToLiveTimeSpan")) else or_key (codes "TimeToLiveTimeSpan") (option_and_then if_positive (option_and_then span_in (as_str d)))
+    if beside then Err (bad_key None (codes "TimeToLiveTimeSpan")) else or_key (codes "TimeToLiveTimeSpan") (option_and_then if_positive (option_and_then span_in (as_str d)))
 
 -- the time to live by either field; of both, the span is at fault
-abbrev pub lifetime_from : Option Data → Option Data → Result (Option ℕ) LineFault
+abbrev pub lifetime_from : Option Data → Option Data → Result (Option ℕ) KeyFault
 lifetime_from seconds None = of_seconds seconds
 lifetime_from seconds (Some span) = of_span (is_some seconds) span
 
 -- as a number or as a span; a null counts as absent
-abbrev pub lifetime_in : Data → Result (Option ℕ) LineFault
+abbrev pub lifetime_in : Data → Result (Option ℕ) KeyFault
 lifetime_in d = lifetime_from (member_at Absent (codes "TimeToLive") d) (member_at Absent (codes "TimeToLiveTimeSpan") d)

@@ -3,9 +3,8 @@ use Rattle.std.specs.Prelude.{ℕ, ◌&&◌, List, length, fold, codes, Option, 
 use Rattle.sb_machine.specs.Fields.{is_between, is_number}
 use Rattle.sb_machine.specs.declared.call.By.{By}
 use Rattle.sb_http.specs.Fields.{Field, same_word, is_number as are_digits, number_of}
-use Rattle.sb_lines.specs.declared.fault.LineFault.{LineFault}
-use Rattle.sb_lines.specs.declared.fault.LineFault.TheVariants.{BadKey}
-use Rattle.sb_lines.specs.Faults.{or_key, then_by}
+use Rattle.sb_lines.specs.declared.fault.KeyFault.{KeyFault}
+use Rattle.sb_lines.specs.Faults.{bad_key, or_key, then_by}
 use Rattle.sb_routes.specs.Paths.{as_text}
 
 -- the header field of the client's name
@@ -41,18 +40,18 @@ abbrev pub number_in : List ℕ → Option ℕ
 number_in value = if are_digits value && is_number (number_of value) then Some (number_of value) else None
 
 -- client and number, or the field at fault
-abbrev pub numbered : List ℕ → List ℕ → Result (Option By) LineFault
+abbrev pub numbered : List ℕ → List ℕ → Result (Option By) KeyFault
 numbered client number =
     then_by (or_key client_name (client_in client)) (λ c.
     then_by (or_key number_name (number_in number)) (λ n. Ok (Some (record { client = c; number = n }))))
 
 -- both or neither: the one that is there alone is at fault
-abbrev pub by_from : Option (List ℕ) → Option (List ℕ) → Result (Option By) LineFault
+abbrev pub by_from : Option (List ℕ) → Option (List ℕ) → Result (Option By) KeyFault
 by_from None None = Ok None
-by_from (Some client) None = Err (BadKey None client_name)
-by_from None (Some number) = Err (BadKey None number_name)
+by_from (Some client) None = Err (bad_key None client_name)
+by_from None (Some number) = Err (bad_key None number_name)
 by_from (Some client) (Some number) = numbered client number
 
 -- the client and the number that a request gives its call
-abbrev pub by_of : List Field → Result (Option By) LineFault
+abbrev pub by_of : List Field → Result (Option By) KeyFault
 by_of fields = by_from (last_of client_name fields) (last_of number_name fields)

@@ -25,7 +25,7 @@ use Rattle.sb_http.specs.declared.response.Status.{Status}
 use Rattle.sb_http.specs.Fields.{Field}
 use Rattle.sb_http.specs.Messages.{RequestMessage}
 use Rattle.sb_http.specs.Responses.{ResponseMessage}
-use Rattle.sb_lines.specs.declared.fault.LineFault.{LineFault}
+use Rattle.sb_lines.specs.declared.fault.KeyFault.{KeyFault}
 use Rattle.sb_rest.specs.declared.access.Access.{Access}
 use Rattle.sb_rest.specs.declared.asked.Scope.TheVariants as scope
 use Rattle.sb_rest.specs.declared.call.RestFault.{RestFault}
@@ -89,11 +89,11 @@ abbrev pub first_token : Token
 first_token = record { salt = 11651590505119483672; lock = 1 }
 
 -- a PUT on the first message of q, with a query
-abbrev pub puts : List ℕ → List Field → Result Wanted LineFault
+abbrev pub puts : List ℕ → List Field → Result Wanted KeyFault
 puts query fields = put (Entity Main) scope.Whole (codes "/q/messages/1/a1b2c3d4-e5f6-0718-0000-000000000001") query fields
 
 -- this becomes of it
-abbrev pub settles : How → Result Wanted LineFault
+abbrev pub settles : How → Result Wanted KeyFault
 settles how = Ok (in_time None (Settle q (Id (codes "1")) first_token None how None) 60)
 
 -- why it is a dead letter, by BrokerProperties

@@ -23,7 +23,7 @@ use crate::repeat::by_in;
 use crate::timeout::timeout_in;
 use httparse::spans::HeaderSpan;
 use sb_http::Request;
-use sb_lines::{LineFault, bad, together_of};
+use sb_lines::{KeyFault, LineFault, bad, together_of};
 use sb_machine::{Act, By, Call, Look, Part, Path};
 use sb_model::{Message, Rows, Text};
 use sb_routes::{Address, Route, Routes, cut};
@@ -303,7 +303,7 @@ fn on_asked(
     };
     match wanted_by(alloc, asked, path, query, request) {
         Ok(wanted) => Ok(wanted),
-        Err(LineFault::BadKey { part, key }) => Err(RestFault::Bad { part, key }),
+        Err(LineFault::BadKey(KeyFault { part, key })) => Err(RestFault::Bad { part, key }),
         Err(LineFault::OutOfMemory) => Err(RestFault::OutOfMemory),
     }
 }

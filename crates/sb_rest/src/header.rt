@@ -2,8 +2,7 @@
 ghost use Rattle.std.specs.Prelude.{◌≡◌, map, All, length, None, Some, Err, [], MatchOption};
 ghost use Rattle.std.specs.Str.{str_to_ascii_lowercase};
 ghost use Rattle.httparse.specs.Spans.{IsHeaderWithin, header_bytes};
-ghost use Rattle.sb_lines.specs.declared.fault.LineFault.TheVariants.{BadKey};
-ghost use Rattle.sb_lines.specs.Faults.{Answers};
+ghost use Rattle.sb_lines.specs.Faults.{Answers, bad_key};
 ghost use Rattle.sb_routes.specs.Paths as paths;
 ghost use Rattle.sb_rest.specs.Headers as headers;
 ghost use Rattle.sb_rest.specs.Lines.{NextLine};
@@ -34,7 +33,7 @@ fn stands_in(text: &[u8], lines: &[HeaderSpan], word: &[u8]) -> bool
 fn bad_name<T>(alloc: Global, name: &str) -> Result<T, LineFault>
 where
     T: Drop,
-    ensures { Answers result (Err (BadKey None (str_to_ascii_lowercase name.now))) }
+    ensures { Answers result (Err (bad_key None (str_to_ascii_lowercase name.now))) }
 {
     let folded = name.to_ascii_lowercase(alloc)?;
     bad(alloc, folded.as_str())

@@ -22,7 +22,7 @@ ghost use Rattle.sb_routes.specs.declared.routes.Address.TheVariants.{Entity};
 ghost use Rattle.sb_routes.specs.declared.routes.Route.TheVariants.{Messages, Deferred, Locked, Scheduled, Together};
 ghost use Rattle.sb_routes.specs.declared.routes.Route.TheVariants.{NamedSession, HeldSession, SessionState, SessionHead, SessionDeferred, SessionLocked};
 ghost use Rattle.sb_http.specs.declared.response.Status.TheVariants as status;
-ghost use Rattle.sb_lines.specs.declared.fault.LineFault.TheVariants.{BadKey};
+ghost use Rattle.sb_lines.specs.Faults.{bad_key};
 ghost use Rattle.sb_rest.specs.declared.call.RestFault.TheVariants.{Foreign, NoKey, NoRoute, BadMethod, Bad, Script};
 ghost use Rattle.sb_rest.specs.Batches as batches;
 ghost use Rattle.sb_rest.specs.Brokers.{broker_in};
@@ -91,7 +91,7 @@ pub fn worked_callers()
 
 /// The same of headers and batches.
 pub fn worked_parts()
-    ensures half_a_second { broker_in (codes "{\"TimeToLive\":1.5}") ≡ Err (BadKey None (codes "TimeToLive")) }
+    ensures half_a_second { broker_in (codes "{\"TimeToLive\":1.5}") ≡ Err (bad_key None (codes "TimeToLive")) }
     ensures whole { broker_in (codes "{\"TimeToLive\":10.0}") ≡ Ok (living 10) }
     ensures span { broker_in (codes "{\"TimeToLiveTimeSpan\":\"0.00:00:40\"}") ≡ Ok (living 40) }
     ensures days { span_in (codes "1.02:03:04") ≡ Some 93784 }
@@ -99,21 +99,21 @@ pub fn worked_parts()
     ensures one_digit { span_in (codes "0.0:00:40") ≡ None }
     ensures no_days { span_in (codes "00:00:40") ≡ None }
     ensures fraction { span_in (codes "0.00:00:40.5") ≡ None }
-    ensures no_time { broker_in (codes "{\"TimeToLiveTimeSpan\":\"0.00:00:00\"}") ≡ Err (BadKey None (codes "TimeToLiveTimeSpan")) }
-    ensures both_times { broker_in (codes "{\"TimeToLive\":40,\"TimeToLiveTimeSpan\":\"0.00:00:40\"}") ≡ Err (BadKey None (codes "TimeToLiveTimeSpan")) }
-    ensures fraction_of_a_number { repeats.numbered (codes "c") (codes "1.5") ≡ Err (BadKey None (codes "Repeat-Number")) }
-    ensures no_number { repeats.numbered (codes "c") (codes "0") ≡ Err (BadKey None (codes "Repeat-Number")) }
+    ensures no_time { broker_in (codes "{\"TimeToLiveTimeSpan\":\"0.00:00:00\"}") ≡ Err (bad_key None (codes "TimeToLiveTimeSpan")) }
+    ensures both_times { broker_in (codes "{\"TimeToLive\":40,\"TimeToLiveTimeSpan\":\"0.00:00:40\"}") ≡ Err (bad_key None (codes "TimeToLiveTimeSpan")) }
+    ensures fraction_of_a_number { repeats.numbered (codes "c") (codes "1.5") ≡ Err (bad_key None (codes "Repeat-Number")) }
+    ensures no_number { repeats.numbered (codes "c") (codes "0") ≡ Err (bad_key None (codes "Repeat-Number")) }
     ensures greatest { repeats.number_in (codes "9223372036854775807") ≡ Some 9223372036854775807 }
     ensures above { repeats.number_in (codes "9223372036854775808") ≡ None }
-    ensures no_client { repeats.numbered [] (codes "1") ≡ Err (BadKey None (codes "Repeat-Client")) }
-    ensures no_object { broker_in (codes "7") ≡ Err (BadKey None (codes "BrokerProperties")) }
+    ensures no_client { repeats.numbered [] (codes "1") ≡ Err (bad_key None (codes "Repeat-Client")) }
+    ensures no_object { broker_in (codes "7") ≡ Err (bad_key None (codes "BrokerProperties")) }
     ensures number { header_value (codes "-7") ≡ Int (neg_ℤ (pos 7)) }
     ensures zeros { header_value (codes "007") ≡ Int (pos 7) }
     ensures signed { header_value (codes "+1") ≡ Text (codes "+1") }
     ensures quoted { header_value (codes "\"a\"") ≡ Text (codes "a") }
     ensures one_quote { header_value (codes "\"") ≡ Text (codes "\"") }
     ensures batch { batches.messages_in (codes "[{\"Body\":\"a\"},{}]") ≡ Ok (text_alone (codes "a") ∷ text_alone [] ∷ []) }
-    ensures no_array { batches.messages_in (codes "{}") ≡ Err (BadKey None (codes "Body")) }
+    ensures no_array { batches.messages_in (codes "{}") ≡ Err (bad_key None (codes "Body")) }
     ensures batch_type { batches.is_batch_type (codes "Application/vnd.microsoft.servicebus.json ; charset=utf-8") ≡ true }
 {}
 
@@ -123,16 +123,16 @@ pub fn worked_dispositions()
     ensures abandon { puts [] (why (codes "7")) ≡ settles how.Abandon }
     ensures defer { puts (codes "a=b&disposition=defer&disposition=x") (why (codes "7")) ≡ settles how.Defer }
     ensures dead_letter { puts (codes "disposition=dead-letter") (why (codes "{\"DeadLetterReason\":\"r\"}")) ≡ settles (how.DeadLetter (Some (codes "r")) None) }
-    ensures another { puts (codes "disposition=drop") [] ≡ Err (BadKey None (codes "disposition")) }
-    ensures before_number { puts (codes "disposition=abandon") ((codes "Repeat-Number", codes "1") ∷ []) ≡ Err (BadKey None (codes "disposition")) }
-    ensures behind_timeout { puts (codes "disposition=drop&timeout=x") [] ≡ Err (BadKey None (codes "timeout")) }
-    ensures behind_number { puts (codes "disposition=dead-letter") ((codes "Repeat-Number", codes "1") ∷ why (codes "7")) ≡ Err (BadKey None (codes "Repeat-Number")) }
+    ensures another { puts (codes "disposition=drop") [] ≡ Err (bad_key None (codes "disposition")) }
+    ensures before_number { puts (codes "disposition=abandon") ((codes "Repeat-Number", codes "1") ∷ []) ≡ Err (bad_key None (codes "disposition")) }
+    ensures behind_timeout { puts (codes "disposition=drop&timeout=x") [] ≡ Err (bad_key None (codes "timeout")) }
+    ensures behind_number { puts (codes "disposition=dead-letter") ((codes "Repeat-Number", codes "1") ∷ why (codes "7")) ≡ Err (bad_key None (codes "Repeat-Number")) }
     ensures both { how_of DeadLetter (why (codes "{\"DeadLetterErrorDescription\":\"d\",\"DeadLetterReason\":\"r\"}")) ≡ Ok (how.DeadLetter (Some (codes "r")) (Some (codes "d"))) }
     ensures neither { how_of DeadLetter [] ≡ Ok (how.DeadLetter None None) }
     ensures absent { how_of DeadLetter (why (codes "{\"DeadLetterReason\":\"\",\"DeadLetterErrorDescription\":null}")) ≡ Ok (how.DeadLetter None None) }
-    ensures no_reason { how_of DeadLetter (why (codes "{\"DeadLetterErrorDescription\":7,\"DeadLetterReason\":7}")) ≡ Err (BadKey None (codes "DeadLetterReason")) }
-    ensures no_description { how_of DeadLetter (why (codes "{\"DeadLetterErrorDescription\":[]}")) ≡ Err (BadKey None (codes "DeadLetterErrorDescription")) }
-    ensures no_object { how_of DeadLetter (why (codes "\"r\"")) ≡ Err (BadKey None (codes "BrokerProperties")) }
+    ensures no_reason { how_of DeadLetter (why (codes "{\"DeadLetterErrorDescription\":7,\"DeadLetterReason\":7}")) ≡ Err (bad_key None (codes "DeadLetterReason")) }
+    ensures no_description { how_of DeadLetter (why (codes "{\"DeadLetterErrorDescription\":[]}")) ≡ Err (bad_key None (codes "DeadLetterErrorDescription")) }
+    ensures no_object { how_of DeadLetter (why (codes "\"r\"")) ≡ Err (bad_key None (codes "BrokerProperties")) }
 {}
 
 /// The same of messages that are named by their numbers.
@@ -146,10 +146,10 @@ pub fn worked_numbers()
     ensures method { call_of unlocked (request (codes "PUT") (codes "/q/messages/7") [] []) ≡ Err (BadMethod (Deferred (Entity Main))) }
     ensures another_method { call_of unlocked (request (codes "POST") (codes "/q/scheduled/7") [] []) ≡ Err (BadMethod (Scheduled (Entity Main))) }
     ensures greatest { number_at 1 (codes "/9223372036854775807") ≡ Ok 9223372036854775807 }
-    ensures above { number_at 1 (codes "/9223372036854775808") ≡ Err (BadKey None (codes "seq")) }
+    ensures above { number_at 1 (codes "/9223372036854775808") ≡ Err (bad_key None (codes "seq")) }
     ensures escaped { number_at 1 (codes "/%30%37/x") ≡ Ok 7 }
-    ensures signed { number_at 1 (codes "/+7") ≡ Err (BadKey None (codes "seq")) }
-    ensures no_text { number_at 1 (codes "/%FF") ≡ Err (BadKey None (codes "path")) }
+    ensures signed { number_at 1 (codes "/+7") ≡ Err (bad_key None (codes "seq")) }
+    ensures no_text { number_at 1 (codes "/%FF") ≡ Err (bad_key None (codes "path")) }
 {}
 
 /// The same of the parts of responses.
@@ -243,11 +243,11 @@ pub fn worked_together()
     ensures no_object { on Together (codes "POST") (codes "/$together") (codes "[]") ≡ Err (Bad None (codes "Body")) }
     ensures empty { on Together (codes "POST") (codes "/$together") [] ≡ Err (Bad None (codes "Body")) }
     ensures method { on Together (codes "GET") (codes "/$together") [] ≡ Err (BadMethod Together) }
-    ensures other_act { together_in (codes "{\"do\":\"receive\",\"from\":\"q\"}") ≡ Err (BadKey None (codes "do")) }
-    ensures wordless { together_in (codes "{\"entity\":\"q\",\"operations\":[]}") ≡ Err (BadKey None (codes "do")) }
-    ensures numbered { together_in (codes "{\"do\":\"together\",\"client\":\"c\",\"number\":1}") ≡ Err (BadKey None (codes "client")) }
-    ensures timed { together_in (codes "{\"at\":1,\"do\":\"together\"}") ≡ Err (BadKey None (codes "at")) }
-    ensures operations { together_in (codes "{\"do\":\"together\",\"entity\":\"q\",\"operations\":[7]}") ≡ Err (BadKey (Some 0) (codes "operations")) }
+    ensures other_act { together_in (codes "{\"do\":\"receive\",\"from\":\"q\"}") ≡ Err (bad_key None (codes "do")) }
+    ensures wordless { together_in (codes "{\"entity\":\"q\",\"operations\":[]}") ≡ Err (bad_key None (codes "do")) }
+    ensures numbered { together_in (codes "{\"do\":\"together\",\"client\":\"c\",\"number\":1}") ≡ Err (bad_key None (codes "client")) }
+    ensures timed { together_in (codes "{\"at\":1,\"do\":\"together\"}") ≡ Err (bad_key None (codes "at")) }
+    ensures operations { together_in (codes "{\"do\":\"together\",\"entity\":\"q\",\"operations\":[7]}") ≡ Err (bad_key (Some 0) (codes "operations")) }
     ensures placed { on Together (codes "POST") (codes "/$together") sends_half ≡ Err (Bad (Some 1) (codes "messages")) }
     ensures bad_part { fault_response (Bad (Some 1) (codes "messages")) ≡ refused_by status.BadRequest (codes "{\"key\":\"messages\",\"part\":1,\"refused\":\"BadCall\"}") }
     ensures lost_part { refusal_response (InPart 1 in_part.LockLost) ≡ refused_by status.NotFound (codes "{\"part\":1,\"refused\":\"LockLost\"}") }

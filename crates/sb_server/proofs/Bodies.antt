@@ -7,7 +7,7 @@ use Rattle.std.proofs.lemmas.Bool.Decides.{nat_tests}
 use Rattle.sb_desk.specs.Lists.{Each}
 use Rattle.sb_input.specs.Lines.{onto_first, lines_of, is_blank, NoFeed}
 use Rattle.sb_input.proofs.Splits.{lines_of-feed, lines_of-last, position-split, position-none}
-use Rattle.sb_lines.specs.declared.fault.LineFault.TheVariants.{BadKey}
+use Rattle.sb_lines.specs.Faults.{bad_key}
 use Rattle.sb_server.specs.declared.body.LineAsk.{LineAsk}
 use Rattle.sb_server.specs.Bodies.{with_feeds, IsNextLine, are_lines, asked_by, line_in, lines_in}
 
@@ -77,10 +77,10 @@ taken_each asks rest body e none are =
     sym (append-nil asks)
     ∙ ap (λ (l : List ℕ). asks ++ each_asked (lines_of l)) (sym none)
     ∙ e
-    ∙ sym (ap (λ (b : Bool). if b then each_asked (lines_of body) else asked_by (Err (BadKey None [])) ∷ []) are)
+    ∙ sym (ap (λ (b : Bool). if b then each_asked (lines_of body) else asked_by (Err (bad_key None [])) ∷ []) are)
 
-pub refused_all : (body : List ℕ) → are_lines (lines_of body) ≡ false → lines_in body ≡ asked_by (Err (BadKey None [])) ∷ []
-refused_all body none = ap (λ (b : Bool). if b then each_asked (lines_of body) else asked_by (Err (BadKey None [])) ∷ []) none
+pub refused_all : (body : List ℕ) → are_lines (lines_of body) ≡ false → lines_in body ≡ asked_by (Err (bad_key None [])) ∷ []
+refused_all body none = ap (λ (b : Bool). if b then each_asked (lines_of body) else asked_by (Err (bad_key None [])) ∷ []) none
 
 pub each_snoc : {A : Type 0} (P : A → Type 0) (xs : List A) (x : A) → Each P xs → P x → Each P (xs ++ x ∷ [])
 each_snoc P [] x e p = (p, tt)

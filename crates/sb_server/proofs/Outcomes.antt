@@ -6,7 +6,8 @@ use Rattle.std.proofs.lemmas.Grind.{common_steps}
 use Rattle.std.proofs.lemmas.List.Folds.{list_any-append}
 use Rattle.sb_machine.specs.History.{stops}
 use Rattle.sb_machine.specs.declared.call.Call.{Call}
-use Rattle.sb_lines.specs.Faults.{refusal_of}
+use Rattle.sb_lines.specs.Faults.{answer_of_fault, bad_key, refusal_of}
+use Rattle.sb_lines.specs.declared.fault.KeyFault.{KeyFault}
 use Rattle.sb_lines.specs.declared.fault.LineFault.{LineFault}
 use Rattle.sb_lines.specs.declared.fault.LineFault.TheVariants.{BadKey, OutOfMemory as NoMemory}
 use Rattle.sb_lines.specs.declared.line.Line.{Line as ScriptLine}
@@ -112,12 +113,15 @@ turn_stops true false e = absurd cc
 turn_stops false false e = absurd cc
 
 -- nor is the refusal of a line at fault
-fault_goes : (fault : LineFault) → stops (Err (refusal_of fault)) ≡ false
-fault_goes (BadKey None key) = refl
-fault_goes (BadKey (Some part) key) = refl
+bad_key_goes : (part : Option ℕ) (key : List ℕ) → stops (Err (refusal_of (bad_key part key))) ≡ false
+bad_key_goes None key = refl
+bad_key_goes (Some part) key = refl
+
+fault_goes : (fault : LineFault) → stops (Err (answer_of_fault fault)) ≡ false
+fault_goes (BadKey fault) = bad_key_goes fault.part fault.key
 fault_goes NoMemory = refl
 
-no_line_goes : (said : Result ScriptLine LineFault) (answer : Result Answered Refusal) → IsNoLine said answer → stops answer ≡ false
+no_line_goes : (said : Result ScriptLine KeyFault) (answer : Result Answered Refusal) → IsNoLine said answer → stops answer ≡ false
 no_line_goes said answer is = ap stops is.2 ∙ fault_goes is.0
 
 -- ---- several lines
@@ -127,9 +131,9 @@ abbrev GoesBehind : LineAsk → Type 0
 GoesBehind (LineCall line) = Unit {0}
 GoesBehind (LineNone answer) = stops answer ≡ false
 
-asked_goes : (said : Result ScriptLine LineFault) → GoesBehind (asked_by said)
+asked_goes : (said : Result ScriptLine KeyFault) → GoesBehind (asked_by said)
 asked_goes (Ok line) = tt
-asked_goes (Err fault) = fault_goes fault
+asked_goes (Err fault) = bad_key_goes fault.part fault.key
 
 each_asked_goes : (lines : List (List ℕ)) → Each GoesBehind (map (λ line. asked_by (line_in line)) lines)
 each_asked_goes [] = tt

@@ -11,7 +11,8 @@ use Rattle.sb_machine.specs.declared.reply.Refusal.{Refusal}
 use Rattle.sb_desk.specs.Lists.{Each}
 use Rattle.sb_http.specs.Fields.{Field, same_word}
 use Rattle.sb_http.specs.Messages.{RequestMessage}
-use Rattle.sb_lines.specs.Faults.{Answers, refusal_of}
+use Rattle.sb_lines.specs.Faults.{Answers, answer_of_fault}
+use Rattle.sb_lines.specs.declared.fault.KeyFault.{KeyFault}
 use Rattle.sb_lines.specs.declared.fault.LineFault.{LineFault}
 use Rattle.sb_lines.specs.declared.line.Line.{Line as ScriptLine}
 use Rattle.sb_rest.specs.Batches.{is_blank}
@@ -79,12 +80,12 @@ abbrev pub ms_in : ℕ → ℕ
 ms_in s = min (s * 1000) (2 ^ 64 - 1)
 
 -- this call is said
-abbrev pub Reads : Result ScriptLine LineFault → ScriptLine → Type 0
+abbrev pub Reads : Result ScriptLine KeyFault → ScriptLine → Type 0
 Reads said line = (said ≡ Ok line) × IsActInOrder line.timed.call.act
 
 -- a script line is no call, and is answered by why; want of memory may come with each
-abbrev pub IsNoLine : Result ScriptLine LineFault → Result Answered Refusal → Type 0
-IsNoLine said answer = (fault : LineFault) × Answers (Err fault) said × (answer ≡ Err (refusal_of fault))
+abbrev pub IsNoLine : Result ScriptLine KeyFault → Result Answered Refusal → Type 0
+IsNoLine said answer = (fault : LineFault) × Answers (Err fault) said × (answer ≡ Err (answer_of_fault fault))
 
 -- what a body asks for as one line, which waits so many ms at most, or is called once
 abbrev pub IsLineAsk : List ℕ → Ask → Type 0

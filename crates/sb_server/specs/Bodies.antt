@@ -6,10 +6,9 @@ use Rattle.sb_machine.specs.Ordered.{IsActInOrder}
 use Rattle.sb_desk.specs.Lists.{Each}
 use Rattle.sb_http.specs.Fields.{Field}
 use Rattle.sb_input.specs.Lines.{lines_of, is_blank, NoFeed}
-use Rattle.sb_lines.specs.Faults.{refusal_of}
+use Rattle.sb_lines.specs.Faults.{bad_key, refusal_of}
 use Rattle.sb_lines.specs.Lines.{line_of}
-use Rattle.sb_lines.specs.declared.fault.LineFault.{LineFault}
-use Rattle.sb_lines.specs.declared.fault.LineFault.TheVariants.{BadKey}
+use Rattle.sb_lines.specs.declared.fault.KeyFault.{KeyFault}
 use Rattle.sb_lines.specs.declared.line.Line.{Line as ScriptLine}
 use Rattle.sb_rest.specs.Batches.{has_media_type}
 use Rattle.sb_server.specs.declared.body.LineAsk.{LineAsk}
@@ -28,13 +27,13 @@ has_lines fields = has_media_type lines_type fields
 -- ---- one line
 
 -- the call of a script line and the form of its reply, or the key at fault
-abbrev pub line_in : List ℕ → Result ScriptLine LineFault
-line_in line = if is_utf8 line then line_of line else Err (BadKey None [])
+abbrev pub line_in : List ℕ → Result ScriptLine KeyFault
+line_in line = if is_utf8 line then line_of line else Err (bad_key None [])
 
 -- ---- several lines
 
 -- a line that is no call is answered by the refusal of its key
-abbrev pub asked_by : Result ScriptLine LineFault → LineAsk
+abbrev pub asked_by : Result ScriptLine KeyFault → LineAsk
 asked_by (Ok line) = Call line
 asked_by (Err fault) = NoCall (Err (refusal_of fault))
 
@@ -48,7 +47,7 @@ are_lines lines = nat_le 1 (length lines) && (nat_le (length lines) max_lines &&
 
 -- each of these lines; else they are as one that is no call, whose key is that of no JSON object
 abbrev pub asked_by_each : List (List ℕ) → List LineAsk
-asked_by_each lines = if are_lines lines then map (λ line. asked_by (line_in line)) lines else asked_by (Err (BadKey None [])) ∷ []
+asked_by_each lines = if are_lines lines then map (λ line. asked_by (line_in line)) lines else asked_by (Err (bad_key None [])) ∷ []
 
 -- what the lines of a body ask for; each ends at a line feed, which the last may lack
 abbrev pub lines_in : List ℕ → List LineAsk

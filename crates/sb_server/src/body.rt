@@ -3,12 +3,11 @@ ghost use Rattle.std.specs.Prelude.{◌≡◌, ◌<◌, ◌==◌, position, IfSo
 ghost use Rattle.sb_desk.specs.Lists.{Each};
 ghost use Rattle.sb_machine.specs.Ordered.{IsActInOrder};
 ghost use Rattle.sb_input.specs.Lines.{lines_of};
-ghost use Rattle.sb_lines.specs.Faults.{Answers};
-ghost use Rattle.sb_lines.specs.declared.fault.LineFault.TheVariants.{BadKey};
+ghost use Rattle.sb_lines.specs.Faults.{Answers, bad_key};
 ghost use Rattle.sb_server.specs.Bodies as bodies;
 
 use sb_input::is_blank_line;
-use sb_lines::{LineFault, bad, read_line, refusal_of};
+use sb_lines::{KeyFault, LineFault, bad, read_line, refusal_of};
 use sb_machine::Answer;
 use sb_model::{Rows, Text};
 use std::alloc::{AllocError, Global};
@@ -93,8 +92,8 @@ fn asked_by(alloc: Global, line: &[u8]) -> Result<LineAsk, AllocError>
 {
     match line_in(alloc, line) {
         Ok(line) => Ok(LineAsk::Call { line }),
+        Err(LineFault::BadKey(fault)) => Ok(no_call(fault)),
         Err(LineFault::OutOfMemory) => Err(AllocError),
-        Err(fault) => Ok(no_call(fault)),
     }
 }
 
@@ -116,20 +115,19 @@ fn each_line(alloc: Global, body: &[u8]) -> Result<Rows<LineAsk>, AllocError>
 
 // A body that is refused as one line.
 fn no_lines(alloc: Global) -> Result<Rows<LineAsk>, AllocError>
-    ensures lines { IfOk result (λ lines. lines ≡ bodies.asked_by (Err (BadKey None [])) ∷ []) }
+    ensures lines { IfOk result (λ lines. lines ≡ bodies.asked_by (Err (bad_key None [])) ∷ []) }
     ensures in_order { IfOk result (λ lines. Each bodies.IsLineInOrder lines) }
 {
     let key = Text::of(alloc, "")?;
-    let fault = LineFault::BadKey { part: None, key };
-    let lines = vec![in alloc; no_call(fault)]?;
+    let lines = vec![in alloc; no_call(KeyFault { part: None, key })]?;
     Ok(Rows::from_vec(lines))
 }
 
 // A line that is no call, by this fault.
-fn no_call(fault: LineFault) -> LineAsk
+fn no_call(fault: KeyFault) -> LineAsk
     ensures { result ≡ bodies.asked_by (Err fault) }
 {
     LineAsk::NoCall {
-        answer: Err(refusal_of(fault)),
+        answer: Err(refusal_of(LineFault::BadKey(fault))),
     }
 }
