@@ -19,6 +19,7 @@ pub mod Crossing
 pub mod Sparing
 pub mod Salts
 pub mod Turning
+pub mod Accounts
 pub mod Made
 pub mod Staged
 pub mod ByGroups

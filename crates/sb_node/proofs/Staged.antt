@@ -22,7 +22,7 @@ use Rattle.sb_machine.specs.declared.reply.Refusal.TheVariants.{DiskFault, OutOf
 use Rattle.sb_machine.specs.declared.state.State.{State}
 use Rattle.sb_recorder.specs.Recorders.{HasStaged, IsUnwritten}
 use Rattle.sb_node.specs.declared.ahead.Ahead.{Ahead}
-use Rattle.sb_node.specs.Ahead.{ahead_journal, ahead_last, ahead_staged, ahead_state, HasFailedOnce, IsAhead, IsSealed, IsUnmoved, StagesEvents}
+use Rattle.sb_node.specs.Ahead.{ahead_journal, ahead_last, ahead_staged, ahead_state, IsAhead, IsSealed, IsUnmoved, StagesEvents}
 use Rattle.sb_node.specs.Nodes.{HoldsState, LeadsToOneOf, StayOneOf}
 use Rattle.sb_node.specs.Recovery.{base_state, next_state, replay_file, replay_from, reaches}
 use Rattle.sb_node.specs.Steps.{IsAnswered, IsTickFault}
@@ -154,11 +154,6 @@ pub unstaged_tick : {D : Type 0} {B : Ghosts D} (j new : Journal D B) (t : ℕ) 
 unstaged_tick j new t s OutOfMemory is other = (refl, is)
 unstaged_tick j new t s DiskFault is other = absurd (other refl)
 unstaged_tick j new t s _ is other = absurd is
-
-pub unstaged_fault : {D : Type 0} {B : Ghosts D} (j new : Journal D B) (e : Refusal) → IsUnwritten j new e → e ≡ DiskFault → HasFailedOnce j new
-unstaged_fault j new DiskFault is same = is
-unstaged_fault j new OutOfMemory is same = absurd cc
-unstaged_fault j new _ is same = absurd is
 
 pub unstaged_want : {D : Type 0} {B : Ghosts D} (j new : Journal D B) (e : Refusal) → IsUnwritten j new e → e ≢ DiskFault → (e ≡ OutOfMemory) × (new ≡ j)
 unstaged_want j new OutOfMemory is other = (refl, is)

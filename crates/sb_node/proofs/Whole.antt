@@ -1,9 +1,6 @@
 -- What holds of a whole step, by what holds of its tick and of its call.
-use Rattle.std.proofs.Common.{◌≡◌, ◌≤◌, ℕ, Bool, true, false, Option, Some, None, Result, refl, sym, ◌∙◌, ap, subst, arith}
-use Rattle.sb_outside.specs.declared.disk.Disk.{Ghosts}
-use Rattle.sb_journal.specs.declared.journal.Journal.{Journal}
+use Rattle.std.proofs.Common.{◌≡◌, ◌≤◌, ℕ, Bool, true, false, Option, Some, None, Result, refl, sym, ◌∙◌, subst, arith}
 use Rattle.sb_journal.specs.Disks.{Disks, AreQuiet, NoneFell, SameHonesty}
-use Rattle.sb_journal.specs.Journals.{journal_disks}
 use Rattle.sb_laws.proofs.StaysWhole.{stays_consistent, ticks_consistent}
 use Rattle.sb_machine.specs.Answers.{max_moment}
 use Rattle.sb_machine.specs.Consistent.{IsConsistent}
@@ -46,6 +43,3 @@ fell_on was mid later first second = (omega (arith, first.0, second.0), omega (a
 
 pub honest_on : (was mid later : Disks) → SameHonesty was mid → SameHonesty mid later → SameHonesty was later
 honest_on was mid later first second = (second.0 ∙ first.0, second.1 ∙ first.1)
-
-pub same_quiet : {D : Type 0} {B : Ghosts D} (j new : Journal D B) → new ≡ j → AreQuiet (journal_disks j) (journal_disks new)
-same_quiet {D} {B} j new same = (ap (λ (x : Journal D B). (journal_disks x).a.faults) same, ap (λ (x : Journal D B). (journal_disks x).b.faults) same)

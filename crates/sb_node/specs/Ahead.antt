@@ -1,13 +1,14 @@
 -- What contracts say of a namespace that is ahead of its journal's end: the state that it holds, and the events that are staged and don't count yet.
-use Rattle.std.specs.Prelude.{◌≡◌, ℕ, ◌+◌, List, ◌++◌, length, map, Option, Some, None, true, Result}
+use Rattle.std.specs.Prelude.{◌≡◌, ℕ, ◌+◌, List, ◌++◌, length, map, Bool, Option, Some, None, false, Result, Ok, Err}
 use Rattle.sb_outside.specs.declared.disk.Disk.{Ghosts}
 use Rattle.sb_codec.specs.EventBytes.{read_event}
 use Rattle.sb_journal.specs.declared.journal.Journal.{Journal}
 use Rattle.sb_journal.specs.Text.{File, with_payloads}
-use Rattle.sb_journal.specs.Disks.{Disks, OneFault}
-use Rattle.sb_journal.specs.Journals.{journal_disks, has_failed, fault_count, HoldsStaged}
+use Rattle.sb_journal.specs.Disks.{Disks}
+use Rattle.sb_journal.specs.Journals.{journal_disks, HoldsStaged}
 use Rattle.sb_machine.specs.Accounts.{changing}
 use Rattle.sb_machine.specs.Events.{replayed, MayLeave}
+use Rattle.sb_machine.specs.History.{is_disk_fault}
 use Rattle.sb_machine.specs.declared.call.Call.{Call}
 use Rattle.sb_machine.specs.declared.call.Event.{Event}
 use Rattle.sb_machine.specs.declared.reply.Answered.{Answered}
@@ -65,9 +66,10 @@ pub record IsUnmoved {D : Type 0} {B : Ghosts D} (old new : Ahead D B) : Type 0 
   pub staged : new.staged ≡ old.staged
   pub state : ahead_state new ≡ ahead_state old
 
--- the disk failed: the journal takes no more, and its count of faults is told
-abbrev pub HasFailedOnce : {D : Type 0} {B : Ghosts D} → (old new : Journal D B) → Type 0
-HasFailedOnce old new = (has_failed new ≡ true) × OneFault (journal_disks old) (journal_disks new) (fault_count new)
+-- whether it is answered that a disk failed
+abbrev pub tells_fault : {T : Type 0} → Result T Refusal → Bool
+tells_fault (Ok done) = false
+tells_fault (Err refusal) = is_disk_fault (Err refusal)
 
 -- the events of a call and its tick, where it changed the state
 abbrev pub made_events : State → Option ℕ → (seat reading : ℕ) → Call → Result Answered Refusal → List Event

@@ -1,6 +1,6 @@
 // A namespace that goes on ahead of its journal's end: each call is planned, reserved and carried out on the state that those
 // before it leave, and its event is staged; one sealing makes all of them safe.
-ghost use Rattle.std.specs.Prelude.{◌≡◌, ◌≢◌, ◌≤◌, ◌+◌, ◌++◌, ◌∷◌, [], List, map, ℕ, Option, Some, None, Err, is_some, length, true, false, IfOk, IfErr, IfSome, OnOk, OnErr};
+ghost use Rattle.std.specs.Prelude.{◌≡◌, ◌≢◌, ◌≤◌, ◌+◌, ◌++◌, ◌∷◌, [], List, map, ℕ, Option, Some, None, Err, is_err, is_some, length, true, false, IfOk, IfErr, IfSome, OnOk, OnErr};
 ghost use Rattle.std.specs.List.{All};
 ghost use Rattle.sb_desk.specs.Entries.{counted};
 ghost use Rattle.sb_engine.specs.Engines.{engine_state};
@@ -38,7 +38,7 @@ impl<D: Disk> Ahead<D> {
     ghost use Rattle.sb_node.specs.Serving.{raised};
     ghost use Rattle.sb_machine.specs.Accounts.{changing};
     ghost use Rattle.sb_machine.specs.declared.history.Entry.{Entry};
-    ghost use Rattle.sb_node.specs.Ahead.{ahead_state, ahead_journal, ahead_disks, ahead_last, ahead_staged, made_events, IsAhead, IsMadeBy, IsSealed, IsUnmoved, HasFailedOnce};
+    ghost use Rattle.sb_node.specs.Ahead.{ahead_state, ahead_journal, ahead_disks, ahead_last, ahead_staged, made_events, IsAhead, IsMadeBy, IsSealed, IsUnmoved, tells_fault};
     ghost use Rattle.sb_node.specs.Nodes.{events_on, HoldsState, StayOneOf};
     ghost use Rattle.sb_node.specs.Recovery.{replay_file, reaches};
     ghost use Rattle.sb_node.specs.Steps.{log_of, entries_with, ticked_to, tick_events, call_events, is_spared, is_still, IsStep, IsTicked, IsTickFault, IsAnswered};
@@ -52,11 +52,11 @@ impl<D: Disk> Ahead<D> {
     ghost use Rattle.sb_machine.specs.Ordered.{IsActInOrder};
     ghost use Rattle.sb_machine.specs.declared.call.Event.{Event};
     ghost use Rattle.sb_machine.specs.declared.state.State.{State};
-    ghost use Rattle.sb_recorder.specs.Recorders.{HasStaged, IsUnwritten};
+    ghost use Rattle.sb_recorder.specs.Recorders.{HasAccount, HasStaged, IsUnwritten};
     ghost use Rattle.sb_journal.specs.Text.{File};
     ghost use Rattle.sb_journal.specs.Opened.{FindsFile};
     ghost use Rattle.sb_journal.specs.Journals.{fault_count, journal_disk_a, journal_disk_b, HoldsStaged};
-    ghost use Rattle.sb_journal.specs.Disks.{EachPair, AreQuiet, NoneFell, SameHonesty};
+    ghost use Rattle.sb_journal.specs.Disks.{EachPair};
 
     /// Over what writes the journal, the state for which that stands, and the number of its last record. Nothing is staged.
     pub fn over(recorder: Recorder<D>, engine: Engine, last: u64) -> Ahead<D>
@@ -109,11 +109,8 @@ impl<D: Disk> Ahead<D> {
 
         // No disk is touched where neither time nor the machine changes anything.
         ensures busy { OnErr result (is_still (moment_of (ahead_state self.old) reading) call.now (ahead_state self.old) ≡ false) }
-        ensures running { OnOk result (has_failed (ahead_journal self.new) ≡ false) }
-        ensures disk_fault { OnErr result (HasFailedOnce (ahead_journal self.old) (ahead_journal self.new)) }
-        ensures quiet { OnOk result (AreQuiet (ahead_disks self.old) (ahead_disks self.new)) }
-        ensures later { NoneFell (ahead_disks self.old) (ahead_disks self.new) }
-        ensures honesty { SameHonesty (ahead_disks self.old) (ahead_disks self.new) }
+        ensures account { HasAccount (ahead_journal self.old) (ahead_journal self.new) }
+        ensures failed { has_failed (ahead_journal self.new) ≡ is_err result }
         ensures aside { journal_aside (ahead_journal self.new) ≡ journal_aside (ahead_journal self.old) }
     {
         let t = reading.min(MAX_MOMENT).max(self.engine.moment());
@@ -170,11 +167,8 @@ impl<D: Disk> Ahead<D> {
             → OnErr result ((seat : ℕ) → FollowGroups false (log_of (ahead_state self.old) None) (entries_with None seat reading call.now (Err DiskFault) ∷ []) (ahead_disks self.old) (ahead_disks self.new)) }
         ensures free { IfOk result (λ made. is_spared (moment_of (ahead_state self.old) reading) call.now (ticked_to made.0.tick (ahead_state self.old)) ≡ true → made.0.answer ≢ Err OutOfMemory) }
         ensures busy { ahead_staged self.old ≡ 0 → OnErr result (is_still (moment_of (ahead_state self.old) reading) call.now (ahead_state self.old) ≡ false) }
-        ensures running { OnOk result (has_failed (ahead_journal self.new) ≡ false) }
-        ensures disk_fault { OnErr result (HasFailedOnce (ahead_journal self.old) (ahead_journal self.new)) }
-        ensures quiet { OnOk result (AreQuiet (ahead_disks self.old) (ahead_disks self.new)) }
-        ensures later { NoneFell (ahead_disks self.old) (ahead_disks self.new) }
-        ensures honesty { SameHonesty (ahead_disks self.old) (ahead_disks self.new) }
+        ensures account { HasAccount (ahead_journal self.old) (ahead_journal self.new) }
+        ensures failed { has_failed (ahead_journal self.new) ≡ is_err result }
         ensures aside { journal_aside (ahead_journal self.new) ≡ journal_aside (ahead_journal self.old) }
     {
         let Ok(went) = self.step(reading, call) else {
@@ -208,11 +202,8 @@ impl<D: Disk> Ahead<D> {
 
         // A crash at any moment leaves the file without all that is staged.
         ensures any_moment { (file : File) (events : List Event) → IsAhead self.old file events → EachPair (ahead_disks self.old) (ahead_disks self.new) (FindsFile file) }
-        ensures running { OnOk result (has_failed (ahead_journal self.new) ≡ false) }
-        ensures disk_fault { OnErr result (HasFailedOnce (ahead_journal self.old) (ahead_journal self.new)) }
-        ensures quiet { OnOk result (AreQuiet (ahead_disks self.old) (ahead_disks self.new)) }
-        ensures later { NoneFell (ahead_disks self.old) (ahead_disks self.new) }
-        ensures honesty { SameHonesty (ahead_disks self.old) (ahead_disks self.new) }
+        ensures account { HasAccount (ahead_journal self.old) (ahead_journal self.new) }
+        ensures failed { has_failed (ahead_journal self.new) ≡ is_err result }
         ensures aside { journal_aside (ahead_journal self.new) ≡ journal_aside (ahead_journal self.old) }
     {
         for post in posts.iter_mut() {
@@ -243,11 +234,8 @@ impl<D: Disk> Ahead<D> {
         // The same where each is answered that the disk failed.
         ensures fails { ahead_staged self.old ≡ 0 → HoldsState (ahead_journal self.old) (ahead_last self.old) (ahead_state self.old)
             → OnErr result (FollowGroups false (log_of (ahead_state self.old) None) (fault_entries posts.new ∷ []) (ahead_disks self.old) (ahead_disks self.new)) }
-        ensures running { OnOk result (has_failed (ahead_journal self.new) ≡ false) }
-        ensures disk_fault { OnErr result (HasFailedOnce (ahead_journal self.old) (ahead_journal self.new)) }
-        ensures quiet { OnOk result (AreQuiet (ahead_disks self.old) (ahead_disks self.new)) }
-        ensures later { NoneFell (ahead_disks self.old) (ahead_disks self.new) }
-        ensures honesty { SameHonesty (ahead_disks self.old) (ahead_disks self.new) }
+        ensures account { HasAccount (ahead_journal self.old) (ahead_journal self.new) }
+        ensures failed { has_failed (ahead_journal self.new) ≡ is_err result }
         ensures aside { journal_aside (ahead_journal self.new) ≡ journal_aside (ahead_journal self.old) }
     {
         let Ok(()) = self.run(posts) else {
@@ -270,11 +258,8 @@ impl<D: Disk> Ahead<D> {
         ensures went { OnOk result (is_some post.new.went ≡ true) }
         ensures last { ahead_last self.new ≡ ahead_last self.old }
         ensures any_moment { (file : File) (events : List Event) → IsAhead self.old file events → EachPair (ahead_disks self.old) (ahead_disks self.new) (FindsFile file) }
-        ensures running { OnOk result (has_failed (ahead_journal self.new) ≡ false) }
-        ensures disk_fault { OnErr result (HasFailedOnce (ahead_journal self.old) (ahead_journal self.new)) }
-        ensures quiet { OnOk result (AreQuiet (ahead_disks self.old) (ahead_disks self.new)) }
-        ensures later { NoneFell (ahead_disks self.old) (ahead_disks self.new) }
-        ensures honesty { SameHonesty (ahead_disks self.old) (ahead_disks self.new) }
+        ensures account { HasAccount (ahead_journal self.old) (ahead_journal self.new) }
+        ensures failed { has_failed (ahead_journal self.new) ≡ is_err result }
         ensures aside { journal_aside (ahead_journal self.new) ≡ journal_aside (ahead_journal self.old) }
     {
         let Ok(went) = self.step(post.reading, &post.call) else {
@@ -298,11 +283,8 @@ impl<D: Disk> Ahead<D> {
         ensures state { ahead_state self.new ≡ ahead_state self.old }
         ensures staged { OnOk result (ahead_staged self.new ≡ 0) }
         ensures last { OnErr result (ahead_last self.new ≡ ahead_last self.old) }
-        ensures running { OnOk result (has_failed (ahead_journal self.new) ≡ false) }
-        ensures disk_fault { OnErr result (HasFailedOnce (ahead_journal self.old) (ahead_journal self.new)) }
-        ensures quiet { OnOk result (AreQuiet (ahead_disks self.old) (ahead_disks self.new)) }
-        ensures later { NoneFell (ahead_disks self.old) (ahead_disks self.new) }
-        ensures honesty { SameHonesty (ahead_disks self.old) (ahead_disks self.new) }
+        ensures account { HasAccount (ahead_journal self.old) (ahead_journal self.new) }
+        ensures failed { has_failed (ahead_journal self.new) ≡ is_err result }
         ensures aside { journal_aside (ahead_journal self.new) ≡ journal_aside (ahead_journal self.old) }
     {
         if self.staged == 0 {
@@ -354,16 +336,13 @@ impl<D: Disk> Ahead<D> {
         ensures due { IfErr result (λ e. is_due t (ahead_state self.old).space ≡ true) }
         ensures busy { IfErr result (λ e. e ≡ DiskFault → is_spent (ahead_state self.old) t ≡ false) }
         ensures err { IfErr result (λ e. e ≢ DiskFault → IsTickFault t (ahead_state self.old) None e × IsUnmoved self.old self.new) }
-        ensures disk_fault { IfErr result (λ e. e ≡ DiskFault → HasFailedOnce (ahead_journal self.old) (ahead_journal self.new)) }
         ensures ahead { (file : File) (events : List Event) → IsAhead self.old file events → IfOk result (λ tick. IsAhead self.new file (events ++ tick_events tick)) }
         ensures still { IfOk result (λ tick. tick ≡ None → self.new ≡ self.old) }
         ensures count { IfOk result (λ tick. ahead_staged self.new ≡ raised (ahead_staged self.old) (length (tick_events tick))) }
         ensures last { ahead_last self.new ≡ ahead_last self.old }
         ensures any_moment { (file : File) (events : List Event) → IsAhead self.old file events → EachPair (ahead_disks self.old) (ahead_disks self.new) (FindsFile file) }
-        ensures running { OnOk result (has_failed (ahead_journal self.new) ≡ false) }
-        ensures quiet { OnOk result (AreQuiet (ahead_disks self.old) (ahead_disks self.new)) }
-        ensures later { NoneFell (ahead_disks self.old) (ahead_disks self.new) }
-        ensures honesty { SameHonesty (ahead_disks self.old) (ahead_disks self.new) }
+        ensures account { HasAccount (ahead_journal self.old) (ahead_journal self.new) }
+        ensures failed { has_failed (ahead_journal self.new) ≡ tells_fault result }
         ensures aside { journal_aside (ahead_journal self.new) ≡ journal_aside (ahead_journal self.old) }
     {
         if !self.engine.is_due(t) {
@@ -391,17 +370,14 @@ impl<D: Disk> Ahead<D> {
         ensures answered { result ≢ Err DiskFault → IsAnswered t call.now (ahead_state self.old) result None (ahead_state self.new) }
         ensures busy { result ≡ Err DiskFault → is_change (client_of call.now) (outcome_of (ahead_state self.old) t call.now) ≡ true }
         ensures no_stop { (n : ℕ) → result ≢ Err (Stopped n) }
-        ensures disk_fault { result ≡ Err DiskFault → HasFailedOnce (ahead_journal self.old) (ahead_journal self.new) }
         ensures ahead { (file : File) (events : List Event) → IsAhead self.old file events → result ≢ Err DiskFault → IsAhead self.new file (events ++ call_events t call.now (ahead_state self.old) result) }
         ensures still { result ≢ Err DiskFault → call_events t call.now (ahead_state self.old) result ≡ [] → IsUnmoved self.old self.new }
         ensures count { result ≢ Err DiskFault → ahead_staged self.new ≡ raised (ahead_staged self.old) (length (call_events t call.now (ahead_state self.old) result)) }
         ensures last { ahead_last self.new ≡ ahead_last self.old }
         ensures free { takes_no_memory (ahead_state self.old).space call.now ≡ true → result ≢ Err OutOfMemory }
         ensures any_moment { (file : File) (events : List Event) → IsAhead self.old file events → EachPair (ahead_disks self.old) (ahead_disks self.new) (FindsFile file) }
-        ensures running { result ≢ Err DiskFault → has_failed (ahead_journal self.new) ≡ false }
-        ensures quiet { result ≢ Err DiskFault → AreQuiet (ahead_disks self.old) (ahead_disks self.new) }
-        ensures later { NoneFell (ahead_disks self.old) (ahead_disks self.new) }
-        ensures honesty { SameHonesty (ahead_disks self.old) (ahead_disks self.new) }
+        ensures account { HasAccount (ahead_journal self.old) (ahead_journal self.new) }
+        ensures failed { has_failed (ahead_journal self.new) ≡ is_disk_fault result }
         ensures aside { journal_aside (ahead_journal self.new) ≡ journal_aside (ahead_journal self.old) }
     {
         let plan = self.engine.plan(t, call)?;
@@ -432,10 +408,8 @@ impl<D: Disk> Ahead<D> {
         ensures last { ahead_last self.new ≡ ahead_last self.old }
         ensures refused { IfErr result (λ e. IsUnwritten (ahead_journal self.old) (ahead_journal self.new) e × (ahead_staged self.new ≡ ahead_staged self.old)) }
         ensures free { is_some plan.now.kept ≡ false → adds_nothing plan.now.changes ≡ true → length (event_bytes (event_of event.now)) ≤ max_payload → IfErr result (λ e. e ≡ DiskFault) }
-        ensures running { OnOk result (has_failed (ahead_journal self.new) ≡ false) }
-        ensures quiet { OnOk result (AreQuiet (ahead_disks self.old) (ahead_disks self.new)) }
-        ensures later { NoneFell (ahead_disks self.old) (ahead_disks self.new) }
-        ensures honesty { SameHonesty (ahead_disks self.old) (ahead_disks self.new) }
+        ensures account { HasAccount (ahead_journal self.old) (ahead_journal self.new) }
+        ensures failed { has_failed (ahead_journal self.new) ≡ tells_fault result }
         ensures aside { journal_aside (ahead_journal self.new) ≡ journal_aside (ahead_journal self.old) }
     {
         let Ok(()) = self.engine.reserve(plan) else {

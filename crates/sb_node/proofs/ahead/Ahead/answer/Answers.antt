@@ -1,4 +1,4 @@
-use Rattle.std.proofs.Common.{◌≡◌, List, ◌++◌, length, Some, Result, Ok, Err, true, false, sym, ap, ◌∙◌, subst, refl}
+use Rattle.std.proofs.Common.{◌≡◌, List, ◌++◌, length, Some, Ok, Err, true, false, sym, ap, ◌∙◌, subst, refl}
 use Rattle.std.proofs.Math.Logic.{∥∥₁_map}
 use Rattle.sb_engine.specs.Engines.{engine_state, carried_out}
 use Rattle.sb_machine.specs.Answers.{state_of, is_change}
@@ -7,19 +7,19 @@ use Rattle.sb_machine.specs.History.{is_fault}
 use Rattle.sb_machine.specs.Repeats.{client_of, outcome_of}
 use Rattle.sb_machine.specs.declared.call.Event.{Event}
 use Rattle.sb_machine.specs.declared.call.Event.TheVariants.{Called}
-use Rattle.sb_machine.specs.declared.reply.Answered.{Answered}
-use Rattle.sb_machine.specs.declared.reply.Refusal.{Refusal}
 use Rattle.sb_machine.specs.declared.reply.Refusal.TheVariants.{DiskFault, Stopped}
 use Rattle.sb_machine.specs.declared.state.State.{State}
 use Rattle.sb_laws.proofs.StaysWhole.{stays_consistent}
+use Rattle.sb_recorder.proofs.Beside.{no_account}
 use Rattle.sb_node.specs.Ahead.{ahead_journal, StagesEvents}
 use Rattle.sb_node.specs.Serving.{raised}
 use Rattle.sb_node.specs.Steps.{call_events}
+use Rattle.sb_node.proofs.Accounts.{other_told}
 use Rattle.sb_node.proofs.Histories.{call_changed, call_fault, call_still}
 use Rattle.sb_node.proofs.Keeping.{error_of}
 use Rattle.sb_node.proofs.Merely.{call_brief, call_written, call_short}
 use Rattle.sb_node.proofs.Sparing.{fault_spared, refused_spared}
-use Rattle.sb_node.proofs.Staged.{one_staged, none_staged, staged_still, unstaged_fault, unstaged_want, want_answered}
+use Rattle.sb_node.proofs.Staged.{one_staged, none_staged, staged_still, unstaged_want, want_answered}
 use Rattle.sb_node.proofs.Stepping.{refused_answered, refused_not, refused_events, still_is}
 use Rattle.sb_node.proofs.Taking.{call_taken}
 use Rattle.sb_node.proofs.ahead.Ahead.answer.Goals as goal
@@ -44,9 +44,15 @@ pub returns-in_err-plan-clause-no_stop : goal.returns-in_err-plan-clause-no_stop
 returns-in_err-plan-clause-no_stop g c n same =
     refused_not c.args.t c.args.call.now (engine_state c.args.self.now.engine) c.in_err-plan.field-0.0 (Stopped n) c.from_residual.result (error_of _ _ c.from_residual.ensures) c.in_err-plan.ensures.err refl (λ other. absurd cc) same
 
-pub returns-in_err-plan-clause-disk_fault : goal.returns-in_err-plan-clause-disk_fault
-returns-in_err-plan-clause-disk_fault g c same =
-    absurd (refused_not c.args.t c.args.call.now (engine_state c.args.self.now.engine) c.in_err-plan.field-0.0 DiskFault c.from_residual.result (error_of _ _ c.from_residual.ensures) c.in_err-plan.ensures.err refl (λ other. absurd cc) same)
+pub returns-in_err-plan-clause-account : goal.returns-in_err-plan-clause-account
+returns-in_err-plan-clause-account g c = no_account (ahead_journal c.args.self.now) c.requires.running
+
+pub returns-in_err-plan-clause-failed : goal.returns-in_err-plan-clause-failed
+returns-in_err-plan-clause-failed g c =
+    c.requires.running
+    ∙ sym
+    (other_told c.from_residual.result
+    (refused_not c.args.t c.args.call.now (engine_state c.args.self.now.engine) c.in_err-plan.field-0.0 DiskFault c.from_residual.result (error_of _ _ c.from_residual.ensures) c.in_err-plan.ensures.err refl (λ other. absurd cc)))
 
 pub returns-in_err-plan-clause-still : goal.returns-in_err-plan-clause-still
 returns-in_err-plan-clause-still g c other none = record { journal = refl; staged = refl; state = refl }
@@ -65,6 +71,9 @@ returns-then-not-is_changing-clause-answered g c other =
 
 pub returns-then-not-is_changing-clause-any_moment : goal.returns-then-not-is_changing-clause-any_moment
 returns-then-not-is_changing-clause-any_moment g c file events ahead = let a = c.args.self.now in staged_still (ahead_journal a) a.last a.staged file events (engine_state a.engine) ahead
+
+pub returns-then-not-is_changing-clause-account : goal.returns-then-not-is_changing-clause-account
+returns-then-not-is_changing-clause-account g c = no_account (ahead_journal c.args.self.now) c.requires.running
 
 pub returns-then-not-is_changing-clause-ahead : goal.returns-then-not-is_changing-clause-ahead
 returns-then-not-is_changing-clause-ahead g c file events ahead other =
@@ -120,12 +129,6 @@ returns-in-Err-clause-free g c small =
     let changing : is_change (client_of c.args.call.now) (outcome_of s c.args.t c.args.call.now) ≡ true = c.in_ok-plan.ensures.ok.0.change ∙ sym c.if-not-is_changing.ensures in
     let bare = c.in_ok-plan.ensures.bare small in
     fault_spared c.in-Err.refusal (Err c.in-Err.refusal) refl (c.in-Err.ensures.free bare.0 bare.1 (call_brief s c.args.t c.args.call.now c.args.self.now.consistent c.requires.order changing small))
-
-refusal_is : (e f : Refusal) → ◌≡◌ {A = Result Answered Refusal} (Err e) (Err f) → e ≡ f
-refusal_is e f is = cc
-
-pub returns-in-Err-clause-disk_fault : goal.returns-in-Err-clause-disk_fault
-returns-in-Err-clause-disk_fault g c same = unstaged_fault (ahead_journal c.args.self.now) (ahead_journal c.stage.new.self) c.in-Err.refusal c.in-Err.ensures.refused.0 (refusal_is c.in-Err.refusal DiskFault same)
 
 -- ---- one whose event was staged
 

@@ -1,6 +1,6 @@
 use Rattle.std.proofs.Common.{None, ℕ, [], ◌∷◌, length, sym, ◌∙◌, ap, subst}
-use Rattle.sb_journal.proofs.Holding.{fault_behind}
 use Rattle.sb_machine.specs.declared.state.State.{State}
+use Rattle.sb_recorder.proofs.Beside.{account_on}
 use Rattle.sb_node.specs.Ahead.{ahead_disks, ahead_journal, ahead_state, made_events, StagesEvents}
 use Rattle.sb_node.specs.Nodes.{LeadsToOneOf, StayOneOf}
 use Rattle.sb_node.specs.Serving.{raised}
@@ -9,7 +9,6 @@ use Rattle.sb_node.proofs.Grouped.{found_stay}
 use Rattle.sb_node.proofs.Ones.{sealed_busy}
 use Rattle.sb_node.proofs.Sealing.{fault_early, fault_late, one_follows, sealed_events}
 use Rattle.sb_node.proofs.Staged.{none_ahead, pairs_behind}
-use Rattle.sb_node.proofs.Whole.{fell_on, honest_on, quiet_on}
 use Rattle.sb_node.proofs.ahead.Ahead.carry_one.Goals as goal
 
 -- ---- where its disk failed before it was sealed
@@ -38,16 +37,8 @@ returns-in_default-seal-clause-fails g c none kept seat =
     (c.seal.ensures.any_moment kept.file events s (c.in-Ok.ensures.ahead kept.file [] start seat) kept.leads) in
     fault_late s (ahead_state mid) went.tick seat c.args.reading c.args.call.now went.answer (ahead_disks a) (ahead_disks b) (c.in-Ok.ensures.step seat) (c.in-Ok.ensures.made seat) stay
 
-pub returns-in_default-seal-clause-disk_fault : goal.returns-in_default-seal-clause-disk_fault
-returns-in_default-seal-clause-disk_fault g c =
-    let fault = c.in_default-seal.ensures.disk_fault in
-    (fault.0, fault_behind (ahead_disks c.args.self.now) (ahead_disks c.step.new.self) (ahead_disks c.seal.new.self) _ c.in-Ok.ensures.quiet fault.1)
-
-pub returns-in_default-seal-clause-later : goal.returns-in_default-seal-clause-later
-returns-in_default-seal-clause-later g c = fell_on (ahead_disks c.args.self.now) (ahead_disks c.step.new.self) (ahead_disks c.seal.new.self) c.step.ensures.later c.seal.ensures.later
-
-pub returns-in_default-seal-clause-honesty : goal.returns-in_default-seal-clause-honesty
-returns-in_default-seal-clause-honesty g c = honest_on (ahead_disks c.args.self.now) (ahead_disks c.step.new.self) (ahead_disks c.seal.new.self) c.step.ensures.honesty c.seal.ensures.honesty
+pub returns-in_default-seal-clause-account : goal.returns-in_default-seal-clause-account
+returns-in_default-seal-clause-account g c = account_on (ahead_journal c.args.self.now) (ahead_journal c.step.new.self) (ahead_journal c.seal.new.self) c.in-Ok.ensures.failed c.step.ensures.account c.seal.ensures.account
 
 pub returns-in_default-seal-clause-aside : goal.returns-in_default-seal-clause-aside
 returns-in_default-seal-clause-aside g c = c.seal.ensures.aside ∙ c.step.ensures.aside
@@ -116,14 +107,8 @@ returns-clause-follows g c none kept seat =
     (c.seal.ensures.any_moment kept.file events s (c.in-Ok.ensures.ahead kept.file [] start seat) kept.leads) in
     one_follows s (ahead_state mid) went.tick seat c.args.reading c.args.call.now went.answer (ahead_disks a) (ahead_disks b) (c.in-Ok.ensures.step seat) (c.in-Ok.ensures.made seat) c.in-Ok.ensures.no_fault stay
 
-pub returns-clause-quiet : goal.returns-clause-quiet
-returns-clause-quiet g c = quiet_on (ahead_disks c.args.self.now) (ahead_disks c.step.new.self) (ahead_disks c.seal.new.self) c.in-Ok.ensures.quiet c.in-Ok-seal.ensures.quiet
-
-pub returns-clause-later : goal.returns-clause-later
-returns-clause-later g c = fell_on (ahead_disks c.args.self.now) (ahead_disks c.step.new.self) (ahead_disks c.seal.new.self) c.step.ensures.later c.seal.ensures.later
-
-pub returns-clause-honesty : goal.returns-clause-honesty
-returns-clause-honesty g c = honest_on (ahead_disks c.args.self.now) (ahead_disks c.step.new.self) (ahead_disks c.seal.new.self) c.step.ensures.honesty c.seal.ensures.honesty
+pub returns-clause-account : goal.returns-clause-account
+returns-clause-account g c = account_on (ahead_journal c.args.self.now) (ahead_journal c.step.new.self) (ahead_journal c.seal.new.self) c.in-Ok.ensures.failed c.step.ensures.account c.seal.ensures.account
 
 pub returns-clause-aside : goal.returns-clause-aside
 returns-clause-aside g c = c.seal.ensures.aside ∙ c.step.ensures.aside

@@ -1,5 +1,6 @@
 use Rattle.std.proofs.Common.{ℕ, [], ◌∷◌, false, length, refl, sym, ◌∙◌, ap, subst}
 use Rattle.sb_machine.specs.Accounts.{changing}
+use Rattle.sb_recorder.proofs.Beside.{account_on}
 use Rattle.sb_node.specs.Ahead.{ahead_disks, ahead_journal, ahead_state, StagesEvents}
 use Rattle.sb_node.specs.Nodes.{LeadsToOneOf}
 use Rattle.sb_desk.specs.Posts.{group_entries}
@@ -53,6 +54,9 @@ returns-clause-fails g c none kept =
     (found_stay kept.file s (ahead_state mid) (ahead_disks a) (ahead_disks mid) kept.leads (c.run.ensures.any_moment kept.file [] start))
     (c.seal.ensures.any_moment kept.file events s (c.in-Ok.ensures.ahead kept.file [] start) kept.leads) in
     in_err c.seal.result (fails_late c.run.new.posts s (ahead_state mid) (ahead_disks a) (ahead_disks b) c.in-Ok.ensures.run c.in-Ok.ensures.fails stay)
+
+pub returns-clause-account : goal.returns-clause-account
+returns-clause-account g c = account_on (ahead_journal c.args.self.now) (ahead_journal c.run.new.self) (ahead_journal c.seal.new.self) c.in-Ok.ensures.failed c.run.ensures.account c.seal.ensures.account
 
 pub returns-clause-count : goal.returns-clause-count
 returns-clause-count g c none =

@@ -1,8 +1,7 @@
-use Rattle.std.proofs.Common.{◌≡◌, ◌<◌, ◌++◌, [], List, length, take, true, false, None, refl, sym, ap, ◌∙◌, subst, ℕ, append_assoc, length-append, arith}
+use Rattle.std.proofs.Common.{◌≡◌, ◌<◌, ◌++◌, [], List, length, take, true, false, None, refl, sym, ap, ◌∙◌, subst, ℕ, append_assoc, length-append}
 use Rattle.std.specs.List.{All}
 use Rattle.std.specs.Prelude.{is_some}
 use Rattle.std.proofs.lemmas.List.Elements.{All-nil}
-use Rattle.sb_journal.specs.Journals.{journal_disks}
 use Rattle.sb_journal.specs.Opened.{FindsFile}
 use Rattle.sb_machine.specs.Accounts.{changing}
 use Rattle.sb_machine.specs.Ordered.{IsActInOrder}
@@ -12,6 +11,7 @@ use Rattle.sb_machine.specs.declared.history.Entry.{Entry}
 use Rattle.sb_desk.specs.Posts.{asked_of, group_entries, post_entries, Asked}
 use Rattle.sb_desk.specs.Spared.{SparesFrom}
 use Rattle.sb_desk.specs.declared.post.Post.{Post}
+use Rattle.sb_recorder.proofs.Beside.{account_on, no_account}
 use Rattle.sb_node.specs.Ahead.{ahead_journal, ahead_state, IsAhead}
 use Rattle.sb_node.specs.Groups.{failed, has_fault, HaveRun}
 use Rattle.sb_node.specs.Posts.{fault_entries}
@@ -21,7 +21,6 @@ use Rattle.sb_node.proofs.Counts.{raised_on}
 use Rattle.sb_node.proofs.Posts.{all_set, all_taken, all_taken_on, map_set, more_entries, more_faults, within}
 use Rattle.sb_node.proofs.Staged.{none_staged, pairs_behind, staged_still}
 use Rattle.sb_node.proofs.Together.{events_on, fault_on, none_runs}
-use Rattle.sb_node.proofs.Whole.{fell_on, honest_on, quiet_on}
 use Rattle.sb_node.proofs.ahead.Ahead.run.Goals as goal
 
 pub loop-post-init : goal.loop-post-init
@@ -40,9 +39,7 @@ loop-post-init g c =
       asked = refl;
       last = refl;
       running = c.requires.running;
-      quiet = (refl, refl);
-      later = (omega arith, omega arith);
-      honesty = (refl, refl);
+      account = no_account (ahead_journal a) c.requires.running;
       aside = refl;
     }
 
@@ -85,10 +82,8 @@ loop-post-preserved g c =
           (subst (λ (call : Call). IsActInOrder call.act) (sym (ap (λ (x : Asked). x.call) c.run_one.ensures.asked)) (is.order i c.post-item.result lt));
       asked = map_set asked_of posts i post c.post-item.result lt c.run_one.ensures.asked ∙ is.asked;
       last = c.run_one.ensures.last ∙ is.last;
-      running = c.in-Ok.ensures.running;
-      quiet = quiet_on (journal_disks (ahead_journal a)) (journal_disks (ahead_journal mid)) (journal_disks (ahead_journal b)) is.quiet c.in-Ok.ensures.quiet;
-      later = fell_on (journal_disks (ahead_journal a)) (journal_disks (ahead_journal mid)) (journal_disks (ahead_journal b)) is.later c.run_one.ensures.later;
-      honesty = honest_on (journal_disks (ahead_journal a)) (journal_disks (ahead_journal mid)) (journal_disks (ahead_journal b)) is.honesty c.run_one.ensures.honesty;
+      running = c.in-Ok.ensures.failed;
+      account = account_on (ahead_journal a) (ahead_journal mid) (ahead_journal b) is.running is.account c.run_one.ensures.account;
       aside = c.run_one.ensures.aside ∙ is.aside;
     }
 
@@ -106,6 +101,11 @@ returns-in_default-clause-any_moment g c file events ahead =
     let is = c.loop-post.invariant in
     pairs_behind (ahead_journal c.args.self.now) (ahead_journal c.loop-post.self) (ahead_journal c.run_one.new.self) (FindsFile file) is.aside c.run_one.ensures.aside (is.moments file events ahead)
     (c.run_one.ensures.any_moment file (events ++ changing (log_of (ahead_state c.args.self.now) None) (group_entries (take c.loop-post.post-index c.loop-post.posts))) (is.ahead file events ahead))
+
+pub returns-in_default-clause-account : goal.returns-in_default-clause-account
+returns-in_default-clause-account g c =
+    let is = c.loop-post.invariant in
+    account_on (ahead_journal c.args.self.now) (ahead_journal c.loop-post.self) (ahead_journal c.run_one.new.self) is.running is.account c.run_one.ensures.account
 
 -- ---- behind the last one
 

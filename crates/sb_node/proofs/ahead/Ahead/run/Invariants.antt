@@ -1,12 +1,13 @@
 use Rattle.std.proofs.Common.{◌≡◌, ◌++◌, List, length, map, take, true, false}
 use Rattle.std.specs.List.{All}
-use Rattle.sb_journal.specs.Disks.{AreQuiet, EachPair, NoneFell, SameHonesty}
+use Rattle.sb_journal.specs.Disks.{EachPair}
 use Rattle.sb_journal.specs.Journals.{has_failed, journal_aside}
 use Rattle.sb_journal.specs.Opened.{FindsFile}
 use Rattle.sb_journal.specs.Text.{File}
 use Rattle.sb_machine.specs.Accounts.{changing}
 use Rattle.sb_machine.specs.Ordered.{IsActInOrder}
 use Rattle.sb_machine.specs.declared.call.Event.{Event}
+use Rattle.sb_recorder.specs.Recorders.{HasAccount}
 use Rattle.sb_node.specs.Ahead.{ahead_disks, ahead_journal, ahead_last, ahead_staged, ahead_state, IsAhead}
 use Rattle.sb_node.specs.Groups.{failed, has_fault, HaveRun}
 use Rattle.sb_desk.specs.Posts.{asked_of, group_entries}
@@ -31,8 +32,6 @@ invariant-loop-post g l = record {
   asked : map asked_of l.posts ≡ map asked_of l.fn.posts;
   last : ahead_last l.self ≡ ahead_last l.fn.self;
   running : has_failed (ahead_journal l.self) ≡ false;
-  quiet : AreQuiet (ahead_disks l.fn.self) (ahead_disks l.self);
-  later : NoneFell (ahead_disks l.fn.self) (ahead_disks l.self);
-  honesty : SameHonesty (ahead_disks l.fn.self) (ahead_disks l.self);
+  account : HasAccount (ahead_journal l.fn.self) (ahead_journal l.self);
   aside : journal_aside (ahead_journal l.self) ≡ journal_aside (ahead_journal l.fn.self);
 }

@@ -1,13 +1,12 @@
 use Rattle.std.proofs.Common.{◌≡◌, false, ◌≤◌, List, ◌++◌, length, Option, Some, None, Err, refl, sym, ap, ◌∙◌, subst, ℕ, max, min, arith, append_assoc, length-append}
 use Rattle.std.specs.Prelude.{IfSome}
 use Rattle.sb_journal.specs.Opened.{FindsFile}
-use Rattle.sb_journal.specs.Journals.{journal_disks}
-use Rattle.sb_journal.proofs.Holding.{fault_behind}
 use Rattle.sb_engine.specs.Engines.{engine_state}
 use Rattle.sb_machine.specs.Answers.{moment_of, max_moment}
 use Rattle.sb_machine.specs.Consistent.{IsConsistent}
 use Rattle.sb_machine.specs.declared.call.Event.{Event}
 use Rattle.sb_machine.specs.declared.state.State.{State}
+use Rattle.sb_recorder.proofs.Beside.{account_on}
 use Rattle.sb_node.specs.Ahead.{ahead_journal, made_events, StagesEvents}
 use Rattle.sb_node.specs.Serving.{raised}
 use Rattle.sb_node.specs.Steps.{is_still, tick_events, call_events, IsTicked}
@@ -18,7 +17,7 @@ use Rattle.sb_node.proofs.Merely.{merely_now, merely_calm}
 use Rattle.sb_node.proofs.Sparing.{spared_on, spared_tick}
 use Rattle.sb_node.proofs.Staged.{other_answer, other_refusal, pairs_behind, that_answer, that_refusal, unmoved_behind, unmoved_staged}
 use Rattle.sb_node.proofs.Stepping.{call_busy, calm_then, stepped, tick_busy, tick_failed}
-use Rattle.sb_node.proofs.Whole.{fell_on, honest_on, quiet_on, same_quiet, step_consistent}
+use Rattle.sb_node.proofs.Whole.{step_consistent}
 use Rattle.sb_node.proofs.ahead.Ahead.step.Goals as goal
 
 late : (now reading least t : ℕ) {moment : ℕ} → t ≡ max least moment → moment ≡ now → least ≡ min reading max_moment → now ≤ max_moment → t ≤ max_moment
@@ -47,8 +46,11 @@ answer-answer-requires-clause-calm g c =
 
 -- ---- a step whose tick failed
 
-pub returns-then-is_disk_refusal-clause-disk_fault : goal.returns-then-is_disk_refusal-clause-disk_fault
-returns-then-is_disk_refusal-clause-disk_fault g c = c.in-Err.ensures.disk_fault (that_refusal c.in-Err.refusal (sym c.if-is_disk_refusal.ensures))
+pub returns-then-is_disk_refusal-clause-failed : goal.returns-then-is_disk_refusal-clause-failed
+returns-then-is_disk_refusal-clause-failed g c = c.in-Err.ensures.failed ∙ sym c.if-is_disk_refusal.ensures
+
+pub returns-in-Err-clause-failed : goal.returns-in-Err-clause-failed
+returns-in-Err-clause-failed g c = c.in-Err.ensures.failed ∙ sym c.if-is_disk_refusal.ensures
 
 pub returns-in-Err-clause-step : goal.returns-in-Err-clause-step
 returns-in-Err-clause-step g c seat =
@@ -79,16 +81,6 @@ returns-in-Err-clause-consistent g c consistent = subst IsConsistent (sym (c.in-
 pub returns-in-Err-clause-still : goal.returns-in-Err-clause-still
 returns-in-Err-clause-still g c seat none = (c.in-Err.ensures.err (other_refusal c.in-Err.refusal (sym c.if-is_disk_refusal.ensures))).1
 
-pub returns-in-Err-clause-running : goal.returns-in-Err-clause-running
-returns-in-Err-clause-running g c =
-    let fact = c.in-Err.ensures.err (other_refusal c.in-Err.refusal (sym c.if-is_disk_refusal.ensures)) in
-    ap (λ j. j.failed) fact.1.journal ∙ c.requires.running
-
-pub returns-in-Err-clause-quiet : goal.returns-in-Err-clause-quiet
-returns-in-Err-clause-quiet g c =
-    let fact = c.in-Err.ensures.err (other_refusal c.in-Err.refusal (sym c.if-is_disk_refusal.ensures)) in
-    same_quiet (ahead_journal c.args.self.now) (ahead_journal c.tick.new.self) fact.1.journal
-
 pub returns-in-Err-clause-free : goal.returns-in-Err-clause-free
 returns-in-Err-clause-free g c =
     let s = engine_state c.args.self.now.engine in
@@ -102,18 +94,12 @@ returns-then-is_disk_fault-clause-any_moment g c file events ahead =
     pairs_behind (ahead_journal c.args.self.now) (ahead_journal c.tick.new.self) (ahead_journal c.answer-answer.new.self) (FindsFile file) c.tick.ensures.aside c.answer-answer.ensures.aside
     (c.tick.ensures.any_moment file events ahead) (c.answer-answer.ensures.any_moment file (events ++ tick_events c.in-Ok.tick) (c.in-Ok.ensures.ahead file events ahead))
 
-pub returns-then-is_disk_fault-clause-disk_fault : goal.returns-then-is_disk_fault-clause-disk_fault
-returns-then-is_disk_fault-clause-disk_fault g c =
-    let fault = c.answer-answer.ensures.disk_fault (that_answer c.answer-answer.result (sym c.if-is_disk_fault.ensures)) in
-    (fault.0, fault_behind (journal_disks (ahead_journal c.args.self.now)) (journal_disks (ahead_journal c.tick.new.self)) (journal_disks (ahead_journal c.answer-answer.new.self)) _ c.in-Ok.ensures.quiet fault.1)
+pub returns-then-is_disk_fault-clause-account : goal.returns-then-is_disk_fault-clause-account
+returns-then-is_disk_fault-clause-account g c =
+    account_on (ahead_journal c.args.self.now) (ahead_journal c.tick.new.self) (ahead_journal c.answer-answer.new.self) c.in-Ok.ensures.failed c.tick.ensures.account c.answer-answer.ensures.account
 
-pub returns-then-is_disk_fault-clause-later : goal.returns-then-is_disk_fault-clause-later
-returns-then-is_disk_fault-clause-later g c =
-    fell_on (journal_disks (ahead_journal c.args.self.now)) (journal_disks (ahead_journal c.tick.new.self)) (journal_disks (ahead_journal c.answer-answer.new.self)) c.tick.ensures.later c.answer-answer.ensures.later
-
-pub returns-then-is_disk_fault-clause-honesty : goal.returns-then-is_disk_fault-clause-honesty
-returns-then-is_disk_fault-clause-honesty g c =
-    honest_on (journal_disks (ahead_journal c.args.self.now)) (journal_disks (ahead_journal c.tick.new.self)) (journal_disks (ahead_journal c.answer-answer.new.self)) c.tick.ensures.honesty c.answer-answer.ensures.honesty
+pub returns-then-is_disk_fault-clause-failed : goal.returns-then-is_disk_fault-clause-failed
+returns-then-is_disk_fault-clause-failed g c = c.answer-answer.ensures.failed ∙ sym c.if-is_disk_fault.ensures
 
 pub returns-then-is_disk_fault-clause-aside : goal.returns-then-is_disk_fault-clause-aside
 returns-then-is_disk_fault-clause-aside g c = c.answer-answer.ensures.aside ∙ c.tick.ensures.aside
@@ -185,21 +171,12 @@ returns-clause-free g c =
     let at = at_moment s.now c.args.reading c.min.result c.max-t.result c.max-t.ensures c.moment.ensures c.min.ensures in
     spared_on c.in-Ok.tick c.in-Ok.tick c.max-t.result (moment_of s c.args.reading) c.args.call.now s (engine_state c.tick.new.self.engine) c.answer-answer.result refl (sym at) c.in-Ok.ensures.ok c.answer-answer.ensures.free
 
-pub returns-clause-running : goal.returns-clause-running
-returns-clause-running g c = c.answer-answer.ensures.running (other_answer c.answer-answer.result (sym c.if-is_disk_fault.ensures))
+pub returns-clause-account : goal.returns-clause-account
+returns-clause-account g c =
+    account_on (ahead_journal c.args.self.now) (ahead_journal c.tick.new.self) (ahead_journal c.answer-answer.new.self) c.in-Ok.ensures.failed c.tick.ensures.account c.answer-answer.ensures.account
 
-pub returns-clause-quiet : goal.returns-clause-quiet
-returns-clause-quiet g c =
-    quiet_on (journal_disks (ahead_journal c.args.self.now)) (journal_disks (ahead_journal c.tick.new.self)) (journal_disks (ahead_journal c.answer-answer.new.self)) c.in-Ok.ensures.quiet
-    (c.answer-answer.ensures.quiet (other_answer c.answer-answer.result (sym c.if-is_disk_fault.ensures)))
-
-pub returns-clause-later : goal.returns-clause-later
-returns-clause-later g c =
-    fell_on (journal_disks (ahead_journal c.args.self.now)) (journal_disks (ahead_journal c.tick.new.self)) (journal_disks (ahead_journal c.answer-answer.new.self)) c.tick.ensures.later c.answer-answer.ensures.later
-
-pub returns-clause-honesty : goal.returns-clause-honesty
-returns-clause-honesty g c =
-    honest_on (journal_disks (ahead_journal c.args.self.now)) (journal_disks (ahead_journal c.tick.new.self)) (journal_disks (ahead_journal c.answer-answer.new.self)) c.tick.ensures.honesty c.answer-answer.ensures.honesty
+pub returns-clause-failed : goal.returns-clause-failed
+returns-clause-failed g c = c.answer-answer.ensures.failed ∙ sym c.if-is_disk_fault.ensures
 
 pub returns-clause-aside : goal.returns-clause-aside
 returns-clause-aside g c = c.answer-answer.ensures.aside ∙ c.tick.ensures.aside

@@ -8,12 +8,14 @@ use Rattle.sb_machine.specs.declared.call.Event.TheVariants.{Tick}
 use Rattle.sb_machine.specs.declared.reply.Refusal.TheVariants.{DiskFault}
 use Rattle.sb_machine.specs.declared.state.State.{State}
 use Rattle.sb_laws.proofs.StaysWhole.{ticks_consistent}
+use Rattle.sb_recorder.proofs.Beside.{no_account}
 use Rattle.sb_node.specs.Ahead.{ahead_journal, IsUnmoved}
 use Rattle.sb_node.specs.Steps.{IsTickFault}
+use Rattle.sb_node.proofs.Accounts.{other_tells}
 use Rattle.sb_node.proofs.Keeping.{error_of, unplanned, unplanned_not}
 use Rattle.sb_node.proofs.Machine.{tick_written, tick_is_short}
 use Rattle.sb_node.proofs.Merely.{merely_sweepable}
-use Rattle.sb_node.proofs.Staged.{one_staged, none_staged, staged_still, unstaged_tick, unstaged_fault, with_rest}
+use Rattle.sb_node.proofs.Staged.{one_staged, none_staged, staged_still, unstaged_tick, with_rest}
 use Rattle.sb_node.proofs.Taking.{tick_taken}
 use Rattle.sb_node.proofs.ahead.Ahead.tick.Goals as goal
 
@@ -25,6 +27,9 @@ returns-then-not-is_due-clause-ahead g c file events ahead =
 
 pub returns-then-not-is_due-clause-any_moment : goal.returns-then-not-is_due-clause-any_moment
 returns-then-not-is_due-clause-any_moment g c file events ahead = let a = c.args.self.now in staged_still (ahead_journal a) a.last a.staged file events (engine_state a.engine) ahead
+
+pub returns-then-not-is_due-clause-account : goal.returns-then-not-is_due-clause-account
+returns-then-not-is_due-clause-account g c = no_account (ahead_journal c.args.self.now) c.requires.running
 
 pub plan_tick-requires : goal.plan_tick-requires
 plan_tick-requires g c = record { sweepable = merely_sweepable (engine_state c.args.self.now.engine) c.args.self.now.consistent }
@@ -41,8 +46,12 @@ returns-in_err-plan-clause-err g c =
     (unplanned c.args.t s None c.in_err-plan.field-0.0 c.from_residual.result (error_of _ _ c.from_residual.ensures) c.in_err-plan.ensures.err (sym c.if-not-is_due.ensures) refl)
     (record { journal = refl; staged = refl; state = refl })
 
-pub returns-in_err-plan-clause-disk_fault : goal.returns-in_err-plan-clause-disk_fault
-returns-in_err-plan-clause-disk_fault g c = unplanned_not c.in_err-plan.field-0.0 c.from_residual.result _ _ (error_of _ _ c.from_residual.ensures) c.in_err-plan.ensures.err
+pub returns-in_err-plan-clause-account : goal.returns-in_err-plan-clause-account
+returns-in_err-plan-clause-account g c = no_account (ahead_journal c.args.self.now) c.requires.running
+
+pub returns-in_err-plan-clause-failed : goal.returns-in_err-plan-clause-failed
+returns-in_err-plan-clause-failed g c =
+    c.requires.running ∙ sym (other_tells c.from_residual.result (unplanned_not c.in_err-plan.field-0.0 c.from_residual.result _ ⊥ (error_of _ _ c.from_residual.ensures) c.in_err-plan.ensures.err))
 
 pub stage-requires-clause-spellable : goal.stage-requires-clause-spellable
 stage-requires-clause-spellable g c = tick_written c.args.t
@@ -59,9 +68,6 @@ returns-in-Err-clause-err g c other =
     let b = c.stage.new.self in
     let fact = unstaged_tick (ahead_journal a) (ahead_journal b) c.args.t (engine_state a.engine) c.in-Err.refusal c.in-Err.ensures.refused.0 other in
     (fact.0, record { journal = fact.1; staged = c.in-Err.ensures.refused.1; state = c.stage.ensures.state })
-
-pub returns-in-Err-clause-disk_fault : goal.returns-in-Err-clause-disk_fault
-returns-in-Err-clause-disk_fault g c same = unstaged_fault (ahead_journal c.args.self.now) (ahead_journal c.stage.new.self) c.in-Err.refusal c.in-Err.ensures.refused.0 same
 
 pub invariant_of-self : goal.invariant_of-self
 invariant_of-self g c =

@@ -2,10 +2,8 @@ use Rattle.std.proofs.Common.{[], ◌∷◌, length, false, ℕ, List, Some, Non
 use Rattle.sb_desk.specs.Posts.{group_entries}
 use Rattle.sb_desk.specs.Spared.{SparesFrom}
 use Rattle.sb_engine.specs.Engines.{engine_state}
-use Rattle.sb_engine.specs.declared.engine.Engine.{Engine}
 use Rattle.sb_journal.specs.Disks.{OneFault}
 use Rattle.sb_machine.specs.Accounts.{changing}
-use Rattle.sb_machine.specs.Consistent.{IsConsistent}
 use Rattle.sb_machine.specs.History.{Log}
 use Rattle.sb_machine.specs.declared.history.Entry.{Entry}
 use Rattle.sb_machine.specs.declared.state.State.{State}
@@ -87,10 +85,10 @@ returns-in_default-carry_out-clause-follows g c kept was =
 
 pub returns-in_default-carry_out-clause-failed : goal.returns-in_default-carry_out-clause-failed
 returns-in_default-carry_out-clause-failed g c was m is =
-    let fault = c.in_default-carry_out.ensures.disk_fault in
+    let fault = c.carry_out.ensures.account.cause c.in_default-carry_out.ensures.failed in
     let refused = c.refuse_all-in_default-carry_out.ensures in
     let posts = c.refuse_all-in_default-carry_out.new.posts in (
-      subst (λ (k : ℕ). OneFault (node_disks c.args.self.now) (ahead_disks c.carry_out.new.self) k) (sym c.faults.ensures ∙ same_count m c.faults.result (Some c.faults.result) refl is) fault.1,
+      subst (λ (k : ℕ). OneFault (node_disks c.args.self.now) (ahead_disks c.carry_out.new.self) k) (sym c.faults.ensures ∙ same_count m c.faults.result (Some c.faults.result) refl is) fault,
       refl,
       ap has_fault refused.refused ∙ faults_fail posts (some_asked posts c.args.posts.now (refused.asked ∙ c.carry_out.ensures.asked) c.requires.some),
     )
