@@ -22,7 +22,7 @@ use Rattle.sb_desk.specs.Entries.{IsReport}
 use Rattle.sb_desk.specs.Lists.{Each, HaveSeatsBelow}
 use Rattle.sb_desk.specs.Spared.{Spares}
 use Rattle.sb_desk.specs.declared.report.Report.{Report}
-use Rattle.sb_server.specs.Serves.{Serving, Worker, is_fault, is_lost, serve_ending}
+use Rattle.sb_server.specs.Serves.{AllServedOrNone, Worker, is_fault, is_lost, serve_ending}
 use Rattle.sb_server.specs.Works.{TellsFault}
 use Rattle.sb_server.specs.declared.ending.ServeEnding.{ServeEnding}
 use Rattle.sb_server.specs.declared.ending.ServeEnding.TheVariants.{Done, DoorFault, OutOfMemory}
@@ -336,7 +336,7 @@ no_fault stops other = by_faults (list_any is_fault stops) refl
     by_faults true e = absurd (other (ap (λ (b : Bool). if b then DoorFault else (if list_any is_lost stops then OutOfMemory else Done)) e))
     by_faults false e = e
 
-door_risen : {R : Type 0} (Work : Worker R → Type 0) (count : R → ℕ) (passes passes_now : List Sitting) (doors doors_now : List R) (ending : ServeEnding) → Tells Work count → Serving Work passes passes_now doors doors_now ending → ending ≡ DoorFault → HasDoorRisen count doors doors_now
+door_risen : {R : Type 0} (Work : Worker R → Type 0) (count : R → ℕ) (passes passes_now : List Sitting) (doors doors_now : List R) (ending : ServeEnding) → Tells Work count → AllServedOrNone Work passes passes_now doors doors_now ending → ending ≡ DoorFault → HasDoorRisen count doors doors_now
 door_risen {R} Work count passes passes_now doors doors_now ending tells (inl served) is =
     let stops = any_fault (map (λ (w : Worker R). w.stop) served.workers) (sym is ∙ served.ending_is) in
     let here = one_risen Work count tells served.workers served.each stops in
@@ -344,7 +344,7 @@ door_risen {R} Work count passes passes_now doors doors_now ending tells (inl se
     (subst (λ (ds : List R). HasDoorRisen count (map (λ (w : Worker R). w.door) served.workers) ds) (sym served.doors_then) here)
 door_risen Work count passes passes_now doors doors_now ending tells (inr none) is = let other : OutOfMemory ≡ DoorFault = sym none.0 ∙ is in absurd cc
 
-doors_quiet : {R : Type 0} (Work : Worker R → Type 0) (count : R → ℕ) (passes passes_now : List Sitting) (doors doors_now : List R) (ending : ServeEnding) → Tells Work count → Serving Work passes passes_now doors doors_now ending → ending ≢ DoorFault → map count doors_now ≡ map count doors
+doors_quiet : {R : Type 0} (Work : Worker R → Type 0) (count : R → ℕ) (passes passes_now : List Sitting) (doors doors_now : List R) (ending : ServeEnding) → Tells Work count → AllServedOrNone Work passes passes_now doors doors_now ending → ending ≢ DoorFault → map count doors_now ≡ map count doors
 doors_quiet {R} Work count passes passes_now doors doors_now ending tells (inl served) other =
     let none = no_fault (map (λ (w : Worker R). w.stop) served.workers) (λ is. other (served.ending_is ∙ is)) in
     ap (map count) served.doors_then ∙ (none_risen Work count tells served.workers served.each none ∙ sym (ap (map count) served.doors_are))
@@ -407,7 +407,7 @@ pub record IsWorked {R : Type 0} (Works : Open → Worker R → Type 0) (h : Lis
   pub seats : map (λ p. p.seat) passes ≡ below desk.passes
   pub seen : Each (IsKeptIn h) passes_now
   pub seated : HaveSeatsBelow desk.passes h
-  pub serves : Serving (Works desk) passes passes_now doors doors_now ending
+  pub serves : AllServedOrNone (Works desk) passes passes_now doors doors_now ending
 
 module _ {R : Type 0} (clock : ℕ → Type 0) (days : ℕ) (goes_on : Bool) (Works : Open → Worker R → Type 0) (count : R → ℕ) (Safe : Type 0) (salt : ℕ) (was now : Outside) (ready : Disks) (doors doors_now : List R) (h : List Entry) (desk : Open) (passes passes_now : List Sitting) (ending : ServeEnding) (report : Report) (stopped : Bool) (told : ℕ) where
   served : IsOpened Safe salt was.disks ready desk.start → IsSettled clock days desk.start.now → desk.origin ≡ origin_of goes_on ready → IsWorked Works h desk passes passes_now doors doors_now ending → IsReport desk.start h report → IsClosed goes_on salt desk.start h ready now.disks stopped

@@ -1,8 +1,10 @@
 -- What a server's call does: the connections of its doors are served over one history, whose numbers are told at the end; and then a
 -- checkpoint is made, where that is asked for.
-use Rattle.std.specs.Prelude.{◌≡◌, ◌≢◌, ◌⊎◌, ℕ, ◌*◌, List, [], ◌∷◌, ◌++◌, codes, length, map, max, Bool, true, false}
+use Rattle.std.specs.Prelude.{◌≡◌, ◌≢◌, ◌⊎◌, ℕ, ◌*◌, List, [], ◌∷◌, ◌++◌, codes, length, map, max, nat_lt, Bool, true, false}
 use Rattle.std.specs.Fmt.{decimal}
 use Rattle.sb_outside.specs.Causes.{Rose, RoseByOne}
+use Rattle.sb_outside.specs.declared.conn.Conn.{Ghosts as Conn}
+use Rattle.sb_outside.specs.declared.door.Door.{Ghosts as Door}
 use Rattle.sb_machine.specs.History.{after_entries, fresh_log, state_after, stops}
 use Rattle.sb_machine.specs.declared.history.Entry.{Entry}
 use Rattle.sb_machine.specs.declared.history.Entry.TheVariants.{Ticked, Answered as Replied}
@@ -18,11 +20,13 @@ use Rattle.sb_desk.specs.Entries.{IsReport}
 use Rattle.sb_desk.specs.Lists.{Each, HaveSeatsBelow}
 use Rattle.sb_desk.specs.Spared.{Spares}
 use Rattle.sb_desk.specs.declared.report.Report.{Report}
-use Rattle.sb_server.specs.Serves.{Serving, Worker}
+use Rattle.sb_rest.specs.declared.access.Access.{Access}
+use Rattle.sb_server.specs.Serves.{AllServedOrNone, Worker, WorkerDid}
+use Rattle.sb_server.specs.Works.{ConnectionServed}
 use Rattle.sb_server.specs.declared.limits.Limits.{Limits}
 use Rattle.sb_server.specs.declared.ending.ServeEnding.{ServeEnding}
 use Rattle.sb_server.specs.declared.ending.ServeEnding.TheVariants.{Done, DoorFault, OutOfMemory}
-use Rattle.sb_words.specs.Words.{idle_time_in, request_time_in}
+use Rattle.sb_words.specs.Words.{checkpoint_after_in, checkpoint_in, connections_in, idle_time_in, max_jump_in, request_time_in}
 use Rattle.sb_app.specs.Backing.{IsBacked, IsChronicle, IsFound}
 use Rattle.sb_app.specs.Checkpoints.{IsCheckpointed}
 use Rattle.sb_app.specs.Checks.{IsLineTold}
@@ -87,7 +91,7 @@ HasDoorRisen count (d ∷ ds) (e ∷ es) = Rose (count d) (count e) ⊎ HasDoorR
 -- and no other seat has any. The history is legal, so it has the laws; none of its calls that is spared was answered with want of memory;
 -- its numbers were told; and what a crash leaves of the disks leads to
 -- the state behind it, or to that with the events which a failed disk left undecided. By `goes_on` the server makes checkpoints by itself.
-pub record IsServed {R : Type 0} (reads : ℕ → Type 0) (days : ℕ) (goes_on : Bool) (Works : Open → Worker R → Type 0) (salt : ℕ) (was now : Outside) (doors doors_now : List R) (status : ℕ) : Type 0 where
+pub record IsServed {R : Type 0} (reads : ℕ → Type 0) (days : ℕ) (goes_on : Bool) (WorkedSo : Open → Worker R → Type 0) (salt : ℕ) (was now : Outside) (doors doors_now : List R) (status : ℕ) : Type 0 where
   pub start : State
   pub found : IsFound salt was.disks start
   -- the clock, read behind the opening, wasn't too far ahead
@@ -105,7 +109,7 @@ pub record IsServed {R : Type 0} (reads : ℕ → Type 0) (days : ℕ) (goes_on 
   pub seen : Each (IsKeptIn history) passes_now
   pub seated : HaveSeatsBelow desk.passes history
   pub ending : ServeEnding
-  pub serves : Serving (Works desk) passes passes_now doors doors_now ending
+  pub serves : AllServedOrNone (WorkedSo desk) passes passes_now doors doors_now ending
   pub report : Report
   pub counts : IsReport start history report
   pub told : ℕ
@@ -154,12 +158,12 @@ pub record HasJumped (reads : ℕ → Type 0) (days salt : ℕ) (was now : Outsi
 -- the journal wasn't opened, or is damaged, or memory was wanting to serve it, or the clock is too far ahead of it, and no door was used; or
 -- the doors were served
 abbrev pub IsServing : {R : Type 0} → (reads : ℕ → Type 0) → (days : ℕ) → (goes_on : Bool) → (Open → Worker R → Type 0) → (salt : ℕ) → (was now : Outside) → (doors doors_now : List R) → (status : ℕ) → Type 0
-IsServing reads days goes_on Works salt was now doors doors_now status =
+IsServing reads days goes_on WorkedSo salt was now doors doors_now status =
     ((doors_now ≡ doors) × (end : RunEnd) × (status ≡ status_of_end end) × IsUnopened salt was now end)
     ⊎ ((doors_now ≡ doors) × (status ≡ 6) × IsRefused salt was now)
     ⊎ ((doors_now ≡ doors) × (status ≡ 7) × IsUnserved salt was now)
     ⊎ ((doors_now ≡ doors) × (status ≡ 14) × HasJumped reads days salt was now)
-    ⊎ IsServed reads days goes_on Works salt was now doors doors_now status
+    ⊎ IsServed reads days goes_on WorkedSo salt was now doors doors_now status
 
 -- all that makes a server end well once its workers have ended, but for memory, and for a clock that is too far ahead
 pub record IsFreeServing {R : Type 0} (count : R → ℕ) (salt : ℕ) (was now : Outside) (doors doors_now : List R) : Type 0 where
@@ -173,8 +177,8 @@ abbrev pub IsServeStatus : ℕ → Type 0
 IsServeStatus status = (status ≡ 0) ⊎ (status ≡ 4) ⊎ (status ≡ 5) ⊎ (status ≡ 6) ⊎ (status ≡ 7) ⊎ (status ≡ 8) ⊎ (status ≡ 14)
 
 -- A server's call, with this status. Each status other than 0 and 7 has its cause; the input isn't read.
-pub record IsServeCall {R : Type 0} (reads : ℕ → Type 0) (days : ℕ) (goes_on : Bool) (Works : Open → Worker R → Type 0) (count : R → ℕ) (salt : ℕ) (was now : Outside) (doors doors_now : List R) (status : ℕ) : Type 0 where
-  pub serving : IsServing reads days goes_on Works salt was now doors doors_now status
+pub record IsServeCall {R : Type 0} (reads : ℕ → Type 0) (days : ℕ) (goes_on : Bool) (WorkedSo : Open → Worker R → Type 0) (count : R → ℕ) (salt : ℕ) (was now : Outside) (doors doors_now : List R) (status : ℕ) : Type 0 where
+  pub serving : IsServing reads days goes_on WorkedSo salt was now doors doors_now status
   pub known : IsServeStatus status
   pub write_fault : status ≡ 4 → RoseByOne was.output.faults now.output.faults
   pub write_quiet : status ≡ 0 → now.output.faults ≡ was.output.faults
@@ -192,14 +196,19 @@ pub record IsServeCall {R : Type 0} (reads : ℕ → Type 0) (days : ℕ) (goes_
 
 -- The doors were served as any server does, which left the disks so, with this status. Then, where that was 0, a checkpoint was made, and
 -- nothing more was read or written.
-pub record IsCheckpointServer {R : Type 0} (reads : ℕ → Type 0) (days : ℕ) (goes_on : Bool) (Works : Open → Worker R → Type 0) (count : R → ℕ) (salt : ℕ) (was now : Outside) (doors doors_now : List R) (status : ℕ) : Type 0 where
+pub record IsCheckpointServer {R : Type 0} (reads : ℕ → Type 0) (days : ℕ) (goes_on : Bool) (WorkedSo : Open → Worker R → Type 0) (count : R → ℕ) (salt : ℕ) (was now : Outside) (doors doors_now : List R) (status : ℕ) : Type 0 where
   pub served : Disks
   pub served_status : ℕ
-  pub call : IsServeCall reads days goes_on Works count salt was (record now { disks = served }) doors doors_now served_status
+  pub call : IsServeCall reads days goes_on WorkedSo count salt was (record now { disks = served }) doors doors_now served_status
   pub whole : served_status ≡ 0 → IsCheckpointed salt served now.disks served_status status
   pub early : served_status ≢ 0 → (status ≡ served_status) × (now.disks ≡ served)
 
 -- A server's call, by whether it makes a checkpoint at its end.
 abbrev pub IsServer : {R : Type 0} → (checkpoint : Bool) → (reads : ℕ → Type 0) → (days : ℕ) → (goes_on : Bool) → (Open → Worker R → Type 0) → (count : R → ℕ) → (salt : ℕ) → (was now : Outside) → (doors doors_now : List R) → (status : ℕ) → Type 0
-IsServer false reads days goes_on Works count salt was now doors doors_now status = IsServeCall reads days goes_on Works count salt was now doors doors_now status
-IsServer true reads days goes_on Works count salt was now doors doors_now status = IsCheckpointServer reads days goes_on Works count salt was now doors doors_now status
+IsServer false reads days goes_on WorkedSo count salt was now doors doors_now status = IsServeCall reads days goes_on WorkedSo count salt was now doors doors_now status
+IsServer true reads days goes_on WorkedSo count salt was now doors doors_now status = IsCheckpointServer reads days goes_on WorkedSo count salt was now doors doors_now status
+
+-- A server's call as words name it: over doors and connections that tell this, by a clock that may read this, and to whom `access` lets in.
+abbrev pub IsNamedServer : {R X : Type 0} → Door R X → Conn X → (reads : ℕ → Type 0) → Access → (words : List (List ℕ)) → (salt : ℕ) → (was now : Outside) → (doors doors_now : List R) → (status : ℕ) → Type 0
+IsNamedServer door conn reads access words salt was now doors doors_now status =
+    IsServer (checkpoint_in words) reads (max_jump_in words) (nat_lt 0 (checkpoint_after_in words)) (λ desk. WorkerDid door (ConnectionServed conn reads access (limits_in words)) desk (connections_in words)) door.count salt was now doors doors_now status

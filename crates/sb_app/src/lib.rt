@@ -6,7 +6,7 @@
 //! answered by one namespace (`sb_server`, over a desk). A drill makes the calls that a seed draws
 //! (`sb_drill`), and tells their counts. [`top`] does what its words name, and its one
 //! contract says what a call does to all that it is handed (`IsCall` in `specs/Calls.antt`,
-//! `IsServer` in `specs/Servings.antt`); [`top_alone`] waits for nobody. The program `sb_bus` makes
+//! `IsNamedServer` in `specs/Servings.antt`); [`top_alone`] waits for nobody. The program `sb_bus` makes
 //! the real disks, streams, clock, doors and link, and calls it.
 //!
 //! ```text

@@ -1,15 +1,13 @@
 // The program over whatever disks, streams, clock, doors and link it is handed.
-ghost use Rattle.std.specs.Prelude.{◌≡◌, ◌≢◌, [], map, nat_lt, false, None, Some, IfSome, IsSome};
+ghost use Rattle.std.specs.Prelude.{◌≡◌, ◌≢◌, [], map, false, None, Some, IfSome, IsSome};
 ghost use Rattle.sb_journal.specs.Disks.{disks_of, AreHonest, KeepsAside};
-ghost use Rattle.sb_words.specs.Words.{checkpoint_after_in, checkpoint_in, command_in, connections_in, max_jump_in};
+ghost use Rattle.sb_words.specs.Words.{checkpoint_in, command_in, max_jump_in};
 ghost use Rattle.sb_words.specs.declared.command.Command.TheVariants.{Client, Serve};
-ghost use Rattle.sb_server.specs.Serves.{Working};
-ghost use Rattle.sb_server.specs.Works.{ServesBy};
 ghost use Rattle.sb_app.specs.Outside.{outside_of};
 ghost use Rattle.sb_app.specs.Clients.{exchanges_of};
 ghost use Rattle.sb_app.specs.Calls.{IsCall, IsNamed, task_in};
 ghost use Rattle.sb_app.specs.Calls as calls;
-ghost use Rattle.sb_app.specs.Servings.{limits_for, limits_in, IsServer};
+ghost use Rattle.sb_app.specs.Servings.{limits_for, IsNamedServer};
 
 use crate::alone::carry_out;
 use crate::notices::{Notice, Watcher};
@@ -102,8 +100,7 @@ where
     R::Conn: Send,
     ensures done { command_in (map (λ w. w.now) words.now) ≢ Some Serve
         → IfSome result.1 (λ disks. IsCall (C.reads clock.now) (max_jump_in (map (λ w. w.now) words.now)) (task_in (map (λ w. w.now) words.now)) salt (outside_of D.Disk S.Source K.Sink disk_a disk_b input.old output.old) (outside_of D.Disk S.Source K.Sink disks.0 disks.1 input.new output.new) (exchanges_of key.now N.Link link.old) (exchanges_of key.now N.Link link.new) result.0) }
-    ensures serves { command_in (map (λ w. w.now) words.now) ≡ Some Serve
-        → IfSome result.1 (λ disks. IsServer (checkpoint_in (map (λ w. w.now) words.now)) (C.reads clock.now) (max_jump_in (map (λ w. w.now) words.now)) (nat_lt 0 (checkpoint_after_in (map (λ w. w.now) words.now))) (λ desk. Working (ServesBy (C.reads clock.now) access.now (limits_in (map (λ w. w.now) words.now)) R.Conn.left R.Conn.given R.Conn.reads R.Conn.writes) R.left R.taken R.ended R.count R.out desk (connections_in (map (λ w. w.now) words.now))) R.count salt
+    ensures serves { command_in (map (λ w. w.now) words.now) ≡ Some Serve → IfSome result.1 (λ disks. IsNamedServer R.Door R.Conn.Conn (C.reads clock.now) access.now (map (λ w. w.now) words.now) salt
         (outside_of D.Disk S.Source K.Sink disk_a disk_b input.old output.old) (outside_of D.Disk S.Source K.Sink disks.0 disks.1 input.new output.new) doors.old.items doors.new.items result.0) }
     ensures usage { result.0 ≡ 2 → command_in (map (λ w. w.now) words.now) ≡ None }
     ensures usage_alone { result.0 ≡ 2 → (result.1 ≡ Some (disk_a, disk_b)) × (input.new ≡ input.old) }

@@ -2,8 +2,8 @@
 ghost use Rattle.std.specs.Prelude.{◌≡◌, ℕ, nat_lt, Option, IfOk, IfSome, IsSome, string_bytes};
 ghost use Rattle.sb_journal.specs.Disks.{disks_of};
 ghost use Rattle.sb_desk.specs.Desks.{value_of};
-ghost use Rattle.sb_server.specs.Serves.{Working};
-ghost use Rattle.sb_server.specs.Works.{ServesBy};
+ghost use Rattle.sb_server.specs.Serves.{WorkerDid};
+ghost use Rattle.sb_server.specs.Works.{ConnectionServed};
 ghost use Rattle.sb_app.specs.Checks.{IsLineTold};
 ghost use Rattle.sb_app.specs.Outside.{Input, output_of};
 ghost use Rattle.sb_app.specs.Servings.{IsServer, serve_status};
@@ -64,7 +64,7 @@ pub fn serve_over<
 ) -> (u8, D, D)
 where
     R::Conn: Send,
-    ensures { (input : Input) → IsServer checkpoint (C.reads clock.now) max_jump (nat_lt 0 checkpoint_after) (λ desk. Working (ServesBy (C.reads clock.now) access.now limits R.Conn.left R.Conn.given R.Conn.reads R.Conn.writes) R.left R.taken R.ended R.count R.out desk most) R.count salt
+    ensures { (input : Input) → IsServer checkpoint (C.reads clock.now) max_jump (nat_lt 0 checkpoint_after) (λ desk. WorkerDid R.Door (ConnectionServed R.Conn.Conn (C.reads clock.now) access.now limits) desk most) R.count salt
         (record { input = input; output = output_of K.Sink output.old; disks = disks_of D.Disk disk_a disk_b }) (record { input = input; output = output_of K.Sink output.new; disks = disks_of D.Disk result.1 result.2 })
         doors.old.items doors.new.items result.0 }
 {

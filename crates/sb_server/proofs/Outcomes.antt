@@ -18,6 +18,8 @@ use Rattle.sb_desk.specs.Desks.{Open, Sitting}
 use Rattle.sb_desk.specs.Entries.{made_by, entries_by, seat_of}
 use Rattle.sb_desk.specs.Lists.{Each}
 use Rattle.sb_outside.specs.Causes.{Rose}
+use Rattle.sb_outside.specs.declared.conn.Conn.{Ghosts as Conn}
+use Rattle.sb_outside.specs.declared.door.Door.{Ghosts as Door}
 use Rattle.sb_input.specs.Lines.{lines_of}
 use Rattle.sb_http.specs.Messages.{RequestMessage}
 use Rattle.sb_rest.specs.declared.access.Access.{Access}
@@ -37,10 +39,10 @@ use Rattle.sb_server.specs.declared.body.LineAsk.TheVariants.{Call as LineCall, 
 use Rattle.sb_server.specs.Asks.{AsksFor, IsNoLine, asks_close}
 use Rattle.sb_server.specs.Bodies.{line_in, lines_in, asked_by, are_lines}
 use Rattle.sb_server.specs.Responds.{IsOne, RespondsTo, Responds, LineCalled, IsLineCalled, AreCalled, any_stops, turn_of, waiter_call}
-use Rattle.sb_server.specs.Serves.{Worker, Working, Served, is_fault, is_lost, serve_ending}
-use Rattle.sb_server.specs.Talks.{Start, Here, Talks, Ends}
+use Rattle.sb_server.specs.Serves.{Worker, WorkerDid, AllServed, is_fault, is_lost, serve_ending}
+use Rattle.sb_server.specs.Talks.{Start, Here, Talks, Ends, here_at, start_of}
 use Rattle.sb_server.specs.Waiting.{GoesBy, Waits, round_made, rounds_made}
-use Rattle.sb_server.specs.Works.{Visit, Worked, ServesBy, TellsFault, StopsBy, is_stop}
+use Rattle.sb_server.specs.Works.{ServedConnection, ServedInTurn, ConnectionServed, TellsFault, StopsBy, is_stop}
 use Rattle.sb_server.proofs.Going.{goes_by_none, goes_by_both}
 
 -- ---- the entries of a pass
@@ -64,11 +66,11 @@ ends_go IsReading s h Slow (inr (inr t, passed)) = (t.1.made ++ t.1.mine, t.1.go
 ends_go IsReading s h Lost t = (t.made, t.goes)
 
 -- a worker's pass goes on by the entries of its connections' calls
-pub worked_goes : {X : Type 0} (IsReading : ℕ → Type 0) (access : Access) (limits : Limits) (there given : X → Option (List ℕ)) (reads writes : X → ℕ) (p q : Sitting) (vs : List (Visit X)) → Worked (ServesBy IsReading access limits there given reads writes) p vs q → (made : List Entry) × GoesBy p made q
-worked_goes IsReading access limits there given reads writes p q [] w = ([], subst (λ (r : Sitting). GoesBy p [] r) (sym w) (goes_by_none p))
-worked_goes IsReading access limits there given reads writes p q (v ∷ vs) w =
+pub served_goes : {X : Type 0} (conn : Conn X) (IsReading : ℕ → Type 0) (access : Access) (limits : Limits) (p q : Sitting) (vs : List (ServedConnection X)) → ServedInTurn (ConnectionServed conn IsReading access limits) p vs q → (made : List Entry) × GoesBy p made q
+served_goes conn IsReading access limits p q [] w = ([], subst (λ (r : Sitting). GoesBy p [] r) (sym w) (goes_by_none p))
+served_goes conn IsReading access limits p q (v ∷ vs) w =
     let one = ends_go IsReading _ _ v.ending w.1.2 in
-    let rest = worked_goes IsReading access limits there given reads writes w.0 q vs w.2 in
+    let rest = served_goes conn IsReading access limits w.0 q vs w.2 in
     (one.0 ++ rest.0, goes_by_both p w.0 q one.0 rest.0 one.1 rest.1)
 
 -- ---- a namespace that acts no more
@@ -188,19 +190,19 @@ stop_seen IsReading s h t =
     let more : list_any is_stop t.goes.0 ≡ true = any_kept (λ (e : Entry). seat_of e == s.pass.seat) is_stop t.goes.0 mine in
     ap (λ (p : Sitting). list_any is_stop p.seen) t.goes.1 ∙ stop_right s.pass.seen t.goes.0 more
 
-last_stops : {X : Type 0} (IsReading : ℕ → Type 0) (access : Access) (limits : Limits) (there given : X → Option (List ℕ)) (reads writes : X → ℕ) (p q : Sitting) (front : List (Visit X)) (v : Visit X) → v.ending ≡ NodeStopped → Worked (ServesBy IsReading access limits there given reads writes) p (front ++ v ∷ []) q → list_any is_stop q.seen ≡ true
-last_stops IsReading access limits there given reads writes p q [] v is w =
-    let s : Start = record { access = access; limits = limits; pass = p; there = there v.before; given = given v.before; reads = reads v.before; writes = writes v.before } in
-    let h : Here = record { pass = w.0; stand = w.1.0; written = given v.after; reads = reads v.after; writes = writes v.after } in
+last_stops : {X : Type 0} (conn : Conn X) (IsReading : ℕ → Type 0) (access : Access) (limits : Limits) (p q : Sitting) (front : List (ServedConnection X)) (v : ServedConnection X) → v.ending ≡ NodeStopped → ServedInTurn (ConnectionServed conn IsReading access limits) p (front ++ v ∷ []) q → list_any is_stop q.seen ≡ true
+last_stops conn IsReading access limits p q [] v is w =
+    let s : Start = start_of conn access limits p v.before in
+    let h : Here = here_at conn w.0 w.1.0 v.after in
     ap (λ (r : Sitting). list_any is_stop r.seen) w.2 ∙ stop_seen IsReading s h (subst (λ (e : Ending). Ends IsReading s h e) is w.1.2)
-last_stops IsReading access limits there given reads writes p q (u ∷ front) v is w = last_stops IsReading access limits there given reads writes w.0 q front v is w.2
+last_stops conn IsReading access limits p q (u ∷ front) v is w = last_stops conn IsReading access limits w.0 q front v is w.2
 
 -- a worker that ended with the namespace has seen that it acts no more
-pub stopped_seen : {X : Type 0} (IsReading : ℕ → Type 0) (access : Access) (limits : Limits) (there given : X → Option (List ℕ)) (reads writes : X → ℕ) (p q : Sitting) (vs : List (Visit X)) (s : Stop) (most : ℕ) (ended : Bool) (before now : ℕ)
-    → Worked (ServesBy IsReading access limits there given reads writes) p vs q → StopsBy s most vs ended before now → s ≡ Stopped → list_any is_stop q.seen ≡ true
-stopped_seen {X = X} IsReading access limits there given reads writes p q vs s most ended before now w stops is =
+pub stopped_seen : {X : Type 0} (conn : Conn X) (IsReading : ℕ → Type 0) (access : Access) (limits : Limits) (p q : Sitting) (vs : List (ServedConnection X)) (s : Stop) (most : ℕ) (ended : Bool) (before now : ℕ)
+    → ServedInTurn (ConnectionServed conn IsReading access limits) p vs q → StopsBy s most vs ended before now → s ≡ Stopped → list_any is_stop q.seen ≡ true
+stopped_seen {X = X} conn IsReading access limits p q vs s most ended before now w stops is =
     let by : StopsBy Stopped most vs ended before now = subst (λ (t : Stop). StopsBy t most vs ended before now) is stops in
-    last_stops IsReading access limits there given reads writes p q by.cause.0 by.cause.1 by.cause.3 (subst (λ (l : List (Visit X)). Worked (ServesBy IsReading access limits there given reads writes) p l q) by.cause.2 w)
+    last_stops conn IsReading access limits p q by.cause.0 by.cause.1 by.cause.3 (subst (λ (l : List (ServedConnection X)). ServedInTurn (ConnectionServed conn IsReading access limits) p l q) by.cause.2 w)
 
 -- ---- a door that failed
 
@@ -212,17 +214,17 @@ pub record One {D : Type 0} (P : Worker D → Type 0) (workers : List (Worker D)
   pub workers_are : workers ≡ front ++ worker ∷ back
   pub has : P worker
 
-one_fault : {D : Type 0} (Works : Worker D → Type 0) (ws : List (Worker D)) → Each Works ws → list_any is_fault (map (λ w. w.stop) ws) ≡ true → One (λ w. Works w × (w.stop ≡ Fault)) ws
-one_fault Works [] each e = absurd cc
-one_fault {D = D} Works (w ∷ ws) each e = by (λ f. later (one_fault Works ws each.1 f)) w.stop refl
+one_fault : {D : Type 0} (WorkedSo : Worker D → Type 0) (ws : List (Worker D)) → Each WorkedSo ws → list_any is_fault (map (λ w. w.stop) ws) ≡ true → One (λ w. WorkedSo w × (w.stop ≡ Fault)) ws
+one_fault WorkedSo [] each e = absurd cc
+one_fault {D = D} WorkedSo (w ∷ ws) each e = by (λ f. later (one_fault WorkedSo ws each.1 f)) w.stop refl
   where
-    later : One (λ v. Works v × (v.stop ≡ Fault)) ws → One (λ v. Works v × (v.stop ≡ Fault)) (w ∷ ws)
+    later : One (λ v. WorkedSo v × (v.stop ≡ Fault)) ws → One (λ v. WorkedSo v × (v.stop ≡ Fault)) (w ∷ ws)
     later o = record { front = w ∷ o.front; worker = o.worker; back = o.back; workers_are = ap (λ (l : List (Worker D)). w ∷ l) o.workers_are; has = o.has }
 
     rest : (s : Stop) → w.stop ≡ s → is_fault s ≡ false → list_any is_fault (map (λ v. v.stop) ws) ≡ true
     rest s is other = sym (ap (λ (b : Bool). b || list_any is_fault (map (λ v. v.stop) ws)) (ap is_fault is ∙ other)) ∙ e
 
-    by : (list_any is_fault (map (λ v. v.stop) ws) ≡ true → One (λ v. Works v × (v.stop ≡ Fault)) (w ∷ ws)) → (s : Stop) → w.stop ≡ s → One (λ v. Works v × (v.stop ≡ Fault)) (w ∷ ws)
+    by : (list_any is_fault (map (λ v. v.stop) ws) ≡ true → One (λ v. WorkedSo v × (v.stop ≡ Fault)) (w ∷ ws)) → (s : Stop) → w.stop ≡ s → One (λ v. WorkedSo v × (v.stop ≡ Fault)) (w ∷ ws)
     by go Fault is = record { front = []; worker = w; back = ws; workers_are = refl; has = (each.0, is) }
     by go Enough is = go (rest Enough is refl)
     by go Ended is = go (rest Ended is refl)
@@ -238,14 +240,14 @@ fault_told : (stops : List Stop) → DoorFault ≡ serve_ending stops → list_a
 fault_told stops e = told (list_any is_fault stops) (list_any is_lost stops) e
 
 -- a door's count rose, where that is how serving ended
-pub door_rose : {D X : Type 0} (Serves : Sitting → Visit X → Sitting → Type 0) (waiting taken : D → Option (List X)) (ended : D → Bool) (count out : D → ℕ) (desk : Open) (most : ℕ) (passes passes_after : List Sitting) (doors doors_after : List D) (ending : ServeEnding)
-    (s : Served (Working Serves waiting taken ended count out desk most) passes passes_after doors doors_after ending) → ending ≡ DoorFault → One (λ w. Rose (count w.door) (count w.door_after)) s.workers
-door_rose Serves waiting taken ended count out desk most passes passes_after doors doors_after ending s is =
-    let o = one_fault (Working Serves waiting taken ended count out desk most) s.workers s.each (fault_told (map (λ w. w.stop) s.workers) (sym is ∙ s.ending_is)) in
+pub door_rose : {D X : Type 0} (door : Door D X) (ServedSo : Sitting → ServedConnection X → Sitting → Type 0) (desk : Open) (most : ℕ) (passes passes_after : List Sitting) (doors doors_after : List D) (ending : ServeEnding)
+    (s : AllServed (WorkerDid door ServedSo desk most) passes passes_after doors doors_after ending) → ending ≡ DoorFault → One (λ w. Rose (door.count w.door) (door.count w.door_after)) s.workers
+door_rose door ServedSo desk most passes passes_after doors doors_after ending s is =
+    let o = one_fault (WorkerDid door ServedSo desk most) s.workers s.each (fault_told (map (λ w. w.stop) s.workers) (sym is ∙ s.ending_is)) in
     record {
       front = o.front;
       worker = o.worker;
       back = o.back;
       workers_are = o.workers_are;
-      has = subst (λ (t : Stop). TellsFault t (count o.worker.door) (count o.worker.door_after)) o.has.1 o.has.0.stops.faults;
+      has = subst (λ (t : Stop). TellsFault t (door.count o.worker.door) (door.count o.worker.door_after)) o.has.1 o.has.0.stops.faults;
     }

@@ -3,6 +3,8 @@ use Rattle.std.proofs.Common.{◌≡◌, ℕ, zero, suc, ◌<◌, List, [], ◌�
 use Rattle.std.specs.Prelude.{All, slice_index_or, slice_set}
 use Rattle.std.specs.List.{list_all}
 use Rattle.sb_desk.specs.Desks.{Open, Sitting, IsOf}
+use Rattle.sb_outside.specs.declared.conn.Conn.{Ghosts as Conn}
+use Rattle.sb_outside.specs.declared.door.Door.{Ghosts as Door}
 use Rattle.sb_rest.specs.declared.access.Access.{Access}
 use Rattle.sb_server.specs.declared.limits.Limits.{Limits}
 use Rattle.sb_server.specs.declared.job.Job.{Job}
@@ -11,10 +13,10 @@ use Rattle.sb_server.specs.declared.seat.Seat.TheVariants.{Free}
 use Rattle.sb_server.specs.declared.stage.Stage.{Stage}
 use Rattle.sb_server.specs.declared.stage.Stage.TheVariants.{Wants, Serves, Over}
 use Rattle.sb_server.specs.declared.work.Stop.{Stop}
-use Rattle.sb_server.specs.Serves.{Worker, Working, HasPass, Did, IsAtWork, HasCome}
+use Rattle.sb_server.specs.Serves.{Worker, WorkerDid, HasPass, Did, IsAtWork, HasCome}
 use Rattle.sb_server.specs.Doings.{IsFree, sitting_of}
 use Rattle.sb_server.specs.Stages.{IsAt, IsSound, IsOver, stop_at, is_over}
-use Rattle.sb_server.specs.Works.{ServesBy}
+use Rattle.sb_server.specs.Works.{ConnectionServed}
 use Rattle.sb_server.proofs.Attending.{at_first, free_over}
 use Rattle.sb_server.proofs.Outcomes.{stopped_seen}
 
@@ -47,9 +49,9 @@ all_of p (x ∷ xs) e (suc k) d lt = all_of p xs (and_second (p x) (list_all p x
 some_same : (p q : Seat) → Some p ≡ Some q → p ≡ q
 some_same p q e = ap (λ (o : Option Seat). elim o [ Some z ↦ z | None ↦ p ]) e
 
-module _ {D X : Type 0} (IsReading : ℕ → Type 0) (access : Access) (limits : Limits) (there given : X → Option (List ℕ)) (reads writes : X → ℕ) (waiting taken : D → Option (List X)) (ended : D → Bool) (count out : D → ℕ) (most : ℕ) where
+module _ {D X : Type 0} (door : Door D X) (conn : Conn X) (IsReading : ℕ → Type 0) (access : Access) (limits : Limits) (most : ℕ) where
   abbrev Come : Job D X → Job D X → Type 0
-  Come began now = HasCome IsReading access limits there given reads writes waiting taken ended count out most began now
+  Come began now = HasCome door conn IsReading access limits most began now
 
   -- how it begins
   pub come_first : (desk : Open) (job : Job D X) → HasPass desk most job → Come job job
@@ -58,20 +60,20 @@ module _ {D X : Type 0} (IsReading : ℕ → Type 0) (access : Access) (limits :
     seat = Free h.pass;
     had = h.has;
     has = h.has;
-    at = subst (λ (s : Stage X). IsAt IsReading access limits there given reads writes waiting taken ended count out most h.pass job.door (Free h.pass) job.door s) (sym h.fresh) (at_first IsReading access limits there given reads writes waiting taken ended count out most h.pass job.door);
+    at = subst (λ (s : Stage X). IsAt door conn IsReading access limits most h.pass job.door (Free h.pass) job.door s) (sym h.fresh) (at_first door conn IsReading access limits most h.pass job.door);
     stop_is = sym (ap (λ (s : Stage X). stop_at s job.stop) h.fresh);
   }
 
   -- one worker made a step
   pub come_on : (began old new : Job D X) (seat after : Seat) → Come began old → old.seat ≡ Some seat → new.seat ≡ Some after
-      → ((p : Sitting) (d : D) → IsAt IsReading access limits there given reads writes waiting taken ended count out most p d seat old.door old.stage → IsAt IsReading access limits there given reads writes waiting taken ended count out most p d after new.door new.stage)
+      → ((p : Sitting) (d : D) → IsAt door conn IsReading access limits most p d seat old.door old.stage → IsAt door conn IsReading access limits most p d after new.door new.stage)
       → new.stop ≡ stop_at new.stage new.stop → Come began new
   come_on began old new seat after c had has goes stop = record {
     pass = c.pass;
     seat = after;
     had = c.had;
     has = has;
-    at = goes c.pass began.door (subst (λ (p : Seat). IsAt IsReading access limits there given reads writes waiting taken ended count out most c.pass began.door p old.door old.stage) (some_same c.seat seat (sym c.has ∙ had)) c.at);
+    at = goes c.pass began.door (subst (λ (p : Seat). IsAt door conn IsReading access limits most c.pass began.door p old.door old.stage) (some_same c.seat seat (sym c.has ∙ had)) c.at);
     stop_is = stop;
   }
 
@@ -80,22 +82,22 @@ module _ {D X : Type 0} (IsReading : ℕ → Type 0) (access : Access) (limits :
   come_again began now again c = record { pass = c.pass; seat = c.seat; had = c.had; has = c.has; at = c.at; stop_is = c.stop_is }
 
   -- it is over
-  pub come_over : (desk : Open) (began now : Job D X) → Come began now → IsAtWork out desk now → is_over now.stage ≡ true → Did (Working (ServesBy IsReading access limits there given reads writes) waiting taken ended count out desk most) began now
+  pub come_over : (desk : Open) (began now : Job D X) → Come began now → IsAtWork door.out desk now → is_over now.stage ≡ true → Did (WorkerDid door (ConnectionServed conn IsReading access limits) desk most) began now
   come_over desk began now c w over = by now.stage refl over
     where
       same : w.seat ≡ c.seat
       same = some_same w.seat c.seat (sym w.has ∙ c.has)
 
       free : IsFree c.seat
-      free = free_over c.seat now.stage (out now.door) over (subst (λ (s : Seat). IsSound s now.stage (out now.door)) same w.sound)
+      free = free_over c.seat now.stage (door.out now.door) over (subst (λ (s : Seat). IsSound s now.stage (door.out now.door)) same w.sound)
 
-      by : (stage : Stage X) → now.stage ≡ stage → is_over stage ≡ true → Did (Working (ServesBy IsReading access limits there given reads writes) waiting taken ended count out desk most) began now
+      by : (stage : Stage X) → now.stage ≡ stage → is_over stage ≡ true → Did (WorkerDid door (ConnectionServed conn IsReading access limits) desk most) began now
       by (Wants left) is e = absurd cc
       by (Serves left guest) is e = absurd cc
       by (Over stop) is e =
           let pass : Sitting = free.0 in
-          let at : IsAt IsReading access limits there given reads writes waiting taken ended count out most c.pass began.door (Free pass) now.door now.stage = subst (λ (s : Seat). IsAt IsReading access limits there given reads writes waiting taken ended count out most c.pass began.door s now.door now.stage) free.1 c.at in
-          let o : IsOver IsReading access limits there given reads writes waiting taken ended count out most c.pass began.door pass now.door stop = subst (λ (s : Stage X). IsAt IsReading access limits there given reads writes waiting taken ended count out most c.pass began.door (Free pass) now.door s) is at in
+          let at : IsAt door conn IsReading access limits most c.pass began.door (Free pass) now.door now.stage = subst (λ (s : Seat). IsAt door conn IsReading access limits most c.pass began.door s now.door now.stage) free.1 c.at in
+          let o : IsOver door conn IsReading access limits most c.pass began.door pass now.door stop = subst (λ (s : Stage X). IsAt door conn IsReading access limits most c.pass began.door (Free pass) now.door s) is at in
           let worker : Worker D = record { pass = c.pass; door = began.door; pass_after = pass; door_after = now.door; stop = stop } in
           record {
             worker = worker;
@@ -107,11 +109,11 @@ module _ {D X : Type 0} (IsReading : ℕ → Type 0) (access : Access) (limits :
             stop = c.stop_is ∙ ap (λ (s : Stage X). stop_at s now.stop) is;
             does = record {
               of = subst (λ (s : Seat). IsOf desk (sitting_of s)) (same ∙ free.1) w.of;
-              visits = o.visits;
-              works = o.works;
+              connections = o.connections;
+              served = o.served;
               stops = o.stops;
               out_is = o.out_is;
-              stopped = stopped_seen IsReading access limits there given reads writes c.pass pass o.visits stop most (ended now.door) (count began.door) (count now.door) o.works.worked o.stops;
+              stopped = stopped_seen conn IsReading access limits c.pass pass o.connections stop most (door.ended now.door) (door.count began.door) (door.count now.door) o.served.in_turn o.stops;
             };
           }
 

@@ -5,12 +5,13 @@ use Rattle.sb_desk.specs.Lists.{Each}
 use Rattle.sb_outside.specs.Causes.{Rose}
 use Rattle.sb_outside.specs.Streams.{Gains, Stays}
 use Rattle.sb_outside.specs.Doors.{GivesInOrder}
+use Rattle.sb_outside.specs.declared.door.Door.{Ghosts as Door}
 use Rattle.sb_outside.specs.declared.door.Given.TheVariants.{One, End}
 use Rattle.sb_server.specs.declared.ending.Ending.{Ending}
 use Rattle.sb_server.specs.declared.ending.Ending.TheVariants.{Closed, BadHead, HeadTooLarge, BodyTooLarge, Truncated, LongConnection, ReadFault, Gone, WriteFault, Slow, Stopped as NodeStopped, OutOfMemory as NoMemory}
 use Rattle.sb_server.specs.declared.work.Stop.{Stop}
 use Rattle.sb_server.specs.declared.work.Stop.TheVariants.{Enough, Ended, Fault, Stopped, OutOfMemory}
-use Rattle.sb_server.specs.Works.{Visit, Works, Worked, befores, afters, HasGiven, GoesOn, EndsAt, MayStopBy, StopsBy, stop_of}
+use Rattle.sb_server.specs.Works.{ServedConnection, DoorServed, ServedInTurn, befores, afters, HasGiven, GoesOn, EndsAt, MayStopBy, StopsBy, stop_of}
 
 stays_gain : {X : Type 0} (a b : Option (List X)) → Stays a b → Gains a b []
 stays_gain None b s = tt
@@ -44,44 +45,45 @@ none_given None b g = tt
 none_given (Some []) b g = ([], g, refl)
 none_given (Some (y ∷ ys)) b g = absurd g
 
-worked_on : {X : Type 0} (Serves : Sitting → Visit X → Sitting → Type 0) (p q r : Sitting) (vs ws : List (Visit X)) → Worked Serves p vs q → Worked Serves q ws r → Worked Serves p (vs ++ ws) r
-worked_on Serves p q r [] ws w x = subst (λ (s : Sitting). Worked Serves s ws r) w x
-worked_on Serves p q r (v ∷ vs) ws w x = (w.0, w.1, worked_on Serves w.0 q r vs ws w.2 x)
+in_turn_on : {X : Type 0} (ServedSo : Sitting → ServedConnection X → Sitting → Type 0) (p q r : Sitting) (vs ws : List (ServedConnection X)) → ServedInTurn ServedSo p vs q → ServedInTurn ServedSo q ws r → ServedInTurn ServedSo p (vs ++ ws) r
+in_turn_on ServedSo p q r [] ws w x = subst (λ (s : Sitting). ServedInTurn ServedSo s ws r) w x
+in_turn_on ServedSo p q r (v ∷ vs) ws w x = (w.0, w.1, in_turn_on ServedSo w.0 q r vs ws w.2 x)
 
-befores_on : {X : Type 0} (vs ws : List (Visit X)) → befores (vs ++ ws) ≡ befores vs ++ befores ws
+befores_on : {X : Type 0} (vs ws : List (ServedConnection X)) → befores (vs ++ ws) ≡ befores vs ++ befores ws
 befores_on [] ws = refl
 befores_on {X = X} (v ∷ vs) ws = ap (λ (l : List X). v.before ∷ l) (befores_on vs ws)
 
-afters_on : {X : Type 0} (vs ws : List (Visit X)) → afters (vs ++ ws) ≡ afters vs ++ afters ws
+afters_on : {X : Type 0} (vs ws : List (ServedConnection X)) → afters (vs ++ ws) ≡ afters vs ++ afters ws
 afters_on [] ws = refl
 afters_on {X = X} (v ∷ vs) ws = ap (λ (l : List X). v.after ∷ l) (afters_on vs ws)
 
-pub works_on : {X : Type 0} (Serves : Sitting → Visit X → Sitting → Type 0) (p q r : Sitting) (w x y t u v : Option (List X)) (vs ws : List (Visit X))
-    → Works Serves p w t q x u vs → Works Serves q x u r y v ws → Works Serves p w t r y v (vs ++ ws)
-works_on {X = X} Serves p q r w x y t u v vs ws a b = record {
-  worked = worked_on Serves p q r vs ws a.worked b.worked;
-  gave = subst (λ (l : List X). HasGiven w l y) (sym (befores_on vs ws)) (given_on w x y (befores vs) (befores ws) a.gave b.gave);
-  took = subst (λ (l : List X). Gains t v l) (sym (afters_on vs ws)) (gains_on t u v (afters vs) (afters ws) a.took b.took);
-}
+-- connections of a door, by its ghost values
+module _ {D X : Type 0} (door : Door D X) (ServedSo : Sitting → ServedConnection X → Sitting → Type 0) where
+  pub served_on : (p q r : Sitting) (d e f : D) (vs ws : List (ServedConnection X)) → DoorServed door ServedSo p d q e vs → DoorServed door ServedSo q e r f ws → DoorServed door ServedSo p d r f (vs ++ ws)
+  served_on p q r d e f vs ws a b = record {
+    in_turn = in_turn_on ServedSo p q r vs ws a.in_turn b.in_turn;
+    gave = subst (λ (l : List X). HasGiven (door.left d) l (door.left f)) (sym (befores_on vs ws)) (given_on (door.left d) (door.left e) (door.left f) (befores vs) (befores ws) a.gave b.gave);
+    took = subst (λ (l : List X). Gains (door.taken d) (door.taken f) l) (sym (afters_on vs ws)) (gains_on (door.taken d) (door.taken e) (door.taken f) (afters vs) (afters ws) a.took b.took);
+  }
 
-pub works_none : {X : Type 0} (Serves : Sitting → Visit X → Sitting → Type 0) (p : Sitting) (w t : Option (List X)) → Works Serves p w t p w t []
-works_none Serves p w t = record { worked = refl; gave = stays_given w w (same_stays w); took = stays_gain t t (same_stays t) }
+  pub served_none : (p : Sitting) (d : D) → DoorServed door ServedSo p d p d []
+  served_none p d = record { in_turn = refl; gave = stays_given (door.left d) (door.left d) (same_stays (door.left d)); took = stays_gain (door.taken d) (door.taken d) (same_stays (door.taken d)) }
 
--- no connection was given
-pub works_failed : {X : Type 0} (Serves : Sitting → Visit X → Sitting → Type 0) (p : Sitting) (w x t u : Option (List X)) → Stays w x → Stays t u → Works Serves p w t p x u []
-works_failed Serves p w x t u a b = record { worked = refl; gave = stays_given w x a; took = stays_gain t u b }
+  -- no connection was given
+  pub served_failed : (p : Sitting) (d e : D) → Stays (door.left d) (door.left e) → Stays (door.taken d) (door.taken e) → DoorServed door ServedSo p d p e []
+  served_failed p d e a b = record { in_turn = refl; gave = stays_given (door.left d) (door.left e) a; took = stays_gain (door.taken d) (door.taken e) b }
 
-pub works_ended : {X : Type 0} (Serves : Sitting → Visit X → Sitting → Type 0) (p : Sitting) (w x t u : Option (List X)) → GivesInOrder w x End → Stays t u → Works Serves p w t p x u []
-works_ended Serves p w x t u a b = record { worked = refl; gave = none_given w x a; took = stays_gain t u b }
+  pub served_ended : (p : Sitting) (d e : D) → GivesInOrder (door.left d) (door.left e) End → Stays (door.taken d) (door.taken e) → DoorServed door ServedSo p d p e []
+  served_ended p d e a b = record { in_turn = refl; gave = none_given (door.left d) (door.left e) a; took = stays_gain (door.taken d) (door.taken e) b }
 
--- one was
-pub works_one : {X : Type 0} (Serves : Sitting → Visit X → Sitting → Type 0) (p q : Sitting) (w x y t u v : Option (List X)) (visit : Visit X)
-    → GivesInOrder w x (One visit.before) → Stays x y → Stays t u → Gains u v (visit.after ∷ []) → Serves p visit q → Works Serves p w t q y v (visit ∷ [])
-works_one {X = X} Serves p q w x y t u v visit gives left stays gains serves = record {
-  worked = (q, serves, refl);
-  gave = given_on w x y (visit.before ∷ []) [] (first_given w x visit.before gives) (stays_given x y left);
-  took = gains_on t u v [] (visit.after ∷ []) (stays_gain t u stays) gains;
-}
+  -- one was
+  pub served_one : (p q : Sitting) (d e f : D) (v : ServedConnection X)
+      → GivesInOrder (door.left d) (door.left e) (One v.before) → Stays (door.left e) (door.left f) → Stays (door.taken d) (door.taken e) → Gains (door.taken e) (door.taken f) (v.after ∷ []) → ServedSo p v q → DoorServed door ServedSo p d q f (v ∷ [])
+  served_one p q d e f v gives left stays gains served = record {
+    in_turn = (q, served, refl);
+    gave = given_on (door.left d) (door.left e) (door.left f) (v.before ∷ []) [] (first_given (door.left d) (door.left e) v.before gives) (stays_given (door.left e) (door.left f) left);
+    took = gains_on (door.taken d) (door.taken e) (door.taken f) [] (v.after ∷ []) (stays_gain (door.taken d) (door.taken e) stays) gains;
+  }
 
 -- ---- why a worker ends
 
@@ -89,25 +91,25 @@ pub each_both : {A : Type 0} (P : A → Type 0) (xs ys : List A) → Each P xs �
 each_both P [] ys e f = f
 each_both P (x ∷ xs) ys e f = (e.0, each_both P xs ys e.1 f)
 
-pub may_end : {X : Type 0} (vs : List (Visit X)) (ended : Bool) (before now : ℕ) → vs ≡ [] → ended ≡ true → now ≡ before → MayStopBy (Some Ended) vs ended before now
+pub may_end : {X : Type 0} (vs : List (ServedConnection X)) (ended : Bool) (before now : ℕ) → vs ≡ [] → ended ≡ true → now ≡ before → MayStopBy (Some Ended) vs ended before now
 may_end {X = X} vs ended before now none is same =
-    (λ e. absurd cc, record { few = omega (arith, ap length none); cause = (is, subst (λ (l : List (Visit X)). Each GoesOn l) (sym none) tt); faults = same })
+    (λ e. absurd cc, record { few = omega (arith, ap length none); cause = (is, subst (λ (l : List (ServedConnection X)). Each GoesOn l) (sym none) tt); faults = same })
 
 pub may_fail : {X : Type 0} (ended : Bool) (before now : ℕ) → Rose before now → MayStopBy {X = X} (Some Fault) [] ended before now
 may_fail ended before now rose = (λ e. absurd cc, record { few = omega arith; cause = tt; faults = rose })
 
-pub may_stop : {X : Type 0} (visit : Visit X) (ended : Bool) (before mid now : ℕ) (r : Option Stop) → r ≡ stop_of visit.ending → now ≡ mid → mid ≡ before → MayStopBy r (visit ∷ []) ended before now
-may_stop {X = X} visit ended before mid now r is later first = subst (λ (o : Option Stop). MayStopBy o (visit ∷ []) ended before now) (sym is) (by visit.ending refl)
+pub may_stop : {X : Type 0} (conn : ServedConnection X) (ended : Bool) (before mid now : ℕ) (r : Option Stop) → r ≡ stop_of conn.ending → now ≡ mid → mid ≡ before → MayStopBy r (conn ∷ []) ended before now
+may_stop {X = X} conn ended before mid now r is later first = subst (λ (o : Option Stop). MayStopBy o (conn ∷ []) ended before now) (sym is) (by conn.ending refl)
   where
     same : now ≡ before
     same = later ∙ first
 
-    goes : stop_of visit.ending ≡ None → MayStopBy None (visit ∷ []) ended before now
+    goes : stop_of conn.ending ≡ None → MayStopBy None (conn ∷ []) ended before now
     goes on = (refl, (on, tt), same)
 
-    by : (e : Ending) → visit.ending ≡ e → MayStopBy (stop_of e) (visit ∷ []) ended before now
-    by NodeStopped is = (λ e. absurd cc, record { few = omega arith; cause = ([], visit, refl, is, tt); faults = same })
-    by NoMemory is = (λ e. absurd cc, record { few = omega arith; cause = ([], visit, refl, is, tt); faults = same })
+    by : (e : Ending) → conn.ending ≡ e → MayStopBy (stop_of e) (conn ∷ []) ended before now
+    by NodeStopped is = (λ e. absurd cc, record { few = omega arith; cause = ([], conn, refl, is, tt); faults = same })
+    by NoMemory is = (λ e. absurd cc, record { few = omega arith; cause = ([], conn, refl, is, tt); faults = same })
     by Closed is = goes (ap stop_of is)
     by BadHead is = goes (ap stop_of is)
     by HeadTooLarge is = goes (ap stop_of is)
@@ -119,11 +121,11 @@ may_stop {X = X} visit ended before mid now r is later first = subst (λ (o : Op
     by WriteFault is = goes (ap stop_of is)
     by Slow is = goes (ap stop_of is)
 
-last_on : {X : Type 0} (vs ws : List (Visit X)) (e : Ending) → Each GoesOn vs → EndsAt ws e → EndsAt (vs ++ ws) e
-last_on {X = X} vs ws e on l = (vs ++ l.0, l.1, ap (λ (k : List (Visit X)). vs ++ k) l.2 ∙ sym (append_assoc vs l.0 (l.1 ∷ [])), l.3, each_both GoesOn vs l.0 on l.4)
+last_on : {X : Type 0} (vs ws : List (ServedConnection X)) (e : Ending) → Each GoesOn vs → EndsAt ws e → EndsAt (vs ++ ws) e
+last_on {X = X} vs ws e on l = (vs ++ l.0, l.1, ap (λ (k : List (ServedConnection X)). vs ++ k) l.2 ∙ sym (append_assoc vs l.0 (l.1 ∷ [])), l.3, each_both GoesOn vs l.0 on l.4)
 
 -- it ended behind these, all of which it went on behind
-pub stops_after : {X : Type 0} (s : Stop) (r : Option Stop) (most n : ℕ) (vs ws : List (Visit X)) (ended : Bool) (start before now : ℕ) → r ≡ Some s → MayStopBy r ws ended before now
+pub stops_after : {X : Type 0} (s : Stop) (r : Option Stop) (most n : ℕ) (vs ws : List (ServedConnection X)) (ended : Bool) (start before now : ℕ) → r ≡ Some s → MayStopBy r ws ended before now
     → length vs ≡ n → n < most → Each GoesOn vs → before ≡ start → StopsBy s most (vs ++ ws) ended start now
 stops_after {X = X} s r most n vs ws ended start before now is m len lt on same = by s (subst (λ (o : Option Stop). MayStopBy o ws ended before now) is m)
   where
@@ -138,7 +140,7 @@ stops_after {X = X} s r most n vs ws ended start before now is m len lt on same 
     by OutOfMemory y = record { few = few y.1.few; cause = last_on vs ws NoMemory on y.1.cause; faults = y.1.faults ∙ same }
 
 -- what a worker served so far, when it goes on
-pub record GoneOn {X : Type 0} (vs : List (Visit X)) (n : ℕ) (before now : ℕ) : Type 0 where
+pub record GoneOn {X : Type 0} (vs : List (ServedConnection X)) (n : ℕ) (before now : ℕ) : Type 0 where
   pub size : length vs ≡ n
   pub on : Each GoesOn vs
   pub count : now ≡ before
@@ -146,10 +148,10 @@ pub record GoneOn {X : Type 0} (vs : List (Visit X)) (n : ℕ) (before now : ℕ
 pub gone_none : {X : Type 0} (before : ℕ) → GoneOn {X = X} [] 0 before before
 gone_none before = record { size = refl; on = tt; count = refl }
 
-pub gone_more : {X : Type 0} (r : Option Stop) (vs ws : List (Visit X)) (n : ℕ) (ended : Bool) (start before now : ℕ) → r ≡ None → GoneOn vs n start before → MayStopBy r ws ended before now → GoneOn (vs ++ ws) (n + 1) start now
+pub gone_more : {X : Type 0} (r : Option Stop) (vs ws : List (ServedConnection X)) (n : ℕ) (ended : Bool) (start before now : ℕ) → r ≡ None → GoneOn vs n start before → MayStopBy r ws ended before now → GoneOn (vs ++ ws) (n + 1) start now
 gone_more {X = X} r vs ws n ended start before now is g m =
     let one : MayStopBy None ws ended before now = subst (λ (o : Option Stop). MayStopBy o ws ended before now) is m in
     record { size = omega (arith, length-append vs ws, one.0, g.size); on = each_both GoesOn vs ws g.on one.1; count = one.2 ∙ g.count }
 
-pub gone_enough : {X : Type 0} (vs : List (Visit X)) (n most : ℕ) (ended : Bool) (before now : ℕ) → n ≡ most → GoneOn vs n before now → StopsBy Enough most vs ended before now
+pub gone_enough : {X : Type 0} (vs : List (ServedConnection X)) (n most : ℕ) (ended : Bool) (before now : ℕ) → n ≡ most → GoneOn vs n before now → StopsBy Enough most vs ended before now
 gone_enough vs n most ended before now all g = record { few = omega (arith, g.size, all); cause = (g.size ∙ all, g.on); faults = g.count }

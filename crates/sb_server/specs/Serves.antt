@@ -3,6 +3,8 @@ use Rattle.std.specs.Prelude.{◌≡◌, ◌⊎◌, ℕ, List, [], ◌∷◌, �
 use Rattle.std.specs.List.{list_all, list_any}
 use Rattle.sb_desk.specs.Desks.{Open, Sitting, IsOf}
 use Rattle.sb_desk.specs.Lists.{Each}
+use Rattle.sb_outside.specs.declared.conn.Conn.{Ghosts as Conn}
+use Rattle.sb_outside.specs.declared.door.Door.{Ghosts as Door}
 use Rattle.sb_rest.specs.declared.access.Access.{Access}
 use Rattle.sb_server.specs.declared.limits.Limits.{Limits}
 use Rattle.sb_server.specs.declared.ending.ServeEnding.{ServeEnding}
@@ -15,7 +17,7 @@ use Rattle.sb_server.specs.declared.work.Stop.{Stop}
 use Rattle.sb_server.specs.declared.work.Stop.TheVariants.{Fault, Stopped, OutOfMemory as NoMemory}
 use Rattle.sb_server.specs.Doings.{sitting_of}
 use Rattle.sb_server.specs.Stages.{IsAt, IsSound, stop_at, is_over}
-use Rattle.sb_server.specs.Works.{Visit, Works, StopsBy, is_stop}
+use Rattle.sb_server.specs.Works.{ServedConnection, DoorServed, StopsBy, is_stop}
 
 -- a worker: its pass and its door, before and after it worked, and why it ended
 pub record Worker (D : Type 0) : Type 0 where
@@ -25,13 +27,14 @@ pub record Worker (D : Type 0) : Type 0 where
   pub door_after : D
   pub stop : Stop
 
--- What a worker did. It stopped with the namespace only where its pass has seen that.
-pub record Working {D X : Type 0} (ServesOne : Sitting → Visit X → Sitting → Type 0) (waiting taken : D → Option (List X)) (ended : D → Bool) (count out : D → ℕ) (desk : Open) (most : ℕ) (w : Worker D) : Type 0 where
+-- What a worker did: it served connections of its door so, one after the other. It stopped with the namespace only where its pass has
+-- seen that.
+pub record WorkerDid {D X : Type 0} (door : Door D X) (ServedSo : Sitting → ServedConnection X → Sitting → Type 0) (desk : Open) (most : ℕ) (w : Worker D) : Type 0 where
   pub of : IsOf desk w.pass_after
-  pub visits : List (Visit X)
-  pub works : Works ServesOne w.pass (waiting w.door) (taken w.door) w.pass_after (waiting w.door_after) (taken w.door_after) visits
-  pub stops : StopsBy w.stop most visits (ended w.door_after) (count w.door) (count w.door_after)
-  pub out_is : out w.door_after ≡ out w.door
+  pub connections : List (ServedConnection X)
+  pub served : DoorServed door ServedSo w.pass w.door w.pass_after w.door_after connections
+  pub stops : StopsBy w.stop most connections (door.ended w.door_after) (door.count w.door) (door.count w.door_after)
+  pub out_is : door.out w.door_after ≡ door.out w.door
   pub stopped : w.stop ≡ Stopped → list_any is_stop w.pass_after.seen ≡ true
 
 -- ---- one job
@@ -44,7 +47,7 @@ pub record HasPass {D X : Type 0} (desk : Open) (most : ℕ) (job : Job D X) : T
   pub fresh : job.stage ≡ Wants most
 
 -- its worker did this
-pub record Did {D X : Type 0} (Works : Worker D → Type 0) (old new : Job D X) : Type 0 where
+pub record Did {D X : Type 0} (WorkedSo : Worker D → Type 0) (old new : Job D X) : Type 0 where
   pub worker : Worker D
   pub had : old.seat ≡ Some (Free worker.pass)
   pub at : old.door ≡ worker.door
@@ -52,7 +55,7 @@ pub record Did {D X : Type 0} (Works : Worker D → Type 0) (old new : Job D X) 
   pub left : new.door ≡ worker.door_after
   pub stop : new.stop ≡ worker.stop
   pub over : is_over new.stage ≡ true
-  pub does : Works worker
+  pub does : WorkedSo worker
 
 -- a worker that goes on: a pass of the desk, or a call that is posted with one, and its door's connection where it has one
 pub record IsAtWork {D X : Type 0} (out : D → ℕ) (desk : Open) (job : Job D X) : Type 0 where
@@ -62,12 +65,12 @@ pub record IsAtWork {D X : Type 0} (out : D → ℕ) (desk : Open) (job : Job D 
   pub sound : IsSound seat job.stage (out job.door)
 
 -- a worker as far as it has come, from how it began
-pub record HasCome {D X : Type 0} (IsReading : ℕ → Type 0) (access : Access) (limits : Limits) (there given : X → Option (List ℕ)) (reads writes : X → ℕ) (waiting taken : D → Option (List X)) (ended : D → Bool) (count out : D → ℕ) (most : ℕ) (began now : Job D X) : Type 0 where
+pub record HasCome {D X : Type 0} (door : Door D X) (conn : Conn X) (IsReading : ℕ → Type 0) (access : Access) (limits : Limits) (most : ℕ) (began now : Job D X) : Type 0 where
   pub pass : Sitting
   pub seat : Seat
   pub had : began.seat ≡ Some (Free pass)
   pub has : now.seat ≡ Some seat
-  pub at : IsAt IsReading access limits there given reads writes waiting taken ended count out most pass began.door seat now.door now.stage
+  pub at : IsAt door conn IsReading access limits most pass began.door seat now.door now.stage
   pub stop_is : now.stop ≡ stop_at now.stage now.stop
 
 -- each worker is over
@@ -117,17 +120,17 @@ abbrev pub serve_ending : List Stop → ServeEnding
 serve_ending stops = if list_any is_fault stops then DoorFault else (if list_any is_lost stops then OutOfMemory else Done)
 
 -- Each door had a worker with a pass of its own; the passes before these stayed as they were.
-pub record Served {D : Type 0} (Works : Worker D → Type 0) (passes passes_after : List Sitting) (doors doors_after : List D) (ending : ServeEnding) : Type 0 where
+pub record AllServed {D : Type 0} (WorkedSo : Worker D → Type 0) (passes passes_after : List Sitting) (doors doors_after : List D) (ending : ServeEnding) : Type 0 where
   pub spare : List Sitting
   pub workers : List (Worker D)
   pub passes_are : passes ≡ spare ++ map (λ w. w.pass) workers
   pub passes_then : passes_after ≡ spare ++ map (λ w. w.pass_after) workers
   pub doors_are : doors ≡ map (λ w. w.door) workers
   pub doors_then : doors_after ≡ map (λ w. w.door_after) workers
-  pub each : Each Works workers
+  pub each : Each WorkedSo workers
   pub ending_is : ending ≡ serve_ending (map (λ w. w.stop) workers)
 
 -- all were served, or there was no memory to begin
-abbrev pub Serving : {D : Type 0} → (Worker D → Type 0) → List Sitting → List Sitting → List D → List D → ServeEnding → Type 0
-Serving Works passes passes_after doors doors_after ending =
-    Served Works passes passes_after doors doors_after ending ⊎ ((ending ≡ OutOfMemory) × (passes_after ≡ passes) × (doors_after ≡ doors))
+abbrev pub AllServedOrNone : {D : Type 0} → (WorkedSo : Worker D → Type 0) → (passes passes_after : List Sitting) → (doors doors_after : List D) → ServeEnding → Type 0
+AllServedOrNone WorkedSo passes passes_after doors doors_after ending =
+    AllServed WorkedSo passes passes_after doors doors_after ending ⊎ ((ending ≡ OutOfMemory) × (passes_after ≡ passes) × (doors_after ≡ doors))

@@ -4,6 +4,8 @@ use Rattle.sb_desk.specs.Desks.{Sitting}
 use Rattle.sb_desk.specs.Lists.{Each}
 use Rattle.sb_outside.specs.Doors.{GivesInOrder}
 use Rattle.sb_outside.specs.Streams.{Stays}
+use Rattle.sb_outside.specs.declared.conn.Conn.{Ghosts as Conn}
+use Rattle.sb_outside.specs.declared.door.Door.{Ghosts as Door}
 use Rattle.sb_outside.specs.declared.door.Given.TheVariants.{One}
 use Rattle.sb_rest.specs.declared.access.Access.{Access}
 use Rattle.sb_server.specs.declared.limits.Limits.{Limits}
@@ -13,10 +15,9 @@ use Rattle.sb_server.specs.declared.stage.Stage.{Stage}
 use Rattle.sb_server.specs.declared.stage.Stage.TheVariants.{Wants, Serves, Over}
 use Rattle.sb_server.specs.declared.work.Stop.{Stop}
 use Rattle.sb_server.specs.Doings.{IsDoingAt, IsFree, IsInOrderAt, sitting_of}
-use Rattle.sb_server.specs.Reads.{stand_of}
-use Rattle.sb_server.specs.Talks.{Start, Here}
+use Rattle.sb_server.specs.Talks.{Here, here_with, start_of}
 use Rattle.sb_server.specs.Times.{IsSince}
-use Rattle.sb_server.specs.Works.{Visit, Works, ServesBy, GoesOn, StopsBy}
+use Rattle.sb_server.specs.Works.{ServedConnection, DoorServed, ConnectionServed, GoesOn, StopsBy}
 
 -- a worker that has a connection has it of its door, and the call of what waits is in order; one that has none has posted nothing
 abbrev pub IsSound : {X : Type 0} → Seat → Stage X → ℕ → Type 0
@@ -47,51 +48,44 @@ is_over (Over stop) = true
 is_over (Wants left) = false
 is_over (Serves left guest) = false
 
--- of a connection: what it has left, what it was given, and its counts of faults
-module _ {X : Type 0} (there given : X → Option (List ℕ)) (reads writes : X → ℕ) where
-  -- how a connection began
-  abbrev pub start_of : Access → Limits → Sitting → X → Start
-  start_of access limits pass conn = record { access = access; limits = limits; pass = pass; there = there conn; given = given conn; reads = reads conn; writes = writes conn }
+-- where the connection stands that is being served
+abbrev pub here_of : {X : Type 0} → Conn X → Sitting → Guest X → Here
+here_of conn pass guest = here_with conn pass guest.inbox guest.conn
 
-  -- where it stands
-  abbrev pub here_of : Sitting → Guest X → Here
-  here_of pass guest = record { pass = pass; stand = stand_of guest.inbox (there guest.conn); written = given guest.conn; reads = reads guest.conn; writes = writes guest.conn }
-
--- The same, within limits of time by a clock that may read what `IsReading` holds of, and of a door: the connections that it has left and that it took back, whether it has ended, its count of
--- faults, and how many connections are out. A worker serves `most` of them; it began with the pass p at the door d.
-module _ {D X : Type 0} (IsReading : ℕ → Type 0) (access : Access) (limits : Limits) (there given : X → Option (List ℕ)) (reads writes : X → ℕ) (waiting taken : D → Option (List X)) (ended : D → Bool) (count out : D → ℕ) (most : ℕ) (p : Sitting) (d : D) where
+-- By the ghost values of a door and of its connections, within limits of time by a clock that may read what `IsReading` holds of: a
+-- worker serves `most` connections; it began with the pass p at the door d.
+module _ {D X : Type 0} (door : Door D X) (conn : Conn X) (IsReading : ℕ → Type 0) (access : Access) (limits : Limits) (most : ℕ) (p : Sitting) (d : D) where
   -- it wants a connection: these were served, one after the other, and it goes on behind each
   pub record IsWanting (q : Sitting) (e : D) (left : ℕ) : Type 0 where
-    pub visits : List (Visit X)
-    pub works : Works (ServesBy IsReading access limits there given reads writes) p (waiting d) (taken d) q (waiting e) (taken e) visits
-    pub on : Each GoesOn visits
-    pub few : length visits + left ≡ most
-    pub count_is : count e ≡ count d
-    pub out_is : out e ≡ out d
+    pub connections : List (ServedConnection X)
+    pub served : DoorServed door (ConnectionServed conn IsReading access limits) p d q e connections
+    pub on : Each GoesOn connections
+    pub few : length connections + left ≡ most
+    pub count_is : door.count e ≡ door.count d
+    pub out_is : door.out e ≡ door.out d
 
-  -- it serves a connection, the first of those that the door had left behind these
+  -- it serves a connection, the first of those that the door had left behind these, as it stood then (`before`)
   pub record IsServing (seat : Seat) (e : D) (left : ℕ) (guest : Guest X) : Type 0 where
-    pub visits : List (Visit X)
+    pub connections : List (ServedConnection X)
     pub mid : Sitting
-    pub waited : Option (List X)
-    pub given_back : Option (List X)
-    pub conn : X
-    pub works : Works (ServesBy IsReading access limits there given reads writes) p (waiting d) (taken d) mid waited given_back visits
-    pub gives : GivesInOrder waited (waiting e) (One conn)
-    pub stays : Stays given_back (taken e)
-    pub on : Each GoesOn visits
-    pub few : length visits + left + 1 ≡ most
-    pub count_is : count e ≡ count d
-    pub out_is : out e ≡ out d + 1
-    pub doing : IsDoingAt IsReading (start_of there given reads writes access limits mid conn) (here_of there given reads writes (sitting_of seat) guest) seat guest.doing
+    pub before : D
+    pub first : X
+    pub served : DoorServed door (ConnectionServed conn IsReading access limits) p d mid before connections
+    pub gives : GivesInOrder (door.left before) (door.left e) (One first)
+    pub stays : Stays (door.taken before) (door.taken e)
+    pub on : Each GoesOn connections
+    pub few : length connections + left + 1 ≡ most
+    pub count_is : door.count e ≡ door.count d
+    pub out_is : door.out e ≡ door.out d + 1
+    pub doing : IsDoingAt IsReading (start_of conn access limits mid first) (here_of conn (sitting_of seat) guest) seat guest.doing
     pub since : IsSince IsReading guest.since
 
   -- it is over
   pub record IsOver (q : Sitting) (e : D) (stop : Stop) : Type 0 where
-    pub visits : List (Visit X)
-    pub works : Works (ServesBy IsReading access limits there given reads writes) p (waiting d) (taken d) q (waiting e) (taken e) visits
-    pub stops : StopsBy stop most visits (ended e) (count d) (count e)
-    pub out_is : out e ≡ out d
+    pub connections : List (ServedConnection X)
+    pub served : DoorServed door (ConnectionServed conn IsReading access limits) p d q e connections
+    pub stops : StopsBy stop most connections (door.ended e) (door.count d) (door.count e)
+    pub out_is : door.out e ≡ door.out d
 
   -- it is where its stage says, over this door with this pass, or with a call that is posted with it
   abbrev pub IsAt : Seat → D → Stage X → Type 0

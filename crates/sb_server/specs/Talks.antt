@@ -4,6 +4,7 @@ use Rattle.sb_machine.specs.declared.history.Entry.{Entry}
 use Rattle.sb_desk.specs.Desks.{Sitting}
 use Rattle.sb_outside.specs.Causes.{Rose}
 use Rattle.sb_outside.specs.Streams.{Gains, GainsPart}
+use Rattle.sb_outside.specs.declared.conn.Conn.{Ghosts as Conn}
 use Rattle.sb_http.specs.declared.fault.HttpFault.{HttpFault}
 use Rattle.sb_http.specs.declared.fault.HttpFault.TheVariants.{BadHead as HeadBad, HeadTooLarge as HeadLarge, BodyTooLarge as BodyLarge}
 use Rattle.sb_http.specs.declared.response.Status.{Status}
@@ -14,12 +15,13 @@ use Rattle.sb_http.specs.Responses.{ResponseMessage, response_bytes}
 use Rattle.sb_http.specs.Stages.{whole, held}
 use Rattle.sb_http.specs.Streams.{Requests}
 use Rattle.sb_rest.specs.declared.access.Access.{Access}
+use Rattle.sb_server.specs.declared.inbox.Inbox.{Inbox}
 use Rattle.sb_server.specs.declared.limits.Limits.{Limits}
 use Rattle.sb_server.specs.declared.telling.Turn.{Turn}
 use Rattle.sb_server.specs.declared.telling.Turn.TheVariants.{Goes, Closes, Stops}
 use Rattle.sb_server.specs.declared.ending.Ending.{Ending}
 use Rattle.sb_server.specs.declared.ending.Ending.TheVariants.{Closed, BadHead, HeadTooLarge, BodyTooLarge, Truncated, LongConnection, ReadFault, Gone, WriteFault, Slow, Stopped, OutOfMemory}
-use Rattle.sb_server.specs.Reads.{Stand, HasRead, IsDone, NeedsMore}
+use Rattle.sb_server.specs.Reads.{Stand, HasRead, IsDone, NeedsMore, stand_of}
 use Rattle.sb_server.specs.Responds.{GivenUp, Responds}
 use Rattle.sb_server.specs.Times.{Passed, with_bytes}
 use Rattle.sb_server.specs.Waiting.{GoesBy}
@@ -42,6 +44,18 @@ pub record Here : Type 0 where
   pub written : Option (List ℕ)
   pub reads : ℕ
   pub writes : ℕ
+
+-- how a connection began, by its ghost values
+abbrev pub start_of : {X : Type 0} → Conn X → Access → Limits → Sitting → X → Start
+start_of conn access limits pass c = record { access = access; limits = limits; pass = pass; there = conn.left c; given = conn.given c; reads = conn.reads c; writes = conn.writes c }
+
+-- where one stands that was read so far
+abbrev pub here_at : {X : Type 0} → Conn X → Sitting → Stand → X → Here
+here_at conn pass stand c = record { pass = pass; stand = stand; written = conn.given c; reads = conn.reads c; writes = conn.writes c }
+
+-- where one stands with what came of it and wasn't fed yet
+abbrev pub here_with : {X : Type 0} → Conn X → Sitting → Inbox → X → Here
+here_with conn pass inbox c = here_at conn pass (stand_of inbox (conn.left c)) c
 
 -- A connection as far as it has come: the requests taken of the bytes that were fed, the entries of their calls, all
 -- their responses, which were written, and how it goes on.

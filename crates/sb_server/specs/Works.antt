@@ -7,6 +7,8 @@ use Rattle.sb_desk.specs.Desks.{Sitting}
 use Rattle.sb_desk.specs.Lists.{Each}
 use Rattle.sb_outside.specs.Causes.{Rose}
 use Rattle.sb_outside.specs.Streams.{Gains}
+use Rattle.sb_outside.specs.declared.conn.Conn.{Ghosts as Conn}
+use Rattle.sb_outside.specs.declared.door.Door.{Ghosts as Door}
 use Rattle.sb_rest.specs.declared.access.Access.{Access}
 use Rattle.sb_server.specs.declared.limits.Limits.{Limits}
 use Rattle.sb_server.specs.declared.ending.Ending.{Ending}
@@ -14,34 +16,32 @@ use Rattle.sb_server.specs.declared.ending.Ending.TheVariants.{Closed, BadHead, 
 use Rattle.sb_server.specs.declared.work.Stop.{Stop}
 use Rattle.sb_server.specs.declared.work.Stop.TheVariants.{Enough, Ended, Fault, Stopped, OutOfMemory}
 use Rattle.sb_server.specs.Reads.{Stand, IsReadTo}
-use Rattle.sb_server.specs.Talks.{Ends}
+use Rattle.sb_server.specs.Talks.{Ends, here_at, start_of}
 
--- a connection that was served: as it was given, and as it was taken back
-pub record Visit (X : Type 0) : Type 0 where
+-- a connection that was served: as it was given, as it was taken back, and how it ended
+pub record ServedConnection (X : Type 0) : Type 0 where
   pub before : X
   pub after : X
   pub ending : Ending
 
--- the connection was served with this pass within these limits of time, by a clock that may read what `IsReading` holds of,
--- and it has left what wasn't read of it
-abbrev pub ServesBy : {X : Type 0} → (ℕ → Type 0) → Access → Limits → (X → Option (List ℕ)) → (X → Option (List ℕ)) → (X → ℕ) → (X → ℕ) → Sitting → Visit X → Sitting → Type 0
-ServesBy IsReading access limits there given reads writes p v q = (stand : Stand)
-    × IsReadTo stand (there v.after)
-    × Ends IsReading (record { access = access; limits = limits; pass = p; there = there v.before; given = given v.before; reads = reads v.before; writes = writes v.before })
-    (record { pass = q; stand = stand; written = given v.after; reads = reads v.after; writes = writes v.after }) v.ending
+-- It was served with this pass within these limits of time, by a clock that may read what `IsReading` holds of,
+-- and it has left what wasn't read of it.
+abbrev pub ConnectionServed : {X : Type 0} → Conn X → (IsReading : ℕ → Type 0) → Access → Limits → Sitting → ServedConnection X → Sitting → Type 0
+ConnectionServed conn IsReading access limits p v q =
+    (stand : Stand) × IsReadTo stand (conn.left v.after) × Ends IsReading (start_of conn access limits p v.before) (here_at conn q stand v.after) v.ending
 
 -- connections were served one after the other, from pass to pass
-abbrev pub Worked : {X : Type 0} → (Sitting → Visit X → Sitting → Type 0) → Sitting → List (Visit X) → Sitting → Type 0
-Worked Serves p [] q = q ≡ p
-Worked Serves p (v ∷ vs) q = (mid : Sitting) × Serves p v mid × Worked Serves mid vs q
+abbrev pub ServedInTurn : {X : Type 0} → (Sitting → ServedConnection X → Sitting → Type 0) → Sitting → List (ServedConnection X) → Sitting → Type 0
+ServedInTurn ServedSo p [] q = q ≡ p
+ServedInTurn ServedSo p (v ∷ vs) q = (mid : Sitting) × ServedSo p v mid × ServedInTurn ServedSo mid vs q
 
 -- what each was before
-abbrev pub befores : {X : Type 0} → List (Visit X) → List X
+abbrev pub befores : {X : Type 0} → List (ServedConnection X) → List X
 befores [] = []
 befores (v ∷ vs) = v.before ∷ befores vs
 
 -- what was left of each
-abbrev pub afters : {X : Type 0} → List (Visit X) → List X
+abbrev pub afters : {X : Type 0} → List (ServedConnection X) → List X
 afters [] = []
 afters (v ∷ vs) = v.after ∷ afters vs
 
@@ -50,11 +50,11 @@ abbrev pub HasGiven : {X : Type 0} → Option (List X) → List X → Option (Li
 HasGiven None given after = Unit {0}
 HasGiven (Some before) given after = (rest : List _) × (after ≡ Some rest) × (before ≡ given ++ rest)
 
--- These connections were served, one after the other, and taken back.
-pub record Works {X : Type 0} (Serves : Sitting → Visit X → Sitting → Type 0) (p : Sitting) (waiting taken : Option (List X)) (q : Sitting) (waiting_after taken_after : Option (List X)) (vs : List (Visit X)) : Type 0 where
-  pub worked : Worked Serves p vs q
-  pub gave : HasGiven waiting (befores vs) waiting_after
-  pub took : Gains taken taken_after (afters vs)
+-- These connections of a door were served so, one after the other, and taken back.
+pub record DoorServed {D X : Type 0} (door : Door D X) (ServedSo : Sitting → ServedConnection X → Sitting → Type 0) (p : Sitting) (d : D) (q : Sitting) (e : D) (vs : List (ServedConnection X)) : Type 0 where
+  pub in_turn : ServedInTurn ServedSo p vs q
+  pub gave : HasGiven (door.left d) (befores vs) (door.left e)
+  pub took : Gains (door.taken d) (door.taken e) (afters vs)
 
 -- whether a worker ends behind a connection that ended so
 abbrev pub stop_of : Ending → Option Stop
@@ -72,15 +72,15 @@ stop_of WriteFault = None
 stop_of Slow = None
 
 -- a worker goes on behind it
-abbrev pub GoesOn : {X : Type 0} → Visit X → Type 0
+abbrev pub GoesOn : {X : Type 0} → ServedConnection X → Type 0
 GoesOn v = stop_of v.ending ≡ None
 
 -- the last one ended so, and none before it ended the worker
-abbrev pub EndsAt : {X : Type 0} → List (Visit X) → Ending → Type 0
-EndsAt vs ending = (front : List (Visit _)) × (v : Visit _) × (vs ≡ front ++ v ∷ []) × (v.ending ≡ ending) × Each GoesOn front
+abbrev pub EndsAt : {X : Type 0} → List (ServedConnection X) → Ending → Type 0
+EndsAt vs ending = (front : List (ServedConnection _)) × (v : ServedConnection _) × (vs ≡ front ++ v ∷ []) × (v.ending ≡ ending) × Each GoesOn front
 
 -- why a worker ends
-abbrev pub IsCause : {X : Type 0} → Stop → ℕ → List (Visit X) → Bool → Type 0
+abbrev pub IsCause : {X : Type 0} → Stop → ℕ → List (ServedConnection X) → Bool → Type 0
 IsCause Enough most vs ended = (length vs ≡ most) × Each GoesOn vs
 IsCause Ended most vs ended = (ended ≡ true) × Each GoesOn vs
 IsCause Fault most vs ended = Each GoesOn vs
@@ -96,7 +96,7 @@ TellsFault Stopped before now = now ≡ before
 TellsFault OutOfMemory before now = now ≡ before
 
 -- a worker that serves so many connections at most ends so
-pub record StopsBy {X : Type 0} (stop : Stop) (most : ℕ) (vs : List (Visit X)) (ended : Bool) (before now : ℕ) : Type 0 where
+pub record StopsBy {X : Type 0} (stop : Stop) (most : ℕ) (vs : List (ServedConnection X)) (ended : Bool) (before now : ℕ) : Type 0 where
   pub few : length vs ≤ most
   pub cause : IsCause stop most vs ended
   pub faults : TellsFault stop before now
@@ -107,6 +107,6 @@ is_stop (Ticked seat t) = false
 is_stop (Replied seat reading call answer) = stops answer
 
 -- behind one connection it goes on, or it ends, then or before it had one
-abbrev pub MayStopBy : {X : Type 0} → Option Stop → List (Visit X) → Bool → ℕ → ℕ → Type 0
+abbrev pub MayStopBy : {X : Type 0} → Option Stop → List (ServedConnection X) → Bool → ℕ → ℕ → Type 0
 MayStopBy None vs ended before now = (length vs ≡ 1) × Each GoesOn vs × (now ≡ before)
 MayStopBy (Some stop) vs ended before now = (stop ≢ Enough) × StopsBy stop 1 vs ended before now

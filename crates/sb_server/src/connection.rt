@@ -1,8 +1,7 @@
 // A connection, request by request.
 ghost use Rattle.std.specs.Prelude.{◌≡◌};
 ghost use Rattle.sb_desk.specs.Desks.{IsOf};
-ghost use Rattle.sb_server.specs.Reads.{IsReadTo, Stand};
-ghost use Rattle.sb_server.specs.Talks as talks;
+ghost use Rattle.sb_server.specs.Works.{ConnectionServed};
 
 use crate::doing::{Doing, Went};
 use crate::ending::Ending;
@@ -32,8 +31,7 @@ pub fn serve_connection<V: Served, R: Wait, C: Clock, N: Conn>(
     conn: &mut N,
 ) -> (Pass, Ending)
     requires { IsOf desk.now pass }
-    ensures ends { (stand : Stand) × IsReadTo stand (N.left conn.new) × talks.Ends (C.reads clock.now) (record { access = access.now; limits = limits; pass = pass; there = N.left conn.old; given = N.given conn.old; reads = N.reads conn.old; writes = N.writes conn.old })
-        (record { pass = result.0; stand = stand; written = N.given conn.new; reads = N.reads conn.new; writes = N.writes conn.new }) result.1 }
+    ensures ends { ConnectionServed N.Conn (C.reads clock.now) access.now limits pass (record { before = conn.old; after = conn.new; ending = result.1 }) result.0 }
     ensures desk { IsOf desk.now result.0 }
 {
     let Ok(mut inbox) = Inbox::new(alloc) else {

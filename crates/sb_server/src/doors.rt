@@ -3,8 +3,8 @@ ghost use Rattle.std.specs.Prelude.{◌≡◌, ◌≤◌, ◌<◌, ℕ, true, Al
 ghost use Rattle.sb_desk.specs.Desks.{IsOf};
 ghost use Rattle.sb_desk.specs.Lists.{Each};
 ghost use Rattle.sb_server.specs.declared.doors.Round.TheVariants.{AllOver};
-ghost use Rattle.sb_server.specs.Works.{ServesBy};
-ghost use Rattle.sb_server.specs.Serves.{HasPass, Did, IsAtWork, HasCome, Working, Serving, are_over};
+ghost use Rattle.sb_server.specs.Works.{ConnectionServed};
+ghost use Rattle.sb_server.specs.Serves.{HasPass, Did, IsAtWork, HasCome, WorkerDid, AllServedOrNone, are_over};
 ghost use Rattle.sb_server.specs.Stages.{is_over};
 
 use crate::arrivals::tell;
@@ -56,7 +56,7 @@ where
     D::Conn: Send,
     requires enough { length doors.old.items ≤ length passes.old.items }
     requires desk { Each (IsOf desk.now) passes.old.items }
-    ensures serves { Serving (Working (ServesBy (C.reads clock.now) access.now limits D.Conn.left D.Conn.given D.Conn.reads D.Conn.writes) D.left D.taken D.ended D.count D.out desk.now most) passes.old.items passes.new.items doors.old.items doors.new.items result }
+    ensures serves { AllServedOrNone (WorkerDid D.Door (ConnectionServed D.Conn.Conn (C.reads clock.now) access.now limits) desk.now most) passes.old.items passes.new.items doors.old.items doors.new.items result }
     ensures desk { (length passes.new.items ≡ length passes.old.items) × Each (IsOf desk.now) passes.new.items }
 {
     begins(desk, clock, lobby, doors.len());
@@ -111,7 +111,7 @@ where
     D::Conn: Send,
     requires { All (λ j. HasPass desk.now most j) jobs.old }
     ensures { (i : ℕ) (d : Job D D.Conn) → i < length jobs.old
-        → Did (Working (ServesBy (C.reads clock.now) access.now limits D.Conn.left D.Conn.given D.Conn.reads D.Conn.writes) D.left D.taken D.ended D.count D.out desk.now most) (slice_index_or jobs.old i d) (slice_index_or jobs.new i d) }
+        → Did (WorkerDid D.Door (ConnectionServed D.Conn.Conn (C.reads clock.now) access.now limits) desk.now most) (slice_index_or jobs.old i d) (slice_index_or jobs.new i d) }
 {
     for_each_chunk_mut(
         rt,
@@ -120,7 +120,7 @@ where
         &|first: usize, share: &mut [Job<D, D::Conn>]|
             requires { All (λ j. IsAtWork D.out desk.now j) share.now }
             ensures { (most i : ℕ) (d : Job D D.Conn) → i < length share.entry.now → HasPass desk.entry.now most (slice_index_or share.entry.now i d)
-                → Did (Working (ServesBy (C.reads clock.entry.now) access.entry.now limits D.Conn.left D.Conn.given D.Conn.reads D.Conn.writes) D.left D.taken D.ended D.count D.out desk.entry.now most) (slice_index_or share.entry.now i d) (slice_index_or share.exit.now i d) }
+                → Did (WorkerDid D.Door (ConnectionServed D.Conn.Conn (C.reads clock.entry.now) access.entry.now limits) desk.entry.now most) (slice_index_or share.entry.now i d) (slice_index_or share.exit.now i d) }
         {
             serve_share(
                 rt, alloc, routes, access, limits, desk, clock, lobby, first, share,
@@ -145,7 +145,7 @@ fn serve_share<V: Served, R: Wait, C: Clock, L: Lobby, D: Door>(
 )
     requires { All (λ j. IsAtWork D.out desk.now j) jobs.old }
     ensures { (most i : ℕ) (d : Job D D.Conn) → i < length jobs.old → HasPass desk.now most (slice_index_or jobs.old i d)
-        → Did (Working (ServesBy (C.reads clock.now) access.now limits D.Conn.left D.Conn.given D.Conn.reads D.Conn.writes) D.left D.taken D.ended D.count D.out desk.now most) (slice_index_or jobs.old i d) (slice_index_or jobs.new i d) }
+        → Did (WorkerDid D.Door (ConnectionServed D.Conn.Conn (C.reads clock.now) access.now limits) desk.now most) (slice_index_or jobs.old i d) (slice_index_or jobs.new i d) }
 {
     // At which reading a worker is looked at again, at the least; 0 where all are to be looked at.
     let mut soonest = 0;
@@ -229,8 +229,8 @@ fn go_round<V: Served, R: Wait, C: Clock, L: Lobby, D: Door>(
     requires { All (λ j. IsAtWork D.out desk.now j) jobs.old }
     ensures work { All (λ j. IsAtWork D.out desk.now j) jobs.new }
     ensures come { (most : ℕ) (began : Job D D.Conn) (i : ℕ) (d : Job D D.Conn) → i < length jobs.old
-        → HasCome (C.reads clock.now) access.now limits D.Conn.left D.Conn.given D.Conn.reads D.Conn.writes D.left D.taken D.ended D.count D.out most began (slice_index_or jobs.old i d)
-        → HasCome (C.reads clock.now) access.now limits D.Conn.left D.Conn.given D.Conn.reads D.Conn.writes D.left D.taken D.ended D.count D.out most began (slice_index_or jobs.new i d) }
+        → HasCome D.Door D.Conn.Conn (C.reads clock.now) access.now limits most began (slice_index_or jobs.old i d)
+        → HasCome D.Door D.Conn.Conn (C.reads clock.now) access.now limits most began (slice_index_or jobs.new i d) }
     ensures over { result ≡ AllOver → All (λ j. is_over j.stage ≡ true) jobs.new }
 {
     let now = reading_for(clock, soonest);
@@ -279,8 +279,8 @@ fn look<V: Served, R: Wait, C: Clock, L: Lobby, D: Door>(
     requires { All (λ j. IsAtWork D.out desk.now j) jobs.old }
     ensures work { All (λ j. IsAtWork D.out desk.now j) jobs.new }
     ensures come { (most : ℕ) (began : Job D D.Conn) (i : ℕ) (d : Job D D.Conn) → i < length jobs.old
-        → HasCome (C.reads clock.now) access.now limits D.Conn.left D.Conn.given D.Conn.reads D.Conn.writes D.left D.taken D.ended D.count D.out most began (slice_index_or jobs.old i d)
-        → HasCome (C.reads clock.now) access.now limits D.Conn.left D.Conn.given D.Conn.reads D.Conn.writes D.left D.taken D.ended D.count D.out most began (slice_index_or jobs.new i d) }
+        → HasCome D.Door D.Conn.Conn (C.reads clock.now) access.now limits most began (slice_index_or jobs.old i d)
+        → HasCome D.Door D.Conn.Conn (C.reads clock.now) access.now limits most began (slice_index_or jobs.new i d) }
 {
     if now < soonest {
         let looked = drain(
@@ -319,8 +319,8 @@ fn sweep<V: Served, R: Wait, C: Clock, L: Lobby, D: Door>(
     requires { All (λ j. IsAtWork D.out desk.now j) jobs.old }
     ensures work { All (λ j. IsAtWork D.out desk.now j) jobs.new }
     ensures come { (most : ℕ) (began : Job D D.Conn) (i : ℕ) (d : Job D D.Conn) → i < length jobs.old
-        → HasCome (C.reads clock.now) access.now limits D.Conn.left D.Conn.given D.Conn.reads D.Conn.writes D.left D.taken D.ended D.count D.out most began (slice_index_or jobs.old i d)
-        → HasCome (C.reads clock.now) access.now limits D.Conn.left D.Conn.given D.Conn.reads D.Conn.writes D.left D.taken D.ended D.count D.out most began (slice_index_or jobs.new i d) }
+        → HasCome D.Door D.Conn.Conn (C.reads clock.now) access.now limits most began (slice_index_or jobs.old i d)
+        → HasCome D.Door D.Conn.Conn (C.reads clock.now) access.now limits most began (slice_index_or jobs.new i d) }
 {
     let these = go_due(
         rt, alloc, routes, access, limits, desk, clock, lobby, first, due, jobs,
@@ -348,8 +348,8 @@ fn go_due<V: Served, R: Wait, C: Clock, L: Lobby, D: Door>(
     requires { All (λ j. IsAtWork D.out desk.now j) jobs.old }
     ensures work { All (λ j. IsAtWork D.out desk.now j) jobs.new }
     ensures come { (most : ℕ) (began : Job D D.Conn) (i : ℕ) (d : Job D D.Conn) → i < length jobs.old
-        → HasCome (C.reads clock.now) access.now limits D.Conn.left D.Conn.given D.Conn.reads D.Conn.writes D.left D.taken D.ended D.count D.out most began (slice_index_or jobs.old i d)
-        → HasCome (C.reads clock.now) access.now limits D.Conn.left D.Conn.given D.Conn.reads D.Conn.writes D.left D.taken D.ended D.count D.out most began (slice_index_or jobs.new i d) }
+        → HasCome D.Door D.Conn.Conn (C.reads clock.now) access.now limits most began (slice_index_or jobs.old i d)
+        → HasCome D.Door D.Conn.Conn (C.reads clock.now) access.now limits most began (slice_index_or jobs.new i d) }
 {
     let mut looked = NOTHING;
     for i in 0..jobs.len() {
@@ -377,8 +377,8 @@ fn collect_all<V: Served, R: Wait, C: Clock, L: Lobby, D: Door>(
     requires { All (λ j. IsAtWork D.out desk.now j) jobs.old }
     ensures work { All (λ j. IsAtWork D.out desk.now j) jobs.new }
     ensures come { (most : ℕ) (began : Job D D.Conn) (i : ℕ) (d : Job D D.Conn) → i < length jobs.old
-        → HasCome (C.reads clock.now) access.now limits D.Conn.left D.Conn.given D.Conn.reads D.Conn.writes D.left D.taken D.ended D.count D.out most began (slice_index_or jobs.old i d)
-        → HasCome (C.reads clock.now) access.now limits D.Conn.left D.Conn.given D.Conn.reads D.Conn.writes D.left D.taken D.ended D.count D.out most began (slice_index_or jobs.new i d) }
+        → HasCome D.Door D.Conn.Conn (C.reads clock.now) access.now limits most began (slice_index_or jobs.old i d)
+        → HasCome D.Door D.Conn.Conn (C.reads clock.now) access.now limits most began (slice_index_or jobs.new i d) }
 {
     let mut looked = NOTHING;
     let count = jobs.len();
@@ -409,8 +409,8 @@ fn drain<V: Served, R: Wait, C: Clock, L: Lobby, D: Door>(
     requires { All (λ j. IsAtWork D.out desk.now j) jobs.old }
     ensures work { All (λ j. IsAtWork D.out desk.now j) jobs.new }
     ensures come { (most : ℕ) (began : Job D D.Conn) (i : ℕ) (d : Job D D.Conn) → i < length jobs.old
-        → HasCome (C.reads clock.now) access.now limits D.Conn.left D.Conn.given D.Conn.reads D.Conn.writes D.left D.taken D.ended D.count D.out most began (slice_index_or jobs.old i d)
-        → HasCome (C.reads clock.now) access.now limits D.Conn.left D.Conn.given D.Conn.reads D.Conn.writes D.left D.taken D.ended D.count D.out most began (slice_index_or jobs.new i d) }
+        → HasCome D.Door D.Conn.Conn (C.reads clock.now) access.now limits most began (slice_index_or jobs.old i d)
+        → HasCome D.Door D.Conn.Conn (C.reads clock.now) access.now limits most began (slice_index_or jobs.new i d) }
 {
     let mut called = [usize::MAX; CALLS_EACH];
     let these = go_called(
@@ -449,8 +449,8 @@ fn go_called<V: Served, R: Wait, C: Clock, L: Lobby, D: Door>(
     requires { All (λ j. IsAtWork D.out desk.now j) jobs.old }
     ensures work { All (λ j. IsAtWork D.out desk.now j) jobs.new }
     ensures come { (most : ℕ) (began : Job D D.Conn) (i : ℕ) (d : Job D D.Conn) → i < length jobs.old
-        → HasCome (C.reads clock.now) access.now limits D.Conn.left D.Conn.given D.Conn.reads D.Conn.writes D.left D.taken D.ended D.count D.out most began (slice_index_or jobs.old i d)
-        → HasCome (C.reads clock.now) access.now limits D.Conn.left D.Conn.given D.Conn.reads D.Conn.writes D.left D.taken D.ended D.count D.out most began (slice_index_or jobs.new i d) }
+        → HasCome D.Door D.Conn.Conn (C.reads clock.now) access.now limits most began (slice_index_or jobs.old i d)
+        → HasCome D.Door D.Conn.Conn (C.reads clock.now) access.now limits most began (slice_index_or jobs.new i d) }
 {
     let mut looked = NOTHING;
     for k in 0..called.len() {
@@ -495,8 +495,8 @@ fn collect_called<V: Served, R: Wait, C: Clock, L: Lobby, D: Door>(
     requires { All (λ j. IsAtWork D.out desk.now j) jobs.old }
     ensures work { All (λ j. IsAtWork D.out desk.now j) jobs.new }
     ensures come { (most : ℕ) (began : Job D D.Conn) (i : ℕ) (d : Job D D.Conn) → i < length jobs.old
-        → HasCome (C.reads clock.now) access.now limits D.Conn.left D.Conn.given D.Conn.reads D.Conn.writes D.left D.taken D.ended D.count D.out most began (slice_index_or jobs.old i d)
-        → HasCome (C.reads clock.now) access.now limits D.Conn.left D.Conn.given D.Conn.reads D.Conn.writes D.left D.taken D.ended D.count D.out most began (slice_index_or jobs.new i d) }
+        → HasCome D.Door D.Conn.Conn (C.reads clock.now) access.now limits most began (slice_index_or jobs.old i d)
+        → HasCome D.Door D.Conn.Conn (C.reads clock.now) access.now limits most began (slice_index_or jobs.new i d) }
 {
     let mut looked = NOTHING;
     for k in 0..called.len() {
@@ -527,8 +527,8 @@ fn go_at<V: Served, R: Wait, C: Clock, L: Lobby, D: Door>(
     requires { All (λ j. IsAtWork D.out desk.now j) jobs.old }
     ensures work { All (λ j. IsAtWork D.out desk.now j) jobs.new }
     ensures come { (most : ℕ) (began : Job D D.Conn) (i : ℕ) (d : Job D D.Conn) → i < length jobs.old
-        → HasCome (C.reads clock.now) access.now limits D.Conn.left D.Conn.given D.Conn.reads D.Conn.writes D.left D.taken D.ended D.count D.out most began (slice_index_or jobs.old i d)
-        → HasCome (C.reads clock.now) access.now limits D.Conn.left D.Conn.given D.Conn.reads D.Conn.writes D.left D.taken D.ended D.count D.out most began (slice_index_or jobs.new i d) }
+        → HasCome D.Door D.Conn.Conn (C.reads clock.now) access.now limits most began (slice_index_or jobs.old i d)
+        → HasCome D.Door D.Conn.Conn (C.reads clock.now) access.now limits most began (slice_index_or jobs.new i d) }
 {
     if i >= jobs.len() {
         return NOTHING;
@@ -566,8 +566,8 @@ fn collect_at<V: Served, R: Wait, C: Clock, L: Lobby, D: Door>(
     requires { All (λ j. IsAtWork D.out desk.now j) jobs.old }
     ensures work { All (λ j. IsAtWork D.out desk.now j) jobs.new }
     ensures come { (most : ℕ) (began : Job D D.Conn) (i : ℕ) (d : Job D D.Conn) → i < length jobs.old
-        → HasCome (C.reads clock.now) access.now limits D.Conn.left D.Conn.given D.Conn.reads D.Conn.writes D.left D.taken D.ended D.count D.out most began (slice_index_or jobs.old i d)
-        → HasCome (C.reads clock.now) access.now limits D.Conn.left D.Conn.given D.Conn.reads D.Conn.writes D.left D.taken D.ended D.count D.out most began (slice_index_or jobs.new i d) }
+        → HasCome D.Door D.Conn.Conn (C.reads clock.now) access.now limits most began (slice_index_or jobs.old i d)
+        → HasCome D.Door D.Conn.Conn (C.reads clock.now) access.now limits most began (slice_index_or jobs.new i d) }
 {
     if i >= jobs.len() {
         return NOTHING;
@@ -603,8 +603,8 @@ fn go_job<V: Served, R: Wait, C: Clock, L: Lobby, D: Door>(
 ) -> Looked
     requires { IsAtWork D.out desk.now job.old }
     ensures work { IsAtWork D.out desk.now job.new }
-    ensures come { (most : ℕ) (began : Job D D.Conn) → HasCome (C.reads clock.now) access.now limits D.Conn.left D.Conn.given D.Conn.reads D.Conn.writes D.left D.taken D.ended D.count D.out most began job.old
-        → HasCome (C.reads clock.now) access.now limits D.Conn.left D.Conn.given D.Conn.reads D.Conn.writes D.left D.taken D.ended D.count D.out most began job.new }
+    ensures come { (most : ℕ) (began : Job D D.Conn) → HasCome D.Door D.Conn.Conn (C.reads clock.now) access.now limits most began job.old
+        → HasCome D.Door D.Conn.Conn (C.reads clock.now) access.now limits most began job.new }
 {
     if due < job.again {
         return unlooked(job.again);
@@ -631,8 +631,8 @@ fn collect_job<V: Served, R: Wait, C: Clock, L: Lobby, D: Door>(
 ) -> Looked
     requires { IsAtWork D.out desk.now job.old }
     ensures work { IsAtWork D.out desk.now job.new }
-    ensures come { (most : ℕ) (began : Job D D.Conn) → HasCome (C.reads clock.now) access.now limits D.Conn.left D.Conn.given D.Conn.reads D.Conn.writes D.left D.taken D.ended D.count D.out most began job.old
-        → HasCome (C.reads clock.now) access.now limits D.Conn.left D.Conn.given D.Conn.reads D.Conn.writes D.left D.taken D.ended D.count D.out most began job.new }
+    ensures come { (most : ℕ) (began : Job D D.Conn) → HasCome D.Door D.Conn.Conn (C.reads clock.now) access.now limits most began job.old
+        → HasCome D.Door D.Conn.Conn (C.reads clock.now) access.now limits most began job.new }
 {
     if !has_posted(job) {
         return NOTHING;
@@ -689,8 +689,8 @@ fn go_far<V: Served, R: Wait, C: Clock, D: Door>(
 ) -> u64
     requires { IsAtWork D.out desk.now job.old }
     ensures work { IsAtWork D.out desk.now job.new }
-    ensures come { (most : ℕ) (began : Job D D.Conn) → HasCome (C.reads clock.now) access.now limits D.Conn.left D.Conn.given D.Conn.reads D.Conn.writes D.left D.taken D.ended D.count D.out most began job.old
-        → HasCome (C.reads clock.now) access.now limits D.Conn.left D.Conn.given D.Conn.reads D.Conn.writes D.left D.taken D.ended D.count D.out most began job.new }
+    ensures come { (most : ℕ) (began : Job D D.Conn) → HasCome D.Door D.Conn.Conn (C.reads clock.now) access.now limits most began job.old
+        → HasCome D.Door D.Conn.Conn (C.reads clock.now) access.now limits most began job.new }
 {
     for _ in 0..STEPS_EACH {
         if has_posted(job) {
@@ -717,8 +717,8 @@ fn collect_far<V: Served, R: Wait, C: Clock, D: Door>(
 ) -> u64
     requires { IsAtWork D.out desk.now job.old }
     ensures work { IsAtWork D.out desk.now job.new }
-    ensures come { (most : ℕ) (began : Job D D.Conn) → HasCome (C.reads clock.now) access.now limits D.Conn.left D.Conn.given D.Conn.reads D.Conn.writes D.left D.taken D.ended D.count D.out most began job.old
-        → HasCome (C.reads clock.now) access.now limits D.Conn.left D.Conn.given D.Conn.reads D.Conn.writes D.left D.taken D.ended D.count D.out most began job.new }
+    ensures come { (most : ℕ) (began : Job D D.Conn) → HasCome D.Door D.Conn.Conn (C.reads clock.now) access.now limits most began job.old
+        → HasCome D.Door D.Conn.Conn (C.reads clock.now) access.now limits most began job.new }
 {
     let again = go_once(rt, alloc, routes, access, limits, desk, clock, job);
     if again > 0 {
@@ -740,8 +740,8 @@ fn go_once<V: Served, R: Wait, C: Clock, D: Door>(
 ) -> u64
     requires { IsAtWork D.out desk.now job.old }
     ensures work { IsAtWork D.out desk.now job.new }
-    ensures come { (most : ℕ) (began : Job D D.Conn) → HasCome (C.reads clock.now) access.now limits D.Conn.left D.Conn.given D.Conn.reads D.Conn.writes D.left D.taken D.ended D.count D.out most began job.old
-        → HasCome (C.reads clock.now) access.now limits D.Conn.left D.Conn.given D.Conn.reads D.Conn.writes D.left D.taken D.ended D.count D.out most began job.new }
+    ensures come { (most : ℕ) (began : Job D D.Conn) → HasCome D.Door D.Conn.Conn (C.reads clock.now) access.now limits most began job.old
+        → HasCome D.Door D.Conn.Conn (C.reads clock.now) access.now limits most began job.new }
 {
     let Some(seat) = job.seat.take() else {
         unreachable!()

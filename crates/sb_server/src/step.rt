@@ -4,8 +4,8 @@ ghost use Rattle.sb_desk.specs.Desks.{Sitting, IsOf};
 ghost use Rattle.sb_server.specs.declared.doing.Doing.TheVariants.{Reads, Tells, Writes};
 ghost use Rattle.sb_server.specs.Doings as doings;
 ghost use Rattle.sb_server.specs.Doings.{IsDoingAt, IsDoingInOrder, IsInOrderAt, IsNext, IsNextAt, IsPendingInOrder, IsPosted, Steps, StepsTo, sitting_of};
-ghost use Rattle.sb_server.specs.Reads.{Stand, stand_of};
-ghost use Rattle.sb_server.specs.Talks.{Here, Start};
+ghost use Rattle.sb_server.specs.Reads.{Stand};
+ghost use Rattle.sb_server.specs.Talks.{Here, Start, here_with};
 ghost use Rattle.sb_server.specs.Talks as talks;
 
 use crate::answer::{Asked, answer, post_again};
@@ -43,8 +43,8 @@ pub(crate) fn step<V: Served, R: Wait, C: Clock, N: Conn>(
 ) -> (Seat, Went)
     requires desk { IsOf desk.now (sitting_of seat) }
     requires order { IsInOrderAt seat doing.old }
-    ensures steps { (s : Start) → s.access ≡ access.now → IsDoingAt (C.reads clock.now) s (record { pass = sitting_of seat; stand = stand_of inbox.old (N.left conn.old); written = N.given conn.old; reads = N.reads conn.old; writes = N.writes conn.old }) seat doing.old
-        → IsNextAt (C.reads clock.now) s (record { pass = sitting_of result.0; stand = stand_of inbox.new (N.left conn.new); written = N.given conn.new; reads = N.reads conn.new; writes = N.writes conn.new }) result.0 result.1 doing.new }
+    ensures steps { (s : Start) → s.access ≡ access.now → IsDoingAt (C.reads clock.now) s (here_with N.Conn (sitting_of seat) inbox.old conn.old) seat doing.old
+        → IsNextAt (C.reads clock.now) s (here_with N.Conn (sitting_of result.0) inbox.new conn.new) result.0 result.1 doing.new }
     ensures desk { IsOf desk.now (sitting_of result.0) }
     ensures order { IsInOrderAt result.0 doing.new }
 {
@@ -74,8 +74,8 @@ pub(crate) fn step_through<V: Served, R: Wait, C: Clock, N: Conn>(
 ) -> (Pass, Went)
     requires desk { IsOf desk.now pass }
     requires order { IsDoingInOrder doing.old }
-    ensures steps { Steps (C.reads clock.now) access.now (record { pass = pass; stand = stand_of inbox.old (N.left conn.old); written = N.given conn.old; reads = N.reads conn.old; writes = N.writes conn.old }) doing.old
-        (record { pass = result.0; stand = stand_of inbox.new (N.left conn.new); written = N.given conn.new; reads = N.reads conn.new; writes = N.writes conn.new }) result.1 doing.new }
+    ensures steps { Steps (C.reads clock.now) access.now (here_with N.Conn pass inbox.old conn.old) doing.old
+        (here_with N.Conn result.0 inbox.new conn.new) result.1 doing.new }
     ensures desk { IsOf desk.now result.0 }
     ensures order { IsDoingInOrder doing.new }
 {
@@ -121,8 +121,8 @@ fn go<V: Served, R: Wait, C: Clock, N: Conn>(
 ) -> (Seat, Went)
     requires desk { IsOf desk.now pass }
     requires order { IsDoingInOrder doing.old }
-    ensures steps { StepsTo (C.reads clock.now) access.now (record { pass = pass; stand = stand_of inbox.old (N.left conn.old); written = N.given conn.old; reads = N.reads conn.old; writes = N.writes conn.old }) doing.old
-        (record { pass = sitting_of result.0; stand = stand_of inbox.new (N.left conn.new); written = N.given conn.new; reads = N.reads conn.new; writes = N.writes conn.new }) result.0 result.1 doing.new }
+    ensures steps { StepsTo (C.reads clock.now) access.now (here_with N.Conn pass inbox.old conn.old) doing.old
+        (here_with N.Conn (sitting_of result.0) inbox.new conn.new) result.0 result.1 doing.new }
     ensures desk { IsOf desk.now (sitting_of result.0) }
     ensures order { IsInOrderAt result.0 doing.new }
 {
@@ -179,8 +179,8 @@ fn read_on<V: Served, R: Wait, C: Clock, N: Conn>(
 ) -> (Seat, Went)
     requires desk { IsOf desk.now pass }
     requires reads { doing.old ≡ Reads }
-    ensures steps { StepsTo (C.reads clock.now) access.now (record { pass = pass; stand = stand_of inbox.old (N.left conn.old); written = N.given conn.old; reads = N.reads conn.old; writes = N.writes conn.old }) Reads
-        (record { pass = sitting_of result.0; stand = stand_of inbox.new (N.left conn.new); written = N.given conn.new; reads = N.reads conn.new; writes = N.writes conn.new }) result.0 result.1 doing.new }
+    ensures steps { StepsTo (C.reads clock.now) access.now (here_with N.Conn pass inbox.old conn.old) Reads
+        (here_with N.Conn (sitting_of result.0) inbox.new conn.new) result.0 result.1 doing.new }
     ensures desk { IsOf desk.now (sitting_of result.0) }
     ensures order { IsInOrderAt result.0 doing.new }
 {
@@ -215,8 +215,8 @@ fn wait_on<V: Served, R: Wait, C: Clock, N: Conn>(
     requires desk { IsOf desk.now pass }
     requires order { IsDoingInOrder doing.old }
     requires asks { doings.asks doing.old ≡ true }
-    ensures steps { StepsTo (C.reads clock.now) access.now (record { pass = pass; stand = stand_of inbox.old (N.left conn.old); written = N.given conn.old; reads = N.reads conn.old; writes = N.writes conn.old }) doing.old
-        (record { pass = sitting_of result.0; stand = stand_of inbox.new (N.left conn.new); written = N.given conn.new; reads = N.reads conn.new; writes = N.writes conn.new }) result.0 result.1 doing.new }
+    ensures steps { StepsTo (C.reads clock.now) access.now (here_with N.Conn pass inbox.old conn.old) doing.old
+        (here_with N.Conn (sitting_of result.0) inbox.new conn.new) result.0 result.1 doing.new }
     ensures desk { IsOf desk.now (sitting_of result.0) }
     ensures order { IsInOrderAt result.0 doing.new }
 {

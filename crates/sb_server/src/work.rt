@@ -10,7 +10,7 @@ ghost use Rattle.sb_server.specs.Reads.{stand_of};
 ghost use Rattle.sb_server.specs.Stages.{IsAt, IsSound, here_of, stage_behind};
 ghost use Rattle.sb_server.specs.Talks.{Start};
 ghost use Rattle.sb_server.specs.Times.{IsSince};
-ghost use Rattle.sb_server.specs.Works.{Visit, Works, ServesBy, StopsBy, stop_of};
+ghost use Rattle.sb_server.specs.Works.{ServedConnection, DoorServed, ConnectionServed, StopsBy, stop_of};
 
 use crate::doing::{Doing, Went};
 use crate::ending::Ending;
@@ -72,7 +72,7 @@ pub fn serve_door<V: Served, R: Wait, C: Clock, D: Door>(
     most: u64,
 ) -> (Pass, Stop)
     requires { IsOf desk.now pass }
-    ensures works { (vs : List (Visit D.Conn)) × Works (ServesBy (C.reads clock.now) access.now limits D.Conn.left D.Conn.given D.Conn.reads D.Conn.writes) pass (D.left door.old) (D.taken door.old) result.0 (D.left door.new) (D.taken door.new) vs
+    ensures works { (vs : List (ServedConnection D.Conn)) × DoorServed D.Door (ConnectionServed D.Conn.Conn (C.reads clock.now) access.now limits) pass door.old result.0 door.new vs
         × StopsBy result.1 most vs (D.ended door.new) (D.count door.old) (D.count door.new) }
     ensures out { D.out door.new ≡ D.out door.old }
     ensures desk { IsOf desk.now result.0 }
@@ -116,8 +116,8 @@ pub(crate) fn go_on<V: Served, R: Wait, C: Clock, D: Door>(
 ) -> (Seat, u64)
     requires desk { IsOf desk.now (sitting_of seat) }
     requires sound { IsSound seat stage.old (D.out door.old) }
-    ensures goes { (most : ℕ) (p : Sitting) (d : D) → IsAt (C.reads clock.now) access.now limits D.Conn.left D.Conn.given D.Conn.reads D.Conn.writes D.left D.taken D.ended D.count D.out most p d seat door.old stage.old
-        → IsAt (C.reads clock.now) access.now limits D.Conn.left D.Conn.given D.Conn.reads D.Conn.writes D.left D.taken D.ended D.count D.out most p d result.0 door.new stage.new }
+    ensures goes { (most : ℕ) (p : Sitting) (d : D) → IsAt D.Door D.Conn.Conn (C.reads clock.now) access.now limits most p d seat door.old stage.old
+        → IsAt D.Door D.Conn.Conn (C.reads clock.now) access.now limits most p d result.0 door.new stage.new }
     ensures desk { IsOf desk.now (sitting_of result.0) }
     ensures sound { IsSound result.0 stage.new (D.out door.new) }
 {
@@ -189,8 +189,8 @@ fn want<V: Served, C: Clock, D: Door>(
     door: &mut D,
     left: u64,
 ) -> Stage<D::Conn>
-    ensures goes { (most : ℕ) (p q : Sitting) (d : D) → IsAt (C.reads clock.now) access.now limits D.Conn.left D.Conn.given D.Conn.reads D.Conn.writes D.left D.taken D.ended D.count D.out most p d (Free q) door.old (Wants left)
-        → IsAt (C.reads clock.now) access.now limits D.Conn.left D.Conn.given D.Conn.reads D.Conn.writes D.left D.taken D.ended D.count D.out most p d (Free q) door.new result }
+    ensures goes { (most : ℕ) (p q : Sitting) (d : D) → IsAt D.Door D.Conn.Conn (C.reads clock.now) access.now limits most p d (Free q) door.old (Wants left)
+        → IsAt D.Door D.Conn.Conn (C.reads clock.now) access.now limits most p d (Free q) door.new result }
     ensures sound { (q : Sitting) → IsSound (Free q) result (D.out door.new) }
 {
     let _ = access;
@@ -236,8 +236,8 @@ fn attend<V: Served, R: Wait, C: Clock, N: Conn>(
 ) -> (Seat, Option<Ending>, u64)
     requires desk { IsOf desk.now (sitting_of seat) }
     requires order { IsInOrderAt seat guest.old.doing }
-    ensures goes { (s : Start) → s.access ≡ access.now → s.limits ≡ limits → IsSince (C.reads clock.now) guest.old.since → IsDoingAt (C.reads clock.now) s (here_of N.left N.given N.reads N.writes (sitting_of seat) guest.old) seat guest.old.doing
-        → GoesToAt (C.reads clock.now) s (here_of N.left N.given N.reads N.writes (sitting_of result.0) guest.new) result.0 result.1 guest.new.doing }
+    ensures goes { (s : Start) → s.access ≡ access.now → s.limits ≡ limits → IsSince (C.reads clock.now) guest.old.since → IsDoingAt (C.reads clock.now) s (here_of N.Conn (sitting_of seat) guest.old) seat guest.old.doing
+        → GoesToAt (C.reads clock.now) s (here_of N.Conn (sitting_of result.0) guest.new) result.0 result.1 guest.new.doing }
     ensures since { IsSince (C.reads clock.now) guest.old.since → IsSince (C.reads clock.now) guest.new.since }
     ensures desk { IsOf desk.now (sitting_of result.0) }
     ensures order { IsInOrderAt result.0 guest.new.doing }
@@ -276,8 +276,8 @@ fn behind_step<V: Served, C: Clock, N: Conn>(
     went: Went,
 ) -> (Option<Ending>, u64)
     requires order { IsDoingInOrder guest.old.doing }
-    ensures goes { (s : Start) (q : Sitting) → s.limits ≡ limits → IsSince (C.reads clock.now) guest.old.since → IsNext (C.reads clock.now) s (here_of N.left N.given N.reads N.writes q guest.old) went guest.old.doing
-        → GoesTo (C.reads clock.now) s (here_of N.left N.given N.reads N.writes q guest.new) result.0 guest.new.doing }
+    ensures goes { (s : Start) (q : Sitting) → s.limits ≡ limits → IsSince (C.reads clock.now) guest.old.since → IsNext (C.reads clock.now) s (here_of N.Conn q guest.old) went guest.old.doing
+        → GoesTo (C.reads clock.now) s (here_of N.Conn q guest.new) result.0 guest.new.doing }
     ensures since { IsSince (C.reads clock.now) guest.old.since → IsSince (C.reads clock.now) guest.new.since }
     ensures order { IsDoingInOrder guest.new.doing }
 {

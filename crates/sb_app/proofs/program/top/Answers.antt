@@ -1,8 +1,8 @@
 use Rattle.std.proofs.Common.{◌∙◌, Bool, List, Some, ℕ, map, refl, subst, sym}
 use Rattle.std.specs.Prelude.{nat_lt}
 use Rattle.sb_words.specs.Words.{checkpoint_after_in, checkpoint_in, connections_in, max_jump_in}
-use Rattle.sb_server.specs.Serves.{Working}
-use Rattle.sb_server.specs.Works.{ServesBy}
+use Rattle.sb_server.specs.Serves.{WorkerDid}
+use Rattle.sb_server.specs.Works.{ConnectionServed}
 use Rattle.sb_server.specs.declared.limits.Limits.{Limits}
 use Rattle.sb_app.specs.Calls.{task_in}
 use Rattle.sb_app.specs.Outside.{input_of, outside_of}
@@ -14,7 +14,7 @@ use Rattle.sb_app.proofs.program.top.Goals as goal
 pub returns-in-Err-clause-serves : goal.returns-in-Err-clause-serves
 returns-in-Err-clause-serves g c serves =
     let words : List (List ℕ) = map (λ w. w.now) c.args.words.now in
-    unread_server (checkpoint_in words) (g.C.Clock.reads c.args.clock.now) (max_jump_in words) (nat_lt 0 (checkpoint_after_in words)) (λ desk. Working (ServesBy (g.C.Clock.reads c.args.clock.now) c.args.access.now (limits_in words) g.R.Conn.Conn.left g.R.Conn.Conn.given g.R.Conn.Conn.reads g.R.Conn.Conn.writes) g.R.Door.left g.R.Door.taken g.R.Door.ended g.R.Door.count g.R.Door.out desk (connections_in words)) g.R.Door.count words c.in-Err.fault c.args.salt _ _ _ _ c.args.doors.now.items _ c.in-Err.ensures.bad serves c.carry_out-status.ensures.done c.carry_out-status.ensures.usage
+    unread_server (checkpoint_in words) (g.C.Clock.reads c.args.clock.now) (max_jump_in words) (nat_lt 0 (checkpoint_after_in words)) (λ desk. WorkerDid g.R.Door (ConnectionServed g.R.Conn.Conn (g.C.Clock.reads c.args.clock.now) c.args.access.now (limits_in words)) desk (connections_in words)) g.R.Door.count words c.in-Err.fault c.args.salt _ _ _ _ c.args.doors.now.items _ c.in-Err.ensures.bad serves c.carry_out-status.ensures.done c.carry_out-status.ensures.usage
 
 pub returns-in-Err-clause-link : goal.returns-in-Err-clause-link
 returns-in-Err-clause-link g c other =
@@ -35,7 +35,7 @@ returns-in_default-clause-serves g c serves =
     let words : List (List ℕ) = map (λ w. w.now) c.args.words.now in
     let was = outside_of g.D.Disk g.S.Source g.K.Sink c.args.disk_a c.args.disk_b c.args.input.now c.args.output.now in
     let now = outside_of g.D.Disk g.S.Source g.K.Sink c.serve_over-status.result.1 c.serve_over-status.result.2 c.args.input.now c.serve_over-status.new.output in
-    let call : Bool → ℕ → Bool → ℕ → Limits → Type 0 = λ checkpoint days goes_on most limits. IsServer checkpoint (g.C.Clock.reads c.args.clock.now) days goes_on (λ desk. Working (ServesBy (g.C.Clock.reads c.args.clock.now) c.args.access.now limits g.R.Conn.Conn.left g.R.Conn.Conn.given g.R.Conn.Conn.reads g.R.Conn.Conn.writes) g.R.Door.left g.R.Door.taken g.R.Door.ended g.R.Door.count g.R.Door.out desk most) g.R.Door.count c.args.salt was now c.args.doors.now.items c.serve_over-status.new.doors.items c.serve_over-status.result.0 in
+    let call : Bool → ℕ → Bool → ℕ → Limits → Type 0 = λ checkpoint days goes_on most limits. IsServer checkpoint (g.C.Clock.reads c.args.clock.now) days goes_on (λ desk. WorkerDid g.R.Door (ConnectionServed g.R.Conn.Conn (g.C.Clock.reads c.args.clock.now) c.args.access.now limits) desk most) g.R.Door.count c.args.salt was now c.args.doors.now.items c.serve_over-status.new.doors.items c.serve_over-status.result.0 in
     let form = c.in-Ok.form in
     let ok = c.in-Ok.ensures.ok in
     subst (λ checkpoint. call checkpoint (max_jump_in words) (nat_lt 0 (checkpoint_after_in words)) (connections_in words) (limits_in words)) (checkpoint_is words form ok)

@@ -9,8 +9,8 @@ use Rattle.sb_node.specs.Serving.{node_goes_on, opened_disks, origin_of, StandsF
 use Rattle.sb_node.proofs.Standing.{same_found}
 use Rattle.sb_desk.specs.Desks.{Open, below}
 use Rattle.sb_desk.specs.declared.report.Origin.{Origin}
-use Rattle.sb_server.specs.Serves.{Worker, Working}
-use Rattle.sb_server.specs.Works.{ServesBy}
+use Rattle.sb_server.specs.Serves.{Worker, WorkerDid}
+use Rattle.sb_server.specs.Works.{ConnectionServed}
 use Rattle.sb_app.specs.Checks.{IsLineTold}
 use Rattle.sb_app.specs.Openings.{IsOpened}
 use Rattle.sb_engine.specs.declared.summary.Summary.{Summary}
@@ -35,7 +35,7 @@ returns-in-Err g c input =
 pub returns-in-Err-new : goal.returns-in-Err-new
 returns-in-Err-new g c input =
     let was : Outside = record { input = input; output = output_of g.K.Sink c.args.output.now; disks = disks_of g.D.Disk c.args.disk_a c.args.disk_b } in
-    let works : Open → Worker g.row.R.Denot → Type 0 = λ desk. Working (ServesBy (g.C.Clock.reads c.args.clock.now) c.args.access.now c.args.limits g.R.Conn.Conn.left g.R.Conn.Conn.given g.R.Conn.Conn.reads g.R.Conn.Conn.writes) g.R.Door.left g.R.Door.taken g.R.Door.ended g.R.Door.count g.R.Door.out desk c.args.most in
+    let works : Open → Worker g.row.R.Denot → Type 0 = λ desk. WorkerDid g.R.Door (ConnectionServed g.R.Conn.Conn (g.C.Clock.reads c.args.clock.now) c.args.access.now c.args.limits) desk c.args.most in
     let goes_on = nat_lt 0 c.args.checkpoint_after in
     let doors = c.args.doors.now.items in
     let node = c.in-Ok-open_node.node in
@@ -66,7 +66,7 @@ end_server-status-requires g c =
 pub returns : goal.returns
 returns g c input =
     let was : Outside = record { input = input; output = output_of g.K.Sink c.args.output.now; disks = disks_of g.D.Disk c.args.disk_a c.args.disk_b } in
-    let works : Open → Worker g.row.R.Denot → Type 0 = λ desk. Working (ServesBy (g.C.Clock.reads c.args.clock.now) c.args.access.now c.args.limits g.R.Conn.Conn.left g.R.Conn.Conn.given g.R.Conn.Conn.reads g.R.Conn.Conn.writes) g.R.Door.left g.R.Door.taken g.R.Door.ended g.R.Door.count g.R.Door.out desk c.args.most in
+    let works : Open → Worker g.row.R.Denot → Type 0 = λ desk. WorkerDid g.R.Door (ConnectionServed g.R.Conn.Conn (g.C.Clock.reads c.args.clock.now) c.args.access.now c.args.limits) desk c.args.most in
     let goes_on = nat_lt 0 c.args.checkpoint_after in
     let doors = c.args.doors.now.items in
     let doors_now = c.serve-ending.new.doors.items in
@@ -117,7 +117,7 @@ returns g c input =
 pub returns-in-Err-hold_server : goal.returns-in-Err-hold_server
 returns-in-Err-hold_server g c input =
     let was : Outside = record { input = input; output = output_of g.K.Sink c.args.output.now; disks = disks_of g.D.Disk c.args.disk_a c.args.disk_b } in
-    let works : Open → Worker g.row.R.Denot → Type 0 = λ desk. Working (ServesBy (g.C.Clock.reads c.args.clock.now) c.args.access.now c.args.limits g.R.Conn.Conn.left g.R.Conn.Conn.given g.R.Conn.Conn.reads g.R.Conn.Conn.writes) g.R.Door.left g.R.Door.taken g.R.Door.ended g.R.Door.count g.R.Door.out desk c.args.most in
+    let works : Open → Worker g.row.R.Denot → Type 0 = λ desk. WorkerDid g.R.Door (ConnectionServed g.R.Conn.Conn (g.C.Clock.reads c.args.clock.now) c.args.access.now c.args.limits) desk c.args.most in
     let goes_on = nat_lt 0 c.args.checkpoint_after in
     let doors = c.args.doors.now.items in
     let node = c.in-Ok-open_node.node in

@@ -4,8 +4,7 @@ use Rattle.sb_server.specs.declared.doing.Doing.TheVariants.{Reads}
 use Rattle.sb_server.specs.declared.doing.Went.{Went}
 use Rattle.sb_server.specs.declared.doing.Went.TheVariants.{NothingYet, Blocked}
 use Rattle.sb_server.specs.Doings.{IsDoing, IsNext}
-use Rattle.sb_server.specs.Reads.{stand_of}
-use Rattle.sb_server.specs.Talks.{Start, Here, ReadsOut}
+use Rattle.sb_server.specs.Talks.{Start, Here, ReadsOut, here_with, start_of}
 use Rattle.sb_server.proofs.Turning.{talks_from, no_inbox, unread}
 use Rattle.sb_server.proofs.Reading.{read_to}
 use Rattle.sb_server.proofs.connection.serve_connection.Goals as goal
@@ -25,8 +24,8 @@ loop-init g c = record { desk = c.requires; order = tt; since = tt; doing = talk
 
 pub loop-preserved-in-On : goal.loop-preserved-in-On
 loop-preserved-in-On g c =
-    let s : Start = record { access = c.args.access.now; limits = c.args.limits; pass = c.args.pass; there = g.N.Conn.left c.args.conn.now; given = g.N.Conn.given c.args.conn.now; reads = g.N.Conn.reads c.args.conn.now; writes = g.N.Conn.writes c.args.conn.now } in
-    let n : Here = record { pass = c.step_through-next.result.0; stand = stand_of c.step_through-next.new.inbox (g.N.Conn.left c.step_through-next.new.conn); written = g.N.Conn.given c.step_through-next.new.conn; reads = g.N.Conn.reads c.step_through-next.new.conn; writes = g.N.Conn.writes c.step_through-next.new.conn } in
+    let s : Start = start_of g.N.Conn c.args.access.now c.args.limits c.args.pass c.args.conn.now in
+    let n : Here = here_with g.N.Conn c.step_through-next.result.0 c.step_through-next.new.inbox c.step_through-next.new.conn in
     let next : IsNext (g.C.Clock.reads c.args.clock.now) s n c.look-went.result.0 c.step_through-next.new.doing = c.look-went.ensures.next s n refl refl c.loop.invariant.since (c.step_through-next.ensures.steps s refl c.loop.invariant.doing) in
     let here = subst (λ (w : Went). IsNext (g.C.Clock.reads c.args.clock.now) s n w c.step_through-next.new.doing) c.in-On.is next in
     record {
@@ -38,8 +37,8 @@ loop-preserved-in-On g c =
 
 pub loop-preserved : goal.loop-preserved
 loop-preserved g c =
-    let s : Start = record { access = c.args.access.now; limits = c.args.limits; pass = c.args.pass; there = g.N.Conn.left c.args.conn.now; given = g.N.Conn.given c.args.conn.now; reads = g.N.Conn.reads c.args.conn.now; writes = g.N.Conn.writes c.args.conn.now } in
-    let n : Here = record { pass = c.step_through-next.result.0; stand = stand_of c.step_through-next.new.inbox (g.N.Conn.left c.step_through-next.new.conn); written = g.N.Conn.given c.step_through-next.new.conn; reads = g.N.Conn.reads c.step_through-next.new.conn; writes = g.N.Conn.writes c.step_through-next.new.conn } in
+    let s : Start = start_of g.N.Conn c.args.access.now c.args.limits c.args.pass c.args.conn.now in
+    let n : Here = here_with g.N.Conn c.step_through-next.result.0 c.step_through-next.new.inbox c.step_through-next.new.conn in
     let next : IsNext (g.C.Clock.reads c.args.clock.now) s n c.look-went.result.0 c.step_through-next.new.doing = c.look-went.ensures.next s n refl refl c.loop.invariant.since (c.step_through-next.ensures.steps s refl c.loop.invariant.doing) in
     record {
       desk = c.step_through-next.ensures.desk;
@@ -50,8 +49,8 @@ loop-preserved g c =
 
 pub returns-in-Over-clause-ends : goal.returns-in-Over-clause-ends
 returns-in-Over-clause-ends g c =
-    let s : Start = record { access = c.args.access.now; limits = c.args.limits; pass = c.args.pass; there = g.N.Conn.left c.args.conn.now; given = g.N.Conn.given c.args.conn.now; reads = g.N.Conn.reads c.args.conn.now; writes = g.N.Conn.writes c.args.conn.now } in
-    let n : Here = record { pass = c.step_through-next.result.0; stand = stand_of c.step_through-next.new.inbox (g.N.Conn.left c.step_through-next.new.conn); written = g.N.Conn.given c.step_through-next.new.conn; reads = g.N.Conn.reads c.step_through-next.new.conn; writes = g.N.Conn.writes c.step_through-next.new.conn } in
+    let s : Start = start_of g.N.Conn c.args.access.now c.args.limits c.args.pass c.args.conn.now in
+    let n : Here = here_with g.N.Conn c.step_through-next.result.0 c.step_through-next.new.inbox c.step_through-next.new.conn in
     let next : IsNext (g.C.Clock.reads c.args.clock.now) s n c.look-went.result.0 c.step_through-next.new.doing = c.look-went.ensures.next s n refl refl c.loop.invariant.since (c.step_through-next.ensures.steps s refl c.loop.invariant.doing) in
     let here = subst (λ (w : Went). IsNext (g.C.Clock.reads c.args.clock.now) s n w c.step_through-next.new.doing) c.in-Over.is next in
     (n.stand, read_to c.step_through-next.new.inbox (g.N.Conn.left c.step_through-next.new.conn), here)

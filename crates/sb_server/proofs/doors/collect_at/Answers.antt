@@ -12,6 +12,6 @@ returns-clause-work g c = λ k d lt.
 
 pub returns-clause-come : goal.returns-clause-come
 returns-clause-come g c = λ most began k d lt was.
-    set_each (λ (n : ℕ) (j : Job g.row.D.Denot g.row.D-Conn.Denot). HasCome (g.C.Clock.reads c.args.clock.now) c.args.access.now c.args.limits g.D.Conn.Conn.left g.D.Conn.Conn.given g.D.Conn.Conn.reads g.D.Conn.Conn.writes g.D.Door.left g.D.Door.taken g.D.Door.ended g.D.Door.count g.D.Door.out most began (slice_index_or c.args.jobs.now n d) → HasCome (g.C.Clock.reads c.args.clock.now) c.args.access.now c.args.limits g.D.Conn.Conn.left g.D.Conn.Conn.given g.D.Conn.Conn.reads g.D.Conn.Conn.writes g.D.Door.left g.D.Door.taken g.D.Door.ended g.D.Door.count g.D.Door.out most began j) c.args.jobs.now c.args.i c.collect_job.new.job d
-    (subst (λ (x : Job g.row.D.Denot g.row.D-Conn.Denot). HasCome (g.C.Clock.reads c.args.clock.now) c.args.access.now c.args.limits g.D.Conn.Conn.left g.D.Conn.Conn.given g.D.Conn.Conn.reads g.D.Conn.Conn.writes g.D.Door.left g.D.Door.taken g.D.Door.ended g.D.Door.count g.D.Door.out most began x → HasCome (g.C.Clock.reads c.args.clock.now) c.args.access.now c.args.limits g.D.Conn.Conn.left g.D.Conn.Conn.given g.D.Conn.Conn.reads g.D.Conn.Conn.writes g.D.Door.left g.D.Door.taken g.D.Door.ended g.D.Door.count g.D.Door.out most began c.collect_job.new.job) (get_or_default c.args.jobs.now c.args.i _ d (search rules)) (c.collect_job.ensures.come most began))
+    set_each (λ (n : ℕ) (j : Job g.row.D.Denot g.row.D-Conn.Denot). HasCome g.D.Door g.D.Conn.Conn (g.C.Clock.reads c.args.clock.now) c.args.access.now c.args.limits most began (slice_index_or c.args.jobs.now n d) → HasCome g.D.Door g.D.Conn.Conn (g.C.Clock.reads c.args.clock.now) c.args.access.now c.args.limits most began j) c.args.jobs.now c.args.i c.collect_job.new.job d
+    (subst (λ (x : Job g.row.D.Denot g.row.D-Conn.Denot). HasCome g.D.Door g.D.Conn.Conn (g.C.Clock.reads c.args.clock.now) c.args.access.now c.args.limits most began x → HasCome g.D.Door g.D.Conn.Conn (g.C.Clock.reads c.args.clock.now) c.args.access.now c.args.limits most began c.collect_job.new.job) (get_or_default c.args.jobs.now c.args.i _ d (search rules)) (c.collect_job.ensures.come most began))
     (λ n h o. o) k lt was

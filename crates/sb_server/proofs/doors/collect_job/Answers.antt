@@ -9,5 +9,5 @@ returns-clause-work g c = subst (λ (j : Job g.row.D.Denot g.row.D-Conn.Denot). 
 
 pub returns-clause-come : goal.returns-clause-come
 returns-clause-come g c = λ most began was.
-    subst (λ (j : Job g.row.D.Denot g.row.D-Conn.Denot). HasCome (g.C.Clock.reads c.args.clock.now) c.args.access.now c.args.limits g.D.Conn.Conn.left g.D.Conn.Conn.given g.D.Conn.Conn.reads g.D.Conn.Conn.writes g.D.Door.left g.D.Door.taken g.D.Door.ended g.D.Door.count g.D.Door.out most began j) (sym c.behind_steps.ensures.1)
-    (come_again (g.C.Clock.reads c.args.clock.now) c.args.access.now c.args.limits g.D.Conn.Conn.left g.D.Conn.Conn.given g.D.Conn.Conn.reads g.D.Conn.Conn.writes g.D.Door.left g.D.Door.taken g.D.Door.ended g.D.Door.count g.D.Door.out most began c.collect_far-went.new.job c.behind_steps.ensures.0 (c.collect_far-went.ensures.come most began was))
+    subst (λ (j : Job g.row.D.Denot g.row.D-Conn.Denot). HasCome g.D.Door g.D.Conn.Conn (g.C.Clock.reads c.args.clock.now) c.args.access.now c.args.limits most began j) (sym c.behind_steps.ensures.1)
+    (come_again g.D.Door g.D.Conn.Conn (g.C.Clock.reads c.args.clock.now) c.args.access.now c.args.limits most began c.collect_far-went.new.job c.behind_steps.ensures.0 (c.collect_far-went.ensures.come most began was))

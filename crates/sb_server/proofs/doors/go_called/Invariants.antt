@@ -8,6 +8,6 @@ abbrev pub invariant-loop-k : goal.invariant-loop-k
 invariant-loop-k g l = record {
   work : All (λ j. IsAtWork g.D.Door.out l.desk j) l.jobs;
   come : (most : ℕ) (began : Job g.row.D.Denot g.row.D-Conn.Denot) (i : ℕ) (d : Job g.row.D.Denot g.row.D-Conn.Denot) → i < length l.fn.jobs
-      → HasCome (g.C.Clock.reads l.clock) l.access l.limits g.D.Conn.Conn.left g.D.Conn.Conn.given g.D.Conn.Conn.reads g.D.Conn.Conn.writes g.D.Door.left g.D.Door.taken g.D.Door.ended g.D.Door.count g.D.Door.out most began (slice_index_or l.fn.jobs i d)
-      → HasCome (g.C.Clock.reads l.clock) l.access l.limits g.D.Conn.Conn.left g.D.Conn.Conn.given g.D.Conn.Conn.reads g.D.Conn.Conn.writes g.D.Door.left g.D.Door.taken g.D.Door.ended g.D.Door.count g.D.Door.out most began (slice_index_or l.jobs i d);
+      → HasCome g.D.Door g.D.Conn.Conn (g.C.Clock.reads l.clock) l.access l.limits most began (slice_index_or l.fn.jobs i d)
+      → HasCome g.D.Door g.D.Conn.Conn (g.C.Clock.reads l.clock) l.access l.limits most began (slice_index_or l.jobs i d);
 }

@@ -7,6 +7,6 @@ abbrev pub invariant-loop : goal.invariant-loop
 invariant-loop g l = record {
   work : IsAtWork g.D.Door.out l.desk l.job;
   come : (most : ℕ) (began : Job g.row.D.Denot g.row.D-Conn.Denot)
-      → HasCome (g.C.Clock.reads l.clock) l.access l.limits g.D.Conn.Conn.left g.D.Conn.Conn.given g.D.Conn.Conn.reads g.D.Conn.Conn.writes g.D.Door.left g.D.Door.taken g.D.Door.ended g.D.Door.count g.D.Door.out most began l.fn.job
-      → HasCome (g.C.Clock.reads l.clock) l.access l.limits g.D.Conn.Conn.left g.D.Conn.Conn.given g.D.Conn.Conn.reads g.D.Conn.Conn.writes g.D.Door.left g.D.Door.taken g.D.Door.ended g.D.Door.count g.D.Door.out most began l.job;
+      → HasCome g.D.Door g.D.Conn.Conn (g.C.Clock.reads l.clock) l.access l.limits most began l.fn.job
+      → HasCome g.D.Door g.D.Conn.Conn (g.C.Clock.reads l.clock) l.access l.limits most began l.job;
 }

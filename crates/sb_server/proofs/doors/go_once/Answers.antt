@@ -15,5 +15,5 @@ returns-clause-work g c = record { seat = c.go_on-seat.result.0; has = c.sit.ens
 pub returns-clause-come : goal.returns-clause-come
 returns-clause-come g c = λ most began come.
     let new : Job g.row.D.Denot g.row.D-Conn.Denot = record { seat = c.sit.new.place; door = c.go_on-seat.new.door; stage = c.go_on-seat.new.stage; stop = c.stop_at-job.result; again = c.args.job.now.again } in
-    come_on (g.C.Clock.reads c.args.clock.now) c.args.access.now c.args.limits g.D.Conn.Conn.left g.D.Conn.Conn.given g.D.Conn.Conn.reads g.D.Conn.Conn.writes g.D.Door.left g.D.Door.taken g.D.Door.ended g.D.Door.count g.D.Door.out most began c.args.job.now new c.in-Some.seat c.go_on-seat.result.0 come (sym c.take.ensures.value ∙ c.in-Some.is) c.sit.ensures
+    come_on g.D.Door g.D.Conn.Conn (g.C.Clock.reads c.args.clock.now) c.args.access.now c.args.limits most began c.args.job.now new c.in-Some.seat c.go_on-seat.result.0 come (sym c.take.ensures.value ∙ c.in-Some.is) c.sit.ensures
     (λ p d at. c.go_on-seat.ensures.goes most p d at) (stop_twice c.go_on-seat.new.stage c.stop_at-job.result c.args.job.now.stop c.stop_at-job.ensures)

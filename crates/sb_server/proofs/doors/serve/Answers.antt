@@ -1,8 +1,8 @@
 use Rattle.std.proofs.Common.{◌≡◌, true, ℕ, ◌<◌, List, length, sym, subst, arith, rules}
 use Rattle.std.specs.Prelude.{All, slice_index_or}
 use Rattle.sb_server.specs.declared.job.Job.{Job}
-use Rattle.sb_server.specs.Serves.{HasPass, Did, Working, Worker, are_over}
-use Rattle.sb_server.specs.Works.{ServesBy}
+use Rattle.sb_server.specs.Serves.{HasPass, Did, WorkerDid, Worker, are_over}
+use Rattle.sb_server.specs.Works.{ConnectionServed}
 use Rattle.sb_server.proofs.Serving.{Crew, crew_of, all_manned, written, doors_fit, passes_fit, served, passes_kept}
 use Rattle.sb_server.proofs.doors.serve.Goals as goal
 
@@ -29,7 +29,7 @@ put_back-requires-clause-passes g c =
 
 pub put_back-requires-clause-over : goal.put_back-requires-clause-over
 put_back-requires-clause-over g c =
-    let Does : Worker g.row.D.Denot → Type 0 = Working (ServesBy (g.C.Clock.reads c.args.clock.now) c.args.access.now c.args.limits g.D.Conn.Conn.left g.D.Conn.Conn.given g.D.Conn.Conn.reads g.D.Conn.Conn.writes) g.D.Door.left g.D.Door.taken g.D.Door.ended g.D.Door.count g.D.Door.out c.args.desk.now c.args.most in
+    let Does : Worker g.row.D.Denot → Type 0 = WorkerDid g.D.Door (ConnectionServed g.D.Conn.Conn (g.C.Clock.reads c.args.clock.now) c.args.access.now c.args.limits) c.args.desk.now c.args.most in
     let old = c.pair_up-jobs.result in
     let new = c.serve_doors.new.jobs in
     let same : length new ≡ length old.items = search rules in
@@ -38,7 +38,7 @@ put_back-requires-clause-over g c =
 
 pub returns-clause-serves : goal.returns-clause-serves
 returns-clause-serves g c =
-    let Does : Worker g.row.D.Denot → Type 0 = Working (ServesBy (g.C.Clock.reads c.args.clock.now) c.args.access.now c.args.limits g.D.Conn.Conn.left g.D.Conn.Conn.given g.D.Conn.Conn.reads g.D.Conn.Conn.writes) g.D.Door.left g.D.Door.taken g.D.Door.ended g.D.Door.count g.D.Door.out c.args.desk.now c.args.most in
+    let Does : Worker g.row.D.Denot → Type 0 = WorkerDid g.D.Door (ConnectionServed g.D.Conn.Conn (g.C.Clock.reads c.args.clock.now) c.args.access.now c.args.limits) c.args.desk.now c.args.most in
     let old = c.pair_up-jobs.result in
     let new = c.serve_doors.new.jobs in
     let spare = c.pair_up-jobs.new.passes.items in
@@ -51,7 +51,7 @@ returns-clause-serves g c =
 
 pub returns-clause-desk : goal.returns-clause-desk
 returns-clause-desk g c =
-    let Does : Worker g.row.D.Denot → Type 0 = Working (ServesBy (g.C.Clock.reads c.args.clock.now) c.args.access.now c.args.limits g.D.Conn.Conn.left g.D.Conn.Conn.given g.D.Conn.Conn.reads g.D.Conn.Conn.writes) g.D.Door.left g.D.Door.taken g.D.Door.ended g.D.Door.count g.D.Door.out c.args.desk.now c.args.most in
+    let Does : Worker g.row.D.Denot → Type 0 = WorkerDid g.D.Door (ConnectionServed g.D.Conn.Conn (g.C.Clock.reads c.args.clock.now) c.args.access.now c.args.limits) c.args.desk.now c.args.most in
     let old = c.pair_up-jobs.result in
     let new = c.serve_doors.new.jobs in
     let spare = c.pair_up-jobs.new.passes.items in

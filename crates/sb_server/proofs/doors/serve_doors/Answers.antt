@@ -5,8 +5,8 @@ use Rattle.std.proofs.Crossing.{sync}
 use Rattle.std.specs.Prelude.{slice_index_or}
 use Rattle.sb_desk.specs.contracts.desk.Desk as desk
 use Rattle.sb_server.specs.declared.job.Job.{Job}
-use Rattle.sb_server.specs.Serves.{HasPass, IsAtWork, Did, Working, Worker}
-use Rattle.sb_server.specs.Works.{ServesBy}
+use Rattle.sb_server.specs.Serves.{HasPass, IsAtWork, Did, WorkerDid, Worker}
+use Rattle.sb_server.specs.Works.{ConnectionServed}
 use Rattle.sb_server.proofs.Crossing.{routes_sync, access_sync, limits_sync, desk_sync}
 use Rattle.sb_server.proofs.Rounds.{work_first}
 use Rattle.sb_server.proofs.Sharing.{moved}
@@ -50,6 +50,6 @@ for_each_chunk_mut-requires-clause-accepts g c κs within start p chunk k d lt =
 
 pub returns : goal.returns
 returns g c = λ i d lt.
-    let Does : Worker g.row.D.Denot → Type 0 = Working (ServesBy (g.C.Clock.reads c.args.clock.now) c.args.access.now c.args.limits g.D.Conn.Conn.left g.D.Conn.Conn.given g.D.Conn.Conn.reads g.D.Conn.Conn.writes) g.D.Door.left g.D.Door.taken g.D.Door.ended g.D.Door.count g.D.Door.out c.args.desk.now c.args.most in
+    let Does : Worker g.row.D.Denot → Type 0 = WorkerDid g.D.Door (ConnectionServed g.D.Conn.Conn (g.C.Clock.reads c.args.clock.now) c.args.access.now c.args.limits) c.args.desk.now c.args.most in
     let at = (c.for_each_chunk_mut.ensures.by_index i d lt).1 in
     moved (Did Does) (HasPass c.args.desk.now c.args.most) _ _ _ _ at.old_element at.new_element (c.requires i d lt) (at.call c.args.most at.offset d at.offset_in_chunk)

@@ -8,5 +8,5 @@ abbrev pub invariant-loop : goal.invariant-loop
 invariant-loop g l = record {
   work : All (λ j. IsAtWork g.D.Door.out l.desk j) l.jobs;
   come : (most i : ℕ) (d : Job g.row.D.Denot g.row.D-Conn.Denot) → i < length l.fn.jobs → HasPass l.desk most (slice_index_or l.fn.jobs i d)
-      → HasCome (g.C.Clock.reads l.clock) l.access l.limits g.D.Conn.Conn.left g.D.Conn.Conn.given g.D.Conn.Conn.reads g.D.Conn.Conn.writes g.D.Door.left g.D.Door.taken g.D.Door.ended g.D.Door.count g.D.Door.out most (slice_index_or l.fn.jobs i d) (slice_index_or l.jobs i d);
+      → HasCome g.D.Door g.D.Conn.Conn (g.C.Clock.reads l.clock) l.access l.limits most (slice_index_or l.fn.jobs i d) (slice_index_or l.jobs i d);
 }

@@ -6,8 +6,7 @@ use Rattle.sb_server.specs.declared.doing.Went.{Went}
 use Rattle.sb_server.specs.declared.ending.Ending.{Ending}
 use Rattle.sb_server.specs.Doings.{BeginsAs, IsAskedInOrder, IsNext, IsDoingInOrder, refusing, refused_by, went_by}
 use Rattle.sb_server.specs.Asks.{AsksFor}
-use Rattle.sb_server.specs.Reads.{stand_of}
-use Rattle.sb_server.specs.Talks.{Here}
+use Rattle.sb_server.specs.Talks.{Here, here_with}
 use Rattle.sb_server.proofs.Responding.{asks_in_order}
 use Rattle.sb_server.proofs.Stepping.{begun_next, posted_next, refused_next, next_in_order, refusing_in_order}
 use Rattle.sb_server.proofs.Turning.{Reaches}
@@ -19,8 +18,8 @@ answer-requires-clause-order g c = let came = c.in-Asked.ensures.comes in asks_i
 pub returns-in-Posts-clause-steps : goal.returns-in-Posts-clause-steps
 returns-in-Posts-clause-steps g c = λ s same t.
     let sent = c.in-Posts.sent in
-    let h : Here = record { pass = c.args.pass; stand = stand_of c.args.inbox.now (g.N.Conn.left c.args.conn.now); written = g.N.Conn.given c.args.conn.now; reads = g.N.Conn.reads c.args.conn.now; writes = g.N.Conn.writes c.args.conn.now } in
-    let n : Here = record { pass = sent.posted.pass; stand = stand_of c.next.new.self (g.N.Conn.left c.next.new.conn); written = g.N.Conn.given c.next.new.conn; reads = g.N.Conn.reads c.next.new.conn; writes = g.N.Conn.writes c.next.new.conn } in
+    let h : Here = here_with g.N.Conn c.args.pass c.args.inbox.now c.args.conn.now in
+    let n : Here = here_with g.N.Conn sent.posted.pass c.next.new.self c.next.new.conn in
     let came = c.in-Asked.ensures.comes in
     let reaches : Reaches h n (came.0 ∷ []) = record { takes = came.3; reads = c.next.ensures.later } in
     posted_next (g.C.Clock.reads c.args.clock.now) s h n came.0 c.in-Asked.ask c.in-Asked.closes sent.posted sent.pending t reaches (subst (λ (x : Access). AsksFor x came.0 c.in-Asked.ask) (sym same) came.1) came.2
@@ -29,8 +28,8 @@ returns-in-Posts-clause-steps g c = λ s same t.
 pub returns-in-Begins-clause-steps : goal.returns-in-Begins-clause-steps
 returns-in-Begins-clause-steps g c = λ s same t.
     let begun = c.in-Begins.begun in
-    let h : Here = record { pass = c.args.pass; stand = stand_of c.args.inbox.now (g.N.Conn.left c.args.conn.now); written = g.N.Conn.given c.args.conn.now; reads = g.N.Conn.reads c.args.conn.now; writes = g.N.Conn.writes c.args.conn.now } in
-    let n : Here = record { pass = c.in-Begins.pass; stand = stand_of c.next.new.self (g.N.Conn.left c.next.new.conn); written = g.N.Conn.given c.next.new.conn; reads = g.N.Conn.reads c.next.new.conn; writes = g.N.Conn.writes c.next.new.conn } in
+    let h : Here = here_with g.N.Conn c.args.pass c.args.inbox.now c.args.conn.now in
+    let n : Here = here_with g.N.Conn c.in-Begins.pass c.next.new.self c.next.new.conn in
     let came = c.in-Asked.ensures.comes in
     let reaches : Reaches h n (came.0 ∷ []) = record { takes = came.3; reads = c.next.ensures.later } in
     subst (λ (w : Went). IsNext (g.C.Clock.reads c.args.clock.now) s n w c.begin.new.doing) (sym c.begin.ensures.went)
@@ -43,8 +42,8 @@ returns-in-Begins-clause-order g c = subst IsDoingInOrder (sym c.begin.ensures.d
 
 pub returns-in-Refused-clause-steps : goal.returns-in-Refused-clause-steps
 returns-in-Refused-clause-steps g c = λ s same t.
-    let h : Here = record { pass = c.args.pass; stand = stand_of c.args.inbox.now (g.N.Conn.left c.args.conn.now); written = g.N.Conn.given c.args.conn.now; reads = g.N.Conn.reads c.args.conn.now; writes = g.N.Conn.writes c.args.conn.now } in
-    let n : Here = record { pass = c.args.pass; stand = stand_of c.next.new.self (g.N.Conn.left c.next.new.conn); written = g.N.Conn.given c.next.new.conn; reads = g.N.Conn.reads c.next.new.conn; writes = g.N.Conn.writes c.next.new.conn } in
+    let h : Here = here_with g.N.Conn c.args.pass c.args.inbox.now c.args.conn.now in
+    let n : Here = here_with g.N.Conn c.args.pass c.next.new.self c.next.new.conn in
     let came = c.in-Refused.ensures.comes in
     let reaches : Reaches h n [] = record { takes = came.0; reads = c.next.ensures.later } in
     subst (λ (w : Went). IsNext (g.C.Clock.reads c.args.clock.now) s n w c.refusing-went.new.doing) (sym c.refusing-went.ensures.went)

@@ -4,8 +4,7 @@ use Rattle.sb_server.specs.declared.doing.Doing.TheVariants.{Tells}
 use Rattle.sb_server.specs.declared.doing.Went.TheVariants.{On}
 use Rattle.sb_server.specs.declared.telling.Telling.{Telling}
 use Rattle.sb_server.specs.Doings.{IsDoing, IsNext}
-use Rattle.sb_server.specs.Reads.{stand_of}
-use Rattle.sb_server.specs.Talks.{Here}
+use Rattle.sb_server.specs.Talks.{Here, here_with}
 use Rattle.sb_server.proofs.Stepping.{asking_next, due_gone, only_waits}
 use Rattle.sb_server.proofs.Turning.{Reaches}
 use Rattle.sb_server.proofs.step.wait_on.Goals as goal
@@ -15,8 +14,8 @@ unreachable-requires g c = only_waits c.args.doing.now c.requires.asks (λ p is.
 
 pub returns-then-watch-clause-steps : goal.returns-then-watch-clause-steps
 returns-then-watch-clause-steps g c = λ s same a.
-    let h : Here = record { pass = c.args.pass; stand = stand_of c.args.inbox.now (g.N.Conn.left c.args.conn.now); written = g.N.Conn.given c.args.conn.now; reads = g.N.Conn.reads c.args.conn.now; writes = g.N.Conn.writes c.args.conn.now } in
-    let n : Here = record { pass = c.args.pass; stand = stand_of c.watch.new.self (g.N.Conn.left c.watch.new.conn); written = g.N.Conn.given c.watch.new.conn; reads = g.N.Conn.reads c.watch.new.conn; writes = g.N.Conn.writes c.watch.new.conn } in
+    let h : Here = here_with g.N.Conn c.args.pass c.args.inbox.now c.args.conn.now in
+    let n : Here = here_with g.N.Conn c.args.pass c.watch.new.self c.watch.new.conn in
     let reaches : Reaches h n [] = record { takes = c.watch.ensures.takes; reads = c.watch.ensures.later } in
     subst (λ (d : Doing). IsNext (g.C.Clock.reads c.args.clock.now) s n On d) (sym c.turn.ensures)
     (subst (λ (t : Telling). IsNext (g.C.Clock.reads c.args.clock.now) s n On (Tells t)) (sym c.farewell.ensures)
@@ -25,7 +24,7 @@ returns-then-watch-clause-steps g c = λ s same a.
 pub returns-clause-steps : goal.returns-clause-steps
 returns-clause-steps g c = λ s same a.
     let sent = c.post_again-sent.result in
-    let h : Here = record { pass = c.args.pass; stand = stand_of c.args.inbox.now (g.N.Conn.left c.args.conn.now); written = g.N.Conn.given c.args.conn.now; reads = g.N.Conn.reads c.args.conn.now; writes = g.N.Conn.writes c.args.conn.now } in
-    let n : Here = record { pass = sent.posted.pass; stand = stand_of c.watch.new.self (g.N.Conn.left c.watch.new.conn); written = g.N.Conn.given c.watch.new.conn; reads = g.N.Conn.reads c.watch.new.conn; writes = g.N.Conn.writes c.watch.new.conn } in
+    let h : Here = here_with g.N.Conn c.args.pass c.args.inbox.now c.args.conn.now in
+    let n : Here = here_with g.N.Conn sent.posted.pass c.watch.new.self c.watch.new.conn in
     let reaches : Reaches h n [] = record { takes = c.watch.ensures.takes; reads = c.watch.ensures.later } in
     asking_next (g.C.Clock.reads c.args.clock.now) s h n c.in-Asks.patience sent.posted sent.pending (subst (λ (d : Doing). IsDoing (g.C.Clock.reads c.args.clock.now) s h d) (sym c.replace-old.ensures.value ∙ c.in-Asks.is) a) reaches c.post_again-sent.ensures.begins c.watch.ensures.given (omega (arith, c.watch.ensures.writes))

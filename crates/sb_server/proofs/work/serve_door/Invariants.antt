@@ -7,5 +7,5 @@ abbrev pub invariant-loop : goal.invariant-loop
 invariant-loop g l = record {
   desk : IsOf l.desk (sitting_of l.current);
   sound : IsSound l.current l.stage (g.D.Door.out l.door);
-  at : IsAt (g.C.Clock.reads l.clock) l.access l.limits g.D.Conn.Conn.left g.D.Conn.Conn.given g.D.Conn.Conn.reads g.D.Conn.Conn.writes g.D.Door.left g.D.Door.taken g.D.Door.ended g.D.Door.count g.D.Door.out l.fn.most l.fn.pass l.fn.door l.current l.door l.stage;
+  at : IsAt g.D.Door g.D.Conn.Conn (g.C.Clock.reads l.clock) l.access l.limits l.fn.most l.fn.pass l.fn.door l.current l.door l.stage;
 }
