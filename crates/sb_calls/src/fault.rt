@@ -9,6 +9,8 @@ pub enum CallFault {
     WrittenB,
     /// The call kept its disks.
     NoDisks,
+    /// A node wasn't opened.
+    Unopened,
 }
 
 impl From<AllocError> for CallFault {

@@ -1,5 +1,5 @@
-//! Whole calls of the program over disks, streams and doors in memory, as the tests of the crates above make
-//! them: what a call is made over is made here and lent to it, and what it leaves comes back.
+//! Whole calls of the program over disks, streams and doors in memory, and nodes over such disks, as the tests of the
+//! crates above make them: what a call is made over is made here and lent to it, and what it leaves comes back.
 //!
 //! ```text
 //! let mut output = sink_of(alloc, 4096, &[])?;
@@ -11,6 +11,8 @@
 mod calls;
 mod fault;
 mod journals;
+mod nodes;
+mod serving;
 
 pub use calls::{
     bytes_of, called, called_alone, called_in, called_over, connection_of, disks_of, doors_of, ran,
@@ -18,3 +20,5 @@ pub use calls::{
 };
 pub use fault::CallFault;
 pub use journals::{ONE_EVENT, SALT};
+pub use nodes::{closed, found_behind, found_in, node_over};
+pub use serving::{Ended, SERVE, door_of, is_answered, lone_door, served, served_in, served_to};
