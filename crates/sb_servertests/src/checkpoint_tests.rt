@@ -2,9 +2,9 @@
 // on the other disk, and all that was sent is there. The lines were worked out by hand.
 use sb_app::NoWatcher;
 use sb_calls::{
-    ONE_EVENT, bytes_of, called_over, connection_of, disks_of, doors_of, ran_on_both, sink_of,
+    ONE_EVENT, bytes_of, called_over, disks_of, lone_door, ran_on_both, sink_of, source_of,
 };
-use sb_outside::{MemDisk, MemDoor, MemSink, MemSource, NoLink, PauseLobby, StepClock};
+use sb_outside::{MemDisk, MemDoor, MemSink, NoLink, PauseLobby, StepClock};
 use sb_rest::Access;
 use std::alloc::Global;
 use std::sync::Wait;
@@ -13,7 +13,7 @@ use std::thread::Threads;
 
 // By 150 bytes: the event of the queue takes 44 bytes, and that of each message 52; so a checkpoint is made
 // before the fourth message, and none behind it.
-const SERVE: [&str; 6] = [
+static SERVE: [&str; 6] = [
     "serve",
     "--data",
     "data",
@@ -22,7 +22,7 @@ const SERVE: [&str; 6] = [
     "--checkpoint-after=150",
 ];
 
-const SERVE_ALONE: [&str; 6] = [
+static SERVE_ALONE: [&str; 6] = [
     "serve",
     "--data",
     "data",
@@ -32,7 +32,7 @@ const SERVE_ALONE: [&str; 6] = [
 ];
 
 // At its end alone.
-const SERVE_TO_AN_END: [&str; 7] = [
+static SERVE_TO_AN_END: [&str; 7] = [
     "serve",
     "--data",
     "data",
@@ -42,9 +42,9 @@ const SERVE_TO_AN_END: [&str; 7] = [
     "--checkpoint",
 ];
 
-const CHECK: [&str; 2] = ["check", "--data=."];
+static CHECK: [&str; 2] = ["check", "--data=."];
 
-const RUN: [&str; 3] = ["run", "--data", "."];
+static RUN: [&str; 3] = ["run", "--data", "."];
 
 const SENDS: &str =
     "POST /q/messages HTTP/1.1\r\nHost: h\r\nContent-Length: 2\r\n\r\nm1POST /q/messages HTTP/1.1\r\nHost: h\r\nContent-Length: 2\r\n\r\nm2POST /q/messages HTTP/1.1\r\nHost: h\r\nContent-Length: 2\r\n\r\nm3POST /q/messages HTTP/1.1\r\nHost: h\r\nContent-Length: 2\r\n\r\nm4POST /q/messages HTTP/1.1\r\nHost: h\r\nContent-Length: 2\r\n\r\nm5";
@@ -86,73 +86,84 @@ fn images_of(alloc: Global, disk_a: MemDisk, disk_b: MemDisk) -> Result<Images, 
     })
 }
 
-// A door with one connection, which sends five messages.
-fn door(alloc: Global) -> Result<Vec<MemDoor>, Fail> {
-    let conn = connection_of(alloc, SENDS.as_bytes(), 7)?;
-    Ok(doors_of(alloc, vec![in alloc; conn]?)?)
+// Serves these doors, to whom the access lets in, over the journal of the queue; the status, and the disks as it
+// leaves them.
+fn serve_into<T: Threads + Wait + Sync>(
+    threads: &T,
+    alloc: Global,
+    words: &[&str],
+    access: &Access,
+    output: &mut MemSink,
+    doors: &mut Vec<MemDoor>,
+) -> Result<(u8, MemDisk, MemDisk), Fail> {
+    let mut input = source_of(alloc, &[], 1, &[])?;
+    let clock = StepClock::new(1000, 0);
+    let ended = match disks_of(alloc, (&ONE_EVENT, &[])) {
+        Ok(disks) => called_over(
+            threads,
+            alloc,
+            words,
+            access,
+            disks,
+            &clock,
+            &mut input,
+            output,
+            doors,
+            &PauseLobby,
+            &mut NoLink::new(),
+            &NoWatcher,
+        ),
+        Err(fault) => Err(fault),
+    };
+    drop(input);
+    drop(clock);
+    Ok(ended?)
 }
 
-// Serves these doors over the journal of the queue; the status, and the disks as it leaves them.
+// The same of all who come.
 fn served<T: Threads + Wait + Sync>(
-    rt: &HostRuntime,
     threads: &T,
+    alloc: Global,
     words: &[&str],
     output: &mut MemSink,
     doors: &mut Vec<MemDoor>,
 ) -> Result<(u8, MemDisk, MemDisk), Fail> {
-    let alloc = rt.alloc();
-    let disks = disks_of(alloc, (&ONE_EVENT, &[]))?;
     let access = Access::unlocked(alloc);
-    let clock = StepClock::new(1000, 0);
-    let mut input = MemSource::new(Vec::new(alloc), 1, Vec::new(alloc));
-    let ended = called_over(
-        threads,
-        alloc,
-        words,
-        &access,
-        disks,
-        &clock,
-        &mut input,
-        output,
-        doors,
-        &PauseLobby,
-        &mut NoLink::new(),
-        &NoWatcher,
-    );
-    drop(input);
-    drop(clock);
+    let ended = serve_into(threads, alloc, words, &access, output, doors);
     drop(access);
-    Ok(ended?)
+    ended
 }
 
 // What is left on the disks once these doors were served and the numbers were told.
 fn left_by<T: Threads + Wait + Sync>(
-    rt: &HostRuntime,
     threads: &T,
+    alloc: Global,
     words: &[&str],
     doors: &mut Vec<MemDoor>,
 ) -> Result<Images, Fail> {
-    let mut output = sink_of(rt.alloc(), 256, &[])?;
-    let ended = served(rt, threads, words, &mut output, doors);
+    let mut output = sink_of(alloc, 256, &[])?;
+    let ended = served(threads, alloc, words, &mut output, doors);
     let is_told = output.bytes() == SERVED.as_bytes();
     drop(output);
-    let (status, disk_a, disk_b) = ended?;
-    let images = images_of(rt.alloc(), disk_a, disk_b)?;
-    if status == 0 && is_told {
-        return Ok(images);
+    match ended {
+        Ok((0, disk_a, disk_b)) if is_told => images_of(alloc, disk_a, disk_b),
+        Ok((_, disk_a, disk_b)) => {
+            drop(disk_a);
+            drop(disk_b);
+            Err(Fail::from("another status, or another report"))
+        }
+        Err(fail) => Err(fail),
     }
-    drop(images);
-    Err(Fail::from("another status, or another report"))
 }
 
-// The same of the door.
+// The same of a door with one connection, which sends five messages.
 fn images_left<T: Threads + Wait + Sync>(
-    rt: &HostRuntime,
     threads: &T,
+    alloc: Global,
     words: &[&str],
 ) -> Result<Images, Fail> {
-    let mut doors = door(rt.alloc())?;
-    let left = left_by(rt, threads, words, &mut doors);
+    let mut doors = lone_door(alloc, SENDS.as_bytes(), 7)?;
+    let left = left_by(threads, alloc, words, &mut doors);
     drop(doors);
     left
 }
@@ -195,43 +206,61 @@ fn tells(
     Ok(status? == 0 && is_told)
 }
 
-// Whether a check tells the numbers of all that was sent, over both disks and over disk b alone, and a run
-// receives all of it.
-fn tried(alloc: Global, left: &Images) -> Result<(bool, bool, bool), Fail> {
-    let on_both = tells(alloc, &CHECK, &left.disk_a, &left.disk_b, "", CHECKED)?;
-    let on_b = tells(alloc, &CHECK, &[], &left.disk_b, "", CHECKED)?;
-    let received = tells(alloc, &RUN, &left.disk_a, &left.disk_b, RECEIVES, RECEIVED)?;
-    Ok((on_both, on_b, received))
+// What stands on the disks: whether disk b is empty and the file of disk a closed; and whether a check tells the
+// numbers of all that was sent, over both disks and over disk b alone, and a run receives all of it.
+#[derive(Clone, Copy)]
+struct Found {
+    is_b_empty: bool,
+    is_a_closed: bool,
+    on_both: bool,
+    on_b: bool,
+    received: bool,
+}
+
+fn found_in(alloc: Global, disk_a: &[u8], disk_b: &[u8]) -> Result<Found, Fail> {
+    let on_both = tells(alloc, &CHECK, disk_a, disk_b, "", CHECKED)?;
+    let on_b = tells(alloc, &CHECK, &[], disk_b, "", CHECKED)?;
+    let received = tells(alloc, &RUN, disk_a, disk_b, RECEIVES, RECEIVED)?;
+    Ok(Found {
+        is_b_empty: disk_b.is_empty(),
+        is_a_closed: disk_a.first() == Some(&0),
+        on_both,
+        on_b,
+        received,
+    })
+}
+
+fn found_behind<T: Threads + Wait + Sync>(
+    threads: &T,
+    alloc: Global,
+    words: &[&str],
+) -> Result<Found, Fail> {
+    let left = images_left(threads, alloc, words)?;
+    let found = found_in(alloc, &left.disk_a, &left.disk_b);
+    drop(left);
+    found
 }
 
 // Disk b counts afterwards.
 #[test]
 fn a_server_goes_on_with_the_other_disk(rt: HostRuntime) -> Result<(), Fail> {
-    let left = images_left(&rt, &rt, &SERVE)?;
-    let tried = tried(rt.alloc(), &left);
-    drop(left);
-    assert_eq!(rt; tried?, (true, true, true));
+    let found = found_behind(&rt, rt.alloc(), &SERVE)?;
+    assert!(rt; found.on_both && found.on_b && found.received);
     Ok(())
 }
 
 // By 0 it makes none: disk b is as empty as it was.
 #[test]
 fn a_server_stays_with_its_disk(rt: HostRuntime) -> Result<(), Fail> {
-    let left = images_left(&rt, &rt, &SERVE_ALONE)?;
-    let is_left = left.disk_b.is_empty();
-    let tried = tried(rt.alloc(), &left);
-    drop(left);
-    assert_eq!(rt; (is_left, tried?), (true, (true, false, true)));
+    let found = found_behind(&rt, rt.alloc(), &SERVE_ALONE)?;
+    assert!(rt; found.is_b_empty && found.on_both && !found.on_b && found.received);
     Ok(())
 }
 
 // Its end is a checkpoint: disk b counts, and the file of disk a is closed.
 #[test]
 fn a_server_ends_with_a_checkpoint(rt: HostRuntime) -> Result<(), Fail> {
-    let left = images_left(&rt, &rt, &SERVE_TO_AN_END)?;
-    let is_closed = left.disk_a.first() == Some(&0);
-    let tried = tried(rt.alloc(), &left);
-    drop(left);
-    assert_eq!(rt; (is_closed, tried?), (true, (true, true, true)));
+    let found = found_behind(&rt, rt.alloc(), &SERVE_TO_AN_END)?;
+    assert!(rt; found.is_a_closed && found.on_both && found.on_b && found.received);
     Ok(())
 }

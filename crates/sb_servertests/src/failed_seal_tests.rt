@@ -1,12 +1,9 @@
 // Connections of one thread that send at the same moment: one group, whose changes are made safe together. Where the
 // disk fails at a call of that, each of them is answered so and ends, a call behind them finds that the namespace has
 // stopped, and who opens the disk again finds all that they sent, or nothing. All was worked out by hand.
-use crate::desks::{closed, node_over};
-use crate::server_tests::{FAILED, Pace, SEND, SENT, SERVE, connection, is_given};
-use sb_app::NoWatcher;
-use sb_calls::{ONE_EVENT, called, sink_of};
-use sb_outside::{MemDisk, MemDoor, MemSink, MemSource, NoLink, StepClock};
-use sb_rest::Access;
+use crate::server_tests::{FAILED, Pace, SEND, SENT, connection, is_given};
+use sb_calls::{Ended, ONE_EVENT, found_behind, found_in, served};
+use sb_outside::{MemDisk, MemDoor};
 use std::alloc::Global;
 use std::process::Abort;
 use std::sync::Wait;
@@ -46,7 +43,7 @@ struct Signs<'a> {
     later: &'a [&'a str],
 }
 
-const ENDS: [Signs<'static>; 3] = [
+static ENDS: [Signs<'static>; 3] = [
     Signs {
         end: End::Unopened,
         status: 5,
@@ -94,7 +91,7 @@ const THREE: Found = Found {
 };
 
 // What is found where each call of the disk failed that the group makes. Only 0x01 is an open gate.
-const BY_CALL: [Found; 4] = [
+static BY_CALL: [Found; 4] = [
     // the records behind the closed gate, and their sync
     NOTHING,
     NOTHING,
@@ -108,53 +105,29 @@ const BY_CALL: [Found; 4] = [
 ];
 
 // A door with one connection, which makes these requests.
-fn door(rt: &HostRuntime, requests: &[&str], pace: Pace) -> Result<MemDoor, Fail> {
-    let alloc = rt.alloc();
-    let conn = connection(rt, requests, 4096, pace)?;
+fn door(alloc: Global, requests: &[&str], pace: Pace) -> Result<MemDoor, Fail> {
+    let conn = connection(alloc, requests, 4096, pace)?;
     let conns = vec![in alloc; conn]?;
     Ok(MemDoor::new(alloc, conns, Vec::new(alloc))?)
 }
 
-// The doors of those who send, each with a look behind it, and of one of whom nothing comes at first.
-fn doors_of_all(rt: &HostRuntime) -> Result<Vec<MemDoor>, Fail> {
-    let mut doors = Vec::new(rt.alloc());
-    for _ in 0..SENDERS {
-        doors.push(door(rt, &[SEND, LOOK], Pace::Even)?)?;
-    }
-    doors.push(door(rt, &[LOOK], Pace::Hesitant)?)?;
-    Ok(doors)
+fn put_door(
+    alloc: Global,
+    doors: &mut Vec<MemDoor>,
+    requests: &[&str],
+    pace: Pace,
+) -> Result<(), Fail> {
+    let door = door(alloc, requests, pace)?;
+    doors.push(door)?;
+    Ok(())
 }
 
-// Serves these doors in one thread, over a queue without a message and a disk that fails at this call; the status, and
-// the disk.
-fn serve_into<T: Threads + Wait + Sync>(
-    rt: &HostRuntime,
-    threads: &T,
-    call: u64,
-    output: &mut MemSink,
-    doors: &mut Vec<MemDoor>,
-) -> Result<(u8, MemDisk), Fail> {
-    let alloc = rt.alloc();
-    let access = Access::unlocked(alloc);
-    let clock = StepClock::new(1000, 0);
-    let mut input = MemSource::new(Vec::new(alloc), 1, Vec::new(alloc));
-    let ended = called(
-        threads,
-        alloc,
-        &SERVE,
-        &access,
-        (&ONE_EVENT, &[call]),
-        &clock,
-        &mut input,
-        output,
-        doors,
-        &mut NoLink::new(),
-        &NoWatcher,
-    );
-    drop(input);
-    drop(clock);
-    drop(access);
-    Ok(ended?)
+// Puts the doors of those who send, each with a look behind it, and of one of whom nothing comes at first.
+fn put_all(alloc: Global, doors: &mut Vec<MemDoor>) -> Result<(), Fail> {
+    for _ in 0..SENDERS {
+        put_door(alloc, doors, &[SEND, LOOK], Pace::Even)?;
+    }
+    put_door(alloc, doors, &[LOOK], Pace::Hesitant)
 }
 
 // Whether the connection of this door was given just these, and none where it wasn't served.
@@ -166,7 +139,7 @@ fn is_answered(door: &MemDoor, responses: &[&str]) -> bool {
 }
 
 // Whether each connection was given what it is to be given.
-fn are_answered(doors: &[MemDoor], signs: Signs<'_>) -> bool {
+fn are_answered(doors: &[MemDoor], signs: &Signs<'_>) -> bool {
     for (place, door) in doors.iter().enumerate() {
         let responses = if place < SENDERS {
             signs.sending
@@ -181,73 +154,48 @@ fn are_answered(doors: &[MemDoor], signs: Signs<'_>) -> bool {
 }
 
 // Which end it is.
-fn end_of(status: u8, told: &[u8], doors: &[MemDoor]) -> Option<End> {
+fn end_of(ended: &Ended, doors: &[MemDoor]) -> Option<End> {
     for signs in &ENDS {
-        let is_told = signs.status == status && signs.told.as_bytes() == told;
-        if is_told && are_answered(doors, *signs) {
+        if ended.is(signs.status, signs.told) && are_answered(doors, signs) {
             return Some(signs.end);
         }
     }
     None
 }
 
-// The end of a server whose disk fails at this call, and the disk.
-fn end_by<T: Threads + Wait + Sync>(
-    rt: &HostRuntime,
+// How many messages who opens the disk finds.
+fn found_on(alloc: Global, disk: &MemDisk) -> Result<Found, Fail> {
+    let (_, read) = found_in(alloc, disk.bytes())?;
+    let (_, by_ff) = found_behind(alloc, disk, 0xff)?;
+    let (_, by_01) = found_behind(alloc, disk, 0x01)?;
+    Ok(Found { read, by_ff, by_01 })
+}
+
+// The end of a server over these doors whose disk fails at this call, in one thread and over a queue without a message,
+// and what is found behind it.
+fn tried_with<T: Threads + Wait + Sync>(
     threads: &T,
+    alloc: Global,
     call: u64,
     doors: &mut Vec<MemDoor>,
-) -> Result<(Option<End>, MemDisk), Fail> {
-    let mut output = sink_of(rt.alloc(), 256, &[])?;
-    let served = serve_into(rt, threads, call, &mut output, doors);
-    let ended = match served {
-        Ok((status, disk)) => {
-            let end = end_of(status, output.bytes(), doors.as_slice());
-            Ok((end, disk))
-        }
-        Err(fail) => Err(fail),
-    };
-    drop(output);
-    ended
+) -> Result<(Option<End>, Found), Fail> {
+    put_all(alloc, doors)?;
+    let ended = served(threads, alloc, (&ONE_EVENT, &[call]), doors)?;
+    let end = end_of(&ended, doors);
+    let found = found_on(alloc, &ended.disk);
+    drop(ended);
+    Ok((end, found?))
 }
 
-// How many messages who opens these bytes finds.
-fn messages_in(rt: &impl Abort, alloc: Global, bytes: &[u8]) -> u64 {
-    let node = node_over(rt, alloc, (bytes, &[])).expect(rt, "the bytes open");
-    let numbers = node.summary();
-    drop(closed(node));
-    numbers.copies
-}
-
-// The same where a crash leaves this byte wherever it may leave any.
-fn messages_behind(rt: &impl Abort, alloc: Global, disk: &MemDisk, fill: u8) -> u64 {
-    let image = disk.image(alloc, fill).expect(rt, "memory for an image");
-    let messages = messages_in(rt, alloc, &image);
-    drop(image);
-    messages
-}
-
-fn found_on(rt: &impl Abort, alloc: Global, disk: &MemDisk) -> Found {
-    Found {
-        read: messages_in(rt, alloc, disk.bytes()),
-        by_ff: messages_behind(rt, alloc, disk, 0xff),
-        by_01: messages_behind(rt, alloc, disk, 0x01),
-    }
-}
-
-// The end where the disk fails at this call, and what is found behind it.
-fn tried<T: Abort + Threads + Wait + Sync>(
-    rt: &HostRuntime,
+fn tried<T: Threads + Wait + Sync>(
     threads: &T,
+    alloc: Global,
     call: u64,
 ) -> Result<(Option<End>, Found), Fail> {
-    let mut doors = doors_of_all(rt)?;
-    let ended = end_by(rt, threads, call, &mut doors);
+    let mut doors = Vec::new(alloc);
+    let tried = tried_with(threads, alloc, call, &mut doors);
     drop(doors);
-    let (end, disk) = ended?;
-    let found = found_on(threads, rt.alloc(), &disk);
-    drop(disk);
-    Ok((end, found))
+    tried
 }
 
 // Whether this is to be found, where the group failed at so many calls before.
@@ -257,6 +205,21 @@ fn is_right(end: Option<End>, found: Found, failed: usize) -> bool {
         Some(End::Failed) => BY_CALL.get(failed) == Some(&found),
         Some(End::Served) => found == THREE,
         None => false,
+    }
+}
+
+// Tries a disk that fails at this call, where the group failed at so many before; at how many it did with this one.
+fn tries<T: Abort + Threads + Wait + Sync>(
+    threads: &T,
+    alloc: Global,
+    call: u64,
+    failed: usize,
+) -> Result<usize, Fail> {
+    let (end, found) = tried(threads, alloc, call)?;
+    assert!(threads; is_right(end, found, failed), "call {call}");
+    match end {
+        Some(End::Failed) => Ok(failed.saturating_add(1)),
+        _ => Ok(failed),
     }
 }
 
@@ -270,11 +233,7 @@ const MANY_CALLS: u64 = 24;
 fn connections_fail_together(rt: HostRuntime) -> Result<(), Fail> {
     let mut failed = 0usize;
     for call in 0..MANY_CALLS {
-        let (end, found) = tried(&rt, &rt, call)?;
-        assert!(rt; is_right(end, found, failed), "call {call}");
-        if matches!(end, Some(End::Failed)) {
-            failed = failed.saturating_add(1);
-        }
+        failed = tries(&rt, rt.alloc(), call, failed)?;
     }
     assert_eq!(rt; failed, BY_CALL.len());
     Ok(())

@@ -1,14 +1,17 @@
 // Bodies of several script lines through a server in memory: the responses to the byte, and which calls were made.
-use crate::server_tests::{SERVE, served};
-use sb_calls::{ONE_EVENT, connection_of, doors_of, sink_of};
-use sb_outside::{MemDoor, MemSink};
-use sb_rest::Access;
+ghost use Rattle.std.specs.Prelude.{◌<◌};
+
+use sb_calls::{ONE_EVENT, is_answered, lone_door, served};
+use sb_outside::MemDoor;
 use std::alloc::{AllocError, Global};
 use std::sync::Wait;
 use std::test::Fail;
 use std::thread::Threads;
 
 const LINES: &str = "Content-Type: Application/X-NDJSON; charset=utf-8\r\n";
+
+// The fields of a response to such a body.
+const ANSWERED: &str = "Content-Type: application/x-ndjson\r\n";
 
 const CREATE_A: &str = "{\"do\":\"create-queue\",\"name\":\"a\"}\n";
 
@@ -55,7 +58,7 @@ struct Row<'a> {
 const ONE: Row<'static> = Row {
     fields: LINES,
     body: &[CREATE_A],
-    answered: "Content-Type: application/x-ndjson\r\n",
+    answered: ANSWERED,
     lines: &[DONE],
     told: "{\"changing\":1,\"entries\":1,\"ok\":\"report\",\"refused\":0}\n",
 };
@@ -69,7 +72,7 @@ const EMPTY_ONCE: Row<'static> = Row {
     told: "{\"changing\":0,\"entries\":1,\"ok\":\"report\",\"refused\":0}\n",
 };
 
-const ROWS: [Row<'static>; 13] = [
+static ROWS: [Row<'static>; 13] = [
     ONE,
     // a line that is no call is answered at its place, and the others are called
     Row {
@@ -133,7 +136,7 @@ const ROWS: [Row<'static>; 13] = [
     // and each of several lines
     Row {
         fields: LINES,
-        answered: "Content-Type: application/x-ndjson\r\n",
+        answered: ANSWERED,
         body: &[TAKE_LATER, TAKE_LATER],
         lines: &[EMPTY, EMPTY],
         told: "{\"changing\":0,\"entries\":2,\"ok\":\"report\",\"refused\":0}\n",
@@ -173,86 +176,6 @@ fn response(alloc: Global, fields: &str, last: &str, lines: &str) -> Result<Stri
     )
 }
 
-// The status of a server, what the first connection that came back was given, and the report.
-#[derive(Drop)]
-struct Outcome {
-    status: u8,
-    given: Vec<u8>,
-    told: Vec<u8>,
-}
-
-impl Outcome {
-    fn answers(&self, status: u8, given: &str) -> bool {
-        self.status == status && self.given.as_slice() == given.as_bytes()
-    }
-}
-
-// A door whose connection makes a request.
-fn door(alloc: Global, request: &str) -> Result<Vec<MemDoor>, Fail> {
-    let conn = connection_of(alloc, request.as_bytes(), 4096)?;
-    Ok(doors_of(alloc, vec![in alloc; conn]?)?)
-}
-
-// Serves these doors over a disk that fails at these calls, and gives the status.
-fn serves_doors<T: Threads + Wait + Sync>(
-    rt: &HostRuntime,
-    threads: &T,
-    failing: &[u64],
-    output: &mut MemSink,
-    doors: &mut Vec<MemDoor>,
-) -> Result<u8, Fail> {
-    let access = Access::unlocked(rt.alloc());
-    let disk = (ONE_EVENT.as_slice(), failing);
-    let status = served(rt, threads, &SERVE, &access, disk, output, doors);
-    drop(access);
-    status
-}
-
-// What the first connection that came back was given.
-fn given_by(alloc: Global, doors: &[MemDoor]) -> Result<Vec<u8>, AllocError> {
-    let Some(door) = doors.first() else {
-        return Ok(Vec::new(alloc));
-    };
-    match door.taken().first() {
-        Some(conn) => conn.bytes().to_vec(alloc),
-        None => Ok(Vec::new(alloc)),
-    }
-}
-
-// Serves these doors; the status, and the report.
-fn told_by<T: Threads + Wait + Sync>(
-    rt: &HostRuntime,
-    threads: &T,
-    failing: &[u64],
-    doors: &mut Vec<MemDoor>,
-) -> Result<(u8, Vec<u8>), Fail> {
-    let mut output = sink_of(rt.alloc(), 256, &[])?;
-    let status = serves_doors(rt, threads, failing, &mut output, doors);
-    let told = output.bytes().to_vec(rt.alloc());
-    drop(output);
-    Ok((status?, told?))
-}
-
-// Serves a request over a disk that fails at this call, if any.
-fn serves<T: Threads + Wait + Sync>(
-    rt: &HostRuntime,
-    threads: &T,
-    request: &str,
-    failing: &[u64],
-) -> Result<Outcome, Fail> {
-    let alloc = rt.alloc();
-    let mut doors = door(alloc, request)?;
-    let ended = told_by(rt, threads, failing, &mut doors);
-    let given = given_by(alloc, &doors);
-    drop(doors);
-    let (status, told) = ended?;
-    Ok(Outcome {
-        status,
-        given: given?,
-        told,
-    })
-}
-
 // The request of a body of these lines, each so many times.
 fn asked(alloc: Global, fields: &str, body: &[&str], times: usize) -> Result<String, AllocError> {
     let body = joined(alloc, body, times)?;
@@ -269,86 +192,113 @@ fn answered(alloc: Global, fields: &str, last: &str, lines: &[&str]) -> Result<S
     response
 }
 
-// Serves a request, which has to be answered by a response and told of by a report.
-fn tries_request<T: Threads + Wait + Sync>(
-    rt: &HostRuntime,
+// Serves these doors, of which the connection has to be answered by a response, and what is told by a report.
+fn tries_doors<T: Threads + Wait + Sync>(
     threads: &T,
-    request: &str,
+    alloc: Global,
+    doors: &mut Vec<MemDoor>,
     response: &str,
     report: &str,
 ) -> Result<(), Fail> {
-    let outcome = serves(rt, threads, request, &[])?;
-    let is_answered = outcome.answers(0, response);
-    let is_told = outcome.told.as_slice() == report.as_bytes();
-    drop(outcome);
-    if !is_answered {
-        return Err(Fail::from("another status or response"));
-    }
+    let ended = served(threads, alloc, (&ONE_EVENT, &[]), doors)?;
+    let is_told = ended.is(0, report);
+    drop(ended);
     if !is_told {
-        return Err(Fail::from("another report"));
+        return Err(Fail::from("another status, or another report"));
+    }
+    if !is_answered(doors, response.as_bytes()) {
+        return Err(Fail::from("another response"));
     }
     Ok(())
 }
 
+// The same of a request.
+fn tries_request<T: Threads + Wait + Sync>(
+    threads: &T,
+    alloc: Global,
+    request: &str,
+    response: &str,
+    report: &str,
+) -> Result<(), Fail> {
+    let mut doors = lone_door(alloc, request.as_bytes(), 4096)?;
+    let tried = tries_doors(threads, alloc, &mut doors, response, report);
+    drop(doors);
+    tried
+}
+
 // The same of a row, each line of whose body stands there so many times.
 fn tries_body<T: Threads + Wait + Sync>(
-    rt: &HostRuntime,
     threads: &T,
-    row: Row<'_>,
+    alloc: Global,
+    row: &Row<'_>,
     times: usize,
     response: &str,
 ) -> Result<(), Fail> {
-    let request = asked(rt.alloc(), row.fields, row.body, times)?;
-    let tried = tries_request(rt, threads, request.as_str(), response, row.told);
+    let request = asked(alloc, row.fields, row.body, times)?;
+    let tried = tries_request(threads, alloc, request.as_str(), response, row.told);
     drop(request);
     tried
 }
 
 fn tries<T: Threads + Wait + Sync>(
-    rt: &HostRuntime,
     threads: &T,
-    row: Row<'_>,
+    alloc: Global,
+    row: &Row<'_>,
+    times: usize,
 ) -> Result<(), Fail> {
-    let response = answered(rt.alloc(), row.answered, "", row.lines)?;
-    let tried = tries_body(rt, threads, row, 1, response.as_str());
+    let response = answered(alloc, row.answered, "", row.lines)?;
+    let tried = tries_body(threads, alloc, row, times, response.as_str());
     drop(response);
     tried
+}
+
+fn tries_row<T: Threads + Wait + Sync>(threads: &T, alloc: Global, row: usize) -> Result<(), Fail>
+    requires { row < 13 }
+{
+    tries(threads, alloc, &ROWS[row], 1)
 }
 
 #[test]
 fn each_line_is_called(rt: HostRuntime) -> Result<(), Fail> {
-    for row in &ROWS {
-        tries(&rt, &rt, *row)?;
+    for row in 0..ROWS.len() {
+        tries_row(&rt, rt.alloc(), row)?;
     }
     Ok(())
 }
 
-// The response to a hundred lines that make one queue.
+static A_HUNDRED: Row<'static> = Row {
+    told: "{\"changing\":1,\"entries\":100,\"ok\":\"report\",\"refused\":99}\n",
+    ..ONE
+};
+
+static ONE_MORE: Row<'static> = Row {
+    lines: &[NO_LINE],
+    told: "{\"changing\":0,\"entries\":0,\"ok\":\"report\",\"refused\":0}\n",
+    ..ONE
+};
+
+// The lines that answer a hundred that make one queue.
+fn put_made_once(lines: &mut String) -> Result<(), AllocError> {
+    lines.push_str(DONE)?;
+    for _ in 1..100 {
+        lines.push_str(EXISTS)?;
+    }
+    Ok(())
+}
+
 fn made_once(alloc: Global) -> Result<String, AllocError> {
-    let mut lines = [EXISTS; 100];
-    lines[0] = DONE;
-    answered(alloc, ONE.answered, "", &lines)
+    let mut lines = String::new(alloc);
+    let made = match put_made_once(&mut lines) {
+        Ok(()) => response(alloc, ANSWERED, "", lines.as_str()),
+        Err(error) => Err(error),
+    };
+    drop(lines);
+    made
 }
 
-fn tries_a_hundred<T: Threads + Wait + Sync>(rt: &HostRuntime, threads: &T) -> Result<(), Fail> {
-    let row = Row {
-        told: "{\"changing\":1,\"entries\":100,\"ok\":\"report\",\"refused\":99}\n",
-        ..ONE
-    };
-    let response = made_once(rt.alloc())?;
-    let tried = tries_body(rt, threads, row, 100, response.as_str());
-    drop(response);
-    tried
-}
-
-fn tries_one_more<T: Threads + Wait + Sync>(rt: &HostRuntime, threads: &T) -> Result<(), Fail> {
-    let row = Row {
-        lines: &[NO_LINE],
-        told: "{\"changing\":0,\"entries\":0,\"ok\":\"report\",\"refused\":0}\n",
-        ..ONE
-    };
-    let response = answered(rt.alloc(), row.answered, "", row.lines)?;
-    let tried = tries_body(rt, threads, row, 101, response.as_str());
+fn tries_a_hundred<T: Threads + Wait + Sync>(threads: &T, alloc: Global) -> Result<(), Fail> {
+    let response = made_once(alloc)?;
+    let tried = tries_body(threads, alloc, &A_HUNDRED, 100, response.as_str());
     drop(response);
     tried
 }
@@ -356,47 +306,63 @@ fn tries_one_more<T: Threads + Wait + Sync>(rt: &HostRuntime, threads: &T) -> Re
 // A hundred lines are called, and of a hundred and one none.
 #[test]
 fn a_hundred_lines_at_most(rt: HostRuntime) -> Result<(), Fail> {
-    tries_a_hundred(&rt, &rt)?;
-    tries_one_more(&rt, &rt)
+    tries_a_hundred(&rt, rt.alloc())?;
+    tries(&rt, rt.alloc(), &ONE_MORE, 101)
 }
 
 // The replies to two lines where the disk fails at a call of the first one's append or of the second's.
-const STOPS: [&[&str]; 2] = [&[FAILED, STOPPED], &[DONE, FAILED]];
+static STOPS: [&[&str]; 2] = [&[FAILED, STOPPED], &[DONE, FAILED]];
+
+// Whether the connection was answered so.
+fn is_stop(alloc: Global, doors: &[MemDoor], lines: &[&str]) -> Result<bool, AllocError> {
+    let wanted = answered(alloc, ANSWERED, "Connection: close\r\n", lines)?;
+    let is_so = is_answered(doors, wanted.as_bytes());
+    drop(wanted);
+    Ok(is_so)
+}
 
 // Which of these stops it is, or none.
-fn stop_of(alloc: Global, outcome: &Outcome) -> Result<Option<usize>, AllocError> {
+fn stop_of(alloc: Global, doors: &[MemDoor]) -> Result<Option<usize>, AllocError> {
     for (place, lines) in STOPS.iter().enumerate() {
-        let wanted = answered(alloc, ONE.answered, "Connection: close\r\n", lines)?;
-        let is_so = outcome.answers(5, wanted.as_str());
-        drop(wanted);
-        if is_so {
+        if is_stop(alloc, doors, lines)? {
             return Ok(Some(place));
         }
     }
     Ok(None)
 }
 
-fn stopped<T: Threads + Wait + Sync>(
-    rt: &HostRuntime,
+// Which of these stops it is, where the disk failed at this call, or none where no call was that.
+fn stop_in<T: Threads + Wait + Sync>(
     threads: &T,
+    alloc: Global,
     call: u64,
-) -> Result<Outcome, Fail> {
-    let request = asked(rt.alloc(), LINES, &[CREATE_A, CREATE_B], 1)?;
-    let outcome = serves(rt, threads, request.as_str(), &[call]);
-    drop(request);
-    outcome
+    doors: &mut Vec<MemDoor>,
+) -> Result<Option<usize>, Fail> {
+    let ended = served(threads, alloc, (&ONE_EVENT, &[call]), doors)?;
+    let status = ended.status;
+    drop(ended);
+    if status != 5 {
+        return Ok(None);
+    }
+    Ok(stop_of(alloc, doors)?)
 }
 
-// Which of these stops it is, where the disk failed at this call, or none where no call was that.
+fn doors_of_two(alloc: Global) -> Result<Vec<MemDoor>, Fail> {
+    let request = asked(alloc, LINES, &[CREATE_A, CREATE_B], 1)?;
+    let doors = lone_door(alloc, request.as_bytes(), 4096);
+    drop(request);
+    Ok(doors?)
+}
+
 fn stop_at<T: Threads + Wait + Sync>(
-    rt: &HostRuntime,
     threads: &T,
+    alloc: Global,
     call: u64,
 ) -> Result<Option<usize>, Fail> {
-    let outcome = stopped(rt, threads, call)?;
-    let stop = stop_of(rt.alloc(), &outcome);
-    drop(outcome);
-    Ok(stop?)
+    let mut doors = doors_of_two(alloc)?;
+    let stop = stop_in(threads, alloc, call, &mut doors);
+    drop(doors);
+    stop
 }
 
 // Where the disk fails, the lines behind are answered as a namespace that has stopped answers them, and the
@@ -405,7 +371,7 @@ fn stop_at<T: Threads + Wait + Sync>(
 fn lines_behind_a_failed_disk(rt: HostRuntime) -> Result<(), Fail> {
     let mut counts = (0u64, 0u64);
     for call in 0..64 {
-        match stop_at(&rt, &rt, call)? {
+        match stop_at(&rt, rt.alloc(), call)? {
             Some(0) => counts.0 = counts.0.saturating_add(1),
             Some(_) => counts.1 = counts.1.saturating_add(1),
             None => {}

@@ -1,17 +1,14 @@
 // Servers over doors in memory: what their connections are given, and how a call ends.
-ghost use Rattle.std.specs.Prelude.{◌≤◌};
+ghost use Rattle.std.specs.Prelude.{◌<◌, ◌≤◌};
 
-use sb_app::NoWatcher;
-use sb_calls::{ONE_EVENT, called, sink_of};
+use sb_calls::{Ended, ONE_EVENT, SERVE, served, served_to, sink_of};
 use sb_model::{Rows, Text};
-use sb_outside::{MemConn, MemDoor, MemSink, MemSource, NoLink, StepClock};
+use sb_outside::{MemConn, MemDoor, MemSink, MemSource, PauseLobby, StepClock};
 use sb_rest::Access;
 use std::alloc::{AllocError, Global};
 use std::sync::Wait;
 use std::test::Fail;
 use std::thread::Threads;
-
-pub(crate) const SERVE: [&str; 5] = ["serve", "--data", "data", "--port", "8080"];
 
 const SERVE_ONE: [&str; 7] = [
     "serve",
@@ -86,6 +83,8 @@ struct Case<'a> {
     status: u8,
 }
 
+const REPORT: &str = "{\"changing\":2,\"entries\":2,\"ok\":\"report\",\"refused\":0}\n";
+
 const SEND_AND_RECEIVE: Case<'static> = Case {
     words: &SERVE,
     hosts: &[],
@@ -93,11 +92,11 @@ const SEND_AND_RECEIVE: Case<'static> = Case {
     door: &[],
     output: &[],
     connections: &[(&[SEND, RECEIVE], &[SENT, RECEIVED])],
-    told: "{\"changing\":2,\"entries\":2,\"ok\":\"report\",\"refused\":0}\n",
+    told: REPORT,
     status: 0,
 };
 
-const CASES: [Case<'static>; 10] = [
+static CASES: [Case<'static>; 10] = [
     SEND_AND_RECEIVE,
     // what is settled, and lines of a script
     Case {
@@ -181,6 +180,13 @@ const CASES: [Case<'static>; 10] = [
     },
 ];
 
+// The tests hand on the number of a case, and take of it here what they want.
+fn case_of(row: usize) -> &'static Case<'static>
+    requires { row < 10 }
+{
+    &CASES[row]
+}
+
 // Whether connections and doors answer at once, or say "nothing yet" every other time.
 #[derive(Clone, Copy, PartialEq, Eq)]
 pub(crate) enum Pace {
@@ -206,14 +212,13 @@ fn paced(source: MemSource, sink: MemSink, pace: Pace) -> MemConn {
 
 // A connection that makes these requests, in pieces of so many bytes.
 pub(crate) fn connection(
-    rt: &HostRuntime,
+    alloc: Global,
     requests: &[&str],
     piece: usize,
     pace: Pace,
 ) -> Result<MemConn, Fail>
     requires { 1 ≤ piece }
 {
-    let alloc = rt.alloc();
     let bytes = joined(alloc, requests)?;
     let source = MemSource::new(bytes, piece, Vec::new(alloc));
     match sink_of(alloc, 4096, &[]) {
@@ -226,31 +231,28 @@ pub(crate) fn connection(
 }
 
 fn put_connections(
-    rt: &HostRuntime,
+    alloc: Global,
     connections: &mut Vec<MemConn>,
-    case: Case<'_>,
+    row: usize,
     piece: usize,
     pace: Pace,
 ) -> Result<(), Fail>
-    requires { 1 ≤ piece }
+    requires known { row < 10 }
+    requires piece { 1 ≤ piece }
 {
-    for (requests, _) in case.connections {
-        let conn = connection(rt, requests, piece, pace)?;
+    for (requests, _) in case_of(row).connections {
+        let conn = connection(alloc, requests, piece, pace)?;
         connections.push(conn)?;
     }
     Ok(())
 }
 
-fn connections_of(
-    rt: &HostRuntime,
-    case: Case<'_>,
-    piece: usize,
-    pace: Pace,
-) -> Result<Vec<MemConn>, Fail>
-    requires { 1 ≤ piece }
+fn connections_of(alloc: Global, row: usize, piece: usize, pace: Pace) -> Result<Vec<MemConn>, Fail>
+    requires known { row < 10 }
+    requires piece { 1 ≤ piece }
 {
-    let mut connections = Vec::new(rt.alloc());
-    match put_connections(rt, &mut connections, case, piece, pace) {
+    let mut connections = Vec::new(alloc);
+    match put_connections(alloc, &mut connections, row, piece, pace) {
         Ok(()) => Ok(connections),
         Err(fail) => {
             drop(connections);
@@ -259,12 +261,18 @@ fn connections_of(
     }
 }
 
-fn door_of(rt: &HostRuntime, case: Case<'_>, piece: usize, pace: Pace) -> Result<MemDoor, Fail>
-    requires { 1 ≤ piece }
+fn failing_door(alloc: Global, row: usize) -> Result<Vec<u64>, AllocError>
+    requires { row < 10 }
 {
-    let alloc = rt.alloc();
-    let failing = case.door.to_vec(alloc)?;
-    let connections = connections_of(rt, case, piece, pace)?;
+    case_of(row).door.to_vec(alloc)
+}
+
+fn door_of(alloc: Global, row: usize, piece: usize, pace: Pace) -> Result<MemDoor, Fail>
+    requires known { row < 10 }
+    requires piece { 1 ≤ piece }
+{
+    let failing = failing_door(alloc, row)?;
+    let connections = connections_of(alloc, row, piece, pace)?;
     let door = match pace {
         Pace::Even => MemDoor::new(alloc, connections, failing),
         Pace::Hesitant => MemDoor::hesitant(alloc, connections, failing),
@@ -273,16 +281,12 @@ fn door_of(rt: &HostRuntime, case: Case<'_>, piece: usize, pace: Pace) -> Result
 }
 
 // The door alone.
-fn doors_of(
-    rt: &HostRuntime,
-    case: Case<'_>,
-    piece: usize,
-    pace: Pace,
-) -> Result<Vec<MemDoor>, Fail>
-    requires { 1 ≤ piece }
+fn doors_of(alloc: Global, row: usize, piece: usize, pace: Pace) -> Result<Vec<MemDoor>, Fail>
+    requires known { row < 10 }
+    requires piece { 1 ≤ piece }
 {
-    let door = door_of(rt, case, piece, pace)?;
-    Ok(vec![in rt.alloc(); door]?)
+    let door = door_of(alloc, row, piece, pace)?;
+    Ok(vec![in alloc; door]?)
 }
 
 fn put_hosts(alloc: Global, hosts: &mut Rows<Text>, names: &[&str]) -> Result<(), AllocError> {
@@ -300,53 +304,26 @@ fn key_of(alloc: Global, key: Option<&str>) -> Result<Option<Text>, AllocError> 
     }
 }
 
-fn access_of(rt: &HostRuntime, case: Case<'_>) -> Result<Access, Fail> {
-    let alloc = rt.alloc();
-    let key = key_of(alloc, case.key)?;
+fn access_to(alloc: Global, hosts: &[&str], key: Option<&str>) -> Result<Access, AllocError> {
+    let key = key_of(alloc, key)?;
     let mut access = Access {
         hosts: Rows::new(alloc),
         key,
     };
-    match put_hosts(alloc, &mut access.hosts, case.hosts) {
+    match put_hosts(alloc, &mut access.hosts, hosts) {
         Ok(()) => Ok(access),
         Err(error) => {
             drop(access);
-            Err(Fail::from(error))
+            Err(error)
         }
     }
 }
 
-// Serves over a disk with these bytes that fails at these calls, and gives the status.
-pub(crate) fn served<T: Threads + Wait + Sync>(
-    rt: &HostRuntime,
-    threads: &T,
-    words: &[&str],
-    access: &Access,
-    disk: (&[u8], &[u64]),
-    output: &mut MemSink,
-    doors: &mut Vec<MemDoor>,
-) -> Result<u8, Fail> {
-    let alloc = rt.alloc();
-    let clock = StepClock::new(1000, 0);
-    let mut input = MemSource::new(Vec::new(alloc), 1, Vec::new(alloc));
-    let ended = called(
-        threads,
-        alloc,
-        words,
-        access,
-        disk,
-        &clock,
-        &mut input,
-        output,
-        doors,
-        &mut NoLink::new(),
-        &NoWatcher,
-    );
-    drop(input);
-    drop(clock);
-    let (status, disk) = ended?;
-    drop(disk);
-    Ok(status)
+fn access_of(alloc: Global, row: usize) -> Result<Access, Fail>
+    requires { row < 10 }
+{
+    let case = case_of(row);
+    Ok(access_to(alloc, case.hosts, case.key)?)
 }
 
 // Whether a connection was given just these.
@@ -362,9 +339,11 @@ pub(crate) fn is_given(conn: &MemConn, responses: &[&str]) -> bool {
 }
 
 // That each connection was given its responses, and that one that wasn't served has none.
-fn are_given(door: &MemDoor, case: Case<'_>) -> Result<(), Fail> {
+fn are_given(door: &MemDoor, row: usize) -> Result<(), Fail>
+    requires { row < 10 }
+{
     let taken = door.taken();
-    for (place, (_, responses)) in case.connections.iter().enumerate() {
+    for (place, (_, responses)) in case_of(row).connections.iter().enumerate() {
         if place < taken.len() {
             if !is_given(&taken[place], responses) {
                 return Err(Fail::from("other responses"));
@@ -376,62 +355,76 @@ fn are_given(door: &MemDoor, case: Case<'_>) -> Result<(), Fail> {
     Ok(())
 }
 
-// Serves these doors, and looks at the status and the report.
-fn tries_doors<T: Threads + Wait + Sync>(
-    rt: &HostRuntime,
+// Serves these doors.
+fn ended_by<T: Threads + Wait + Sync>(
     threads: &T,
-    case: Case<'_>,
+    alloc: Global,
+    row: usize,
     access: &Access,
     doors: &mut Vec<MemDoor>,
-) -> Result<(), Fail> {
-    let mut output = sink_of(rt.alloc(), 256, case.output)?;
-    let status = served(
-        rt,
+) -> Result<Ended, Fail>
+    requires { row < 10 }
+{
+    let case = case_of(row);
+    let clock = StepClock::new(1000, 0);
+    let ended = served_to(
         threads,
+        alloc,
         case.words,
         access,
         (&ONE_EVENT, &[]),
-        &mut output,
+        &clock,
+        case.output,
         doors,
+        &PauseLobby,
     );
-    let is_told = output.bytes() == case.told.as_bytes();
-    drop(output);
-    if status? != case.status {
-        return Err(Fail::from("another status"));
-    }
-    if !is_told {
-        return Err(Fail::from("another report"));
-    }
-    Ok(())
+    drop(clock);
+    Ok(ended?)
 }
 
+fn ends_so(ended: &Ended, row: usize) -> bool
+    requires { row < 10 }
+{
+    let case = case_of(row);
+    ended.is(case.status, case.told)
+}
+
+// The same, and looks at the status, the report and the responses.
 fn tries_with<T: Threads + Wait + Sync>(
-    rt: &HostRuntime,
     threads: &T,
-    case: Case<'_>,
+    alloc: Global,
+    row: usize,
     access: &Access,
     doors: &mut Vec<MemDoor>,
-) -> Result<(), Fail> {
-    tries_doors(rt, threads, case, access, doors)?;
+) -> Result<(), Fail>
+    requires { row < 10 }
+{
+    let ended = ended_by(threads, alloc, row, access, doors)?;
+    let is_so = ends_so(&ended, row);
+    drop(ended);
+    if !is_so {
+        return Err(Fail::from("another status, or another report"));
+    }
     match doors.first() {
-        Some(door) => are_given(door, case),
+        Some(door) => are_given(door, row),
         None => Err(Fail::from("the door comes back")),
     }
 }
 
 fn tries<T: Threads + Wait + Sync>(
-    rt: &HostRuntime,
     threads: &T,
-    case: Case<'_>,
+    alloc: Global,
+    row: usize,
     piece: usize,
     pace: Pace,
 ) -> Result<(), Fail>
-    requires { 1 ≤ piece }
+    requires known { row < 10 }
+    requires piece { 1 ≤ piece }
 {
-    let mut doors = doors_of(rt, case, piece, pace)?;
-    let tried = match access_of(rt, case) {
+    let mut doors = doors_of(alloc, row, piece, pace)?;
+    let tried = match access_of(alloc, row) {
         Ok(access) => {
-            let tried = tries_with(rt, threads, case, &access, &mut doors);
+            let tried = tries_with(threads, alloc, row, &access, &mut doors);
             drop(access);
             tried
         }
@@ -441,57 +434,80 @@ fn tries<T: Threads + Wait + Sync>(
     tried
 }
 
+fn tries_evenly<T: Threads + Wait + Sync>(
+    threads: &T,
+    alloc: Global,
+    row: usize,
+) -> Result<(), Fail>
+    requires { row < 10 }
+{
+    tries(threads, alloc, row, 1, Pace::Even)?;
+    tries(threads, alloc, row, 7, Pace::Even)?;
+    tries(threads, alloc, row, 4096, Pace::Even)
+}
+
 #[test]
 fn connections_are_served(rt: HostRuntime) -> Result<(), Fail> {
-    for case in &CASES {
-        tries(&rt, &rt, *case, 1, Pace::Even)?;
-        tries(&rt, &rt, *case, 7, Pace::Even)?;
-        tries(&rt, &rt, *case, 4096, Pace::Even)?;
+    for row in 0..CASES.len() {
+        tries_evenly(&rt, rt.alloc(), row)?;
     }
     Ok(())
 }
 
-// The same where there is nothing yet between any two bytes, and between any two connections. Which call
-// of the door fails is another one then.
+fn has_failing_door(row: usize) -> bool
+    requires { row < 10 }
+{
+    !case_of(row).door.is_empty()
+}
+
+// Which call of the door fails is another one then.
+fn tries_hesitantly<T: Threads + Wait + Sync>(
+    threads: &T,
+    alloc: Global,
+    row: usize,
+) -> Result<(), Fail>
+    requires { row < 10 }
+{
+    if has_failing_door(row) {
+        return Ok(());
+    }
+    tries(threads, alloc, row, 1, Pace::Hesitant)?;
+    tries(threads, alloc, row, 4096, Pace::Hesitant)
+}
+
+// The same where there is nothing yet between any two bytes, and between any two connections.
 #[test]
 fn hesitant_connections_are_served(rt: HostRuntime) -> Result<(), Fail> {
-    for case in &CASES {
-        if case.door.is_empty() {
-            tries(&rt, &rt, *case, 1, Pace::Hesitant)?;
-            tries(&rt, &rt, *case, 4096, Pace::Hesitant)?;
-        }
+    for row in 0..CASES.len() {
+        tries_hesitantly(&rt, rt.alloc(), row)?;
     }
     Ok(())
 }
 
 // Serves no doors over an empty disk.
-fn serves_nobody<T: Threads + Wait + Sync>(
-    rt: &HostRuntime,
-    threads: &T,
-    output: &mut MemSink,
-) -> Result<u8, Fail> {
-    let access = Access::unlocked(rt.alloc());
-    let mut doors = Vec::new(rt.alloc());
-    let status = served(rt, threads, &SERVE, &access, (&[], &[]), output, &mut doors);
+fn serves_nobody<T: Threads + Wait + Sync>(threads: &T, alloc: Global) -> Result<bool, Fail> {
+    let mut doors = Vec::new(alloc);
+    let ended = served(threads, alloc, (&[], &[]), &mut doors);
     drop(doors);
-    drop(access);
-    status
+    let ended = ended?;
+    let is_so = ended.is(
+        0,
+        "{\"changing\":0,\"entries\":0,\"ok\":\"report\",\"refused\":0}\n",
+    );
+    drop(ended);
+    Ok(is_so)
 }
 
 // A server without doors has nobody to serve.
 #[test]
 fn no_doors(rt: HostRuntime) -> Result<(), Fail> {
-    let mut output = sink_of(rt.alloc(), 256, &[])?;
-    let status = serves_nobody(&rt, &rt, &mut output);
-    let is_told = output.bytes()
-        == b"{\"changing\":0,\"entries\":0,\"ok\":\"report\",\"refused\":0}\n".as_slice();
-    drop(output);
-    assert_eq!(rt; (status?, is_told), (0, true));
+    let is_so = serves_nobody(&rt, rt.alloc())?;
+    assert!(rt; is_so);
     Ok(())
 }
 
 // What a server whose disk failed tells, by the responses that it gave: none where the journal wasn't opened.
-const STOPS: [(&[&str], &str); 3] = [
+static STOPS: [(&[&str], &str); 3] = [
     (&[], ""),
     (
         &[FAILED],
@@ -502,22 +518,6 @@ const STOPS: [(&[&str], &str); 3] = [
         "{\"changing\":1,\"entries\":2,\"ok\":\"report\",\"refused\":1}\n",
     ),
 ];
-
-// Serves over a disk that fails at this call, and gives the status.
-fn served_failing<T: Threads + Wait + Sync>(
-    rt: &HostRuntime,
-    threads: &T,
-    call: u64,
-    output: &mut MemSink,
-    doors: &mut Vec<MemDoor>,
-) -> Result<u8, Fail> {
-    let access = Access::unlocked(rt.alloc());
-    let failing = [call];
-    let disk = (ONE_EVENT.as_slice(), failing.as_slice());
-    let status = served(rt, threads, &SERVE, &access, disk, output, doors);
-    drop(access);
-    status
-}
 
 // Which of these stops it is by what was told and what the first connection that came back was given.
 fn stop_of(told: &[u8], taken: &[MemConn]) -> Option<usize> {
@@ -535,42 +535,40 @@ fn stop_of(told: &[u8], taken: &[MemConn]) -> Option<usize> {
 }
 
 // The same, or none where no call failed.
-fn stop_in<T: Threads + Wait + Sync>(
-    rt: &HostRuntime,
-    threads: &T,
-    call: u64,
-    output: &mut MemSink,
-    doors: &mut Vec<MemDoor>,
-) -> Result<Option<usize>, Fail> {
-    let status = served_failing(rt, threads, call, output, doors)?;
-    let told = output.bytes();
-    if status == 0 && told == SEND_AND_RECEIVE.told.as_bytes() {
+fn stop_behind(ended: &Ended, doors: &[MemDoor]) -> Result<Option<usize>, Fail> {
+    if ended.is(0, REPORT) {
         return Ok(None);
     }
     let Some(door) = doors.first() else {
         return Err(Fail::from("the door comes back"));
     };
-    match stop_of(told, door.taken()) {
-        Some(place) if status == 5 => Ok(Some(place)),
+    match stop_of(&ended.told, door.taken()) {
+        Some(place) if ended.status == 5 => Ok(Some(place)),
         _ => Err(Fail::from("another end")),
     }
 }
 
+// The same of these doors.
+fn stop_in<T: Threads + Wait + Sync>(
+    threads: &T,
+    alloc: Global,
+    call: u64,
+    doors: &mut Vec<MemDoor>,
+) -> Result<Option<usize>, Fail> {
+    let ended = served(threads, alloc, (&ONE_EVENT, &[call]), doors)?;
+    let stop = stop_behind(&ended, doors);
+    drop(ended);
+    stop
+}
+
 // Which of these stops it is, where the disk failed at this call, or none where no call was that.
 fn stop_at<T: Threads + Wait + Sync>(
-    rt: &HostRuntime,
     threads: &T,
+    alloc: Global,
     call: u64,
 ) -> Result<Option<usize>, Fail> {
-    let mut doors = doors_of(rt, SEND_AND_RECEIVE, 4096, Pace::Even)?;
-    let stop = match sink_of(rt.alloc(), 256, &[]) {
-        Ok(mut output) => {
-            let stop = stop_in(rt, threads, call, &mut output, &mut doors);
-            drop(output);
-            stop
-        }
-        Err(fault) => Err(fault.into()),
-    };
+    let mut doors = doors_of(alloc, 0, 4096, Pace::Even)?;
+    let stop = stop_in(threads, alloc, call, &mut doors);
     drop(doors);
     stop
 }
@@ -584,7 +582,7 @@ fn a_failed_disk_stops_a_server(rt: HostRuntime) -> Result<(), Fail> {
     let mut first = 0u64;
     let mut second = 0u64;
     for call in 0..MANY_CALLS {
-        match stop_at(&rt, &rt, call)? {
+        match stop_at(&rt, rt.alloc(), call)? {
             Some(1) => first = first.saturating_add(1),
             Some(2) => second = second.saturating_add(1),
             _ => {}

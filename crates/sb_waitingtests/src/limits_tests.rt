@@ -1,10 +1,10 @@
 // Callers that are slower than the limits of time, and some that are just fast enough.
 ghost use Rattle.std.specs.Prelude.{None};
 
-use sb_app::NoWatcher;
-use sb_calls::{ONE_EVENT, called, sink_of, source_of};
-use sb_outside::{Clock, Conn, Door, DoorFault, Given, MemSink, NoLink, ReadFault, WriteFault};
-use sb_rest::Access;
+use sb_calls::{ONE_EVENT, served_in};
+use sb_outside::{Clock, Conn, Door, DoorFault, Given, PauseLobby, ReadFault, WriteFault};
+use std::alloc::{AllocError, Global};
+use std::process::Abort;
 use std::sync::Wait;
 use std::sync::atomic::{AtomicU64, Ordering};
 use std::test::Fail;
@@ -164,7 +164,7 @@ const USUAL: Case<'static> = Case {
     over: (0, 2),
 };
 
-const CASES: [Case<'static>; 9] = [
+static CASES: [Case<'static>; 9] = [
     // nothing waits, so it is answered at once
     USUAL,
     // a byte a second: whole within a minute, and not within ten seconds
@@ -227,7 +227,7 @@ const CASES: [Case<'static>; 9] = [
     },
 ];
 
-fn door<'a>(rt: &HostRuntime, clock: &'a Seconds, case: Case<'a>) -> Single<'a> {
+fn door<'a>(alloc: Global, clock: &'a Seconds, case: Case<'a>) -> Single<'a> {
     Single {
         next: Some(Paced {
             clock,
@@ -237,7 +237,7 @@ fn door<'a>(rt: &HostRuntime, clock: &'a Seconds, case: Case<'a>) -> Single<'a> 
             at: 0,
             read_ms: 0,
             wrote_ms: 0,
-            given: Vec::new(rt.alloc()),
+            given: Vec::new(alloc),
         }),
         taken: None,
         taken_ms: 0,
@@ -247,15 +247,13 @@ fn door<'a>(rt: &HostRuntime, clock: &'a Seconds, case: Case<'a>) -> Single<'a> 
 }
 
 // Serves these doors over a queue without a message, and gives the status.
-fn serve_into<T: Threads + Wait + Sync>(
-    rt: &HostRuntime,
+fn serve_one<T: Threads + Wait + Sync>(
     threads: &T,
+    alloc: Global,
     clock: &Seconds,
-    case: Case<'_>,
-    output: &mut MemSink,
+    case: &Case<'_>,
     doors: &mut Vec<Single<'_>>,
 ) -> Result<u8, Fail> {
-    let alloc = rt.alloc();
     let words = [
         "serve",
         "--data=data",
@@ -263,44 +261,22 @@ fn serve_into<T: Threads + Wait + Sync>(
         case.request_time,
         case.idle_time,
     ];
-    let mut input = source_of(alloc, &[], 1, &[])?;
-    let access = Access::unlocked(alloc);
-    let ended = called(
+    let ended = served_in(
         threads,
         alloc,
         &words,
-        &access,
         (&ONE_EVENT, &[]),
         clock,
-        &mut input,
-        output,
         doors,
-        &mut NoLink::new(),
-        &NoWatcher,
-    );
-    drop(access);
-    drop(input);
-    let (status, disk) = ended?;
-    drop(disk);
+        &PauseLobby,
+    )?;
+    let status = ended.status;
+    drop(ended);
     Ok(status)
 }
 
-// The same, whatever is told.
-fn serve_one<T: Threads + Wait + Sync>(
-    rt: &HostRuntime,
-    threads: &T,
-    clock: &Seconds,
-    case: Case<'_>,
-    doors: &mut Vec<Single<'_>>,
-) -> Result<u8, Fail> {
-    let mut output = sink_of(rt.alloc(), 256, &[])?;
-    let status = serve_into(rt, threads, clock, case, &mut output, doors);
-    drop(output);
-    status
-}
-
 // Whether the door's connection was given what it should be, and in which second it was over.
-fn outcome_of(door: &Single<'_>, case: Case<'_>) -> Result<(bool, u64), Fail> {
+fn outcome_of(door: &Single<'_>, case: &Case<'_>) -> Result<(bool, u64), Fail> {
     let Some(conn) = &door.taken else {
         return Err(Fail::from("the connection comes back"));
     };
@@ -310,72 +286,109 @@ fn outcome_of(door: &Single<'_>, case: Case<'_>) -> Result<(bool, u64), Fail> {
 }
 
 fn serves_case<'a, T: Threads + Wait + Sync>(
-    rt: &HostRuntime,
     threads: &T,
+    alloc: Global,
     clock: &'a Seconds,
     case: Case<'a>,
     doors: &mut Vec<Single<'a>>,
 ) -> Result<(bool, u64), Fail> {
-    doors.push(door(rt, clock, case))?;
-    if serve_one(rt, threads, clock, case, doors)? != 0 {
+    doors.push(door(alloc, clock, case))?;
+    if serve_one(threads, alloc, clock, &case, doors)? != 0 {
         return Err(Fail::from("another status"));
     }
     match doors.first() {
-        Some(door) => outcome_of(door, case),
+        Some(door) => outcome_of(door, &case),
         None => Err(Fail::from("the door comes back")),
     }
 }
 
 // Whether it was given what it should be, and in which second it was over.
-fn tries<T: Threads + Wait + Sync>(
-    rt: &HostRuntime,
+fn outcome<T: Threads + Wait + Sync>(
     threads: &T,
-    case: Case<'_>,
+    alloc: Global,
+    case: &Case<'_>,
 ) -> Result<(bool, u64), Fail> {
     let clock = Seconds {
         now: AtomicU64::new(1000),
     };
-    let mut doors = Vec::new(rt.alloc());
-    let tried = serves_case(rt, threads, &clock, case, &mut doors);
+    let mut doors = Vec::new(alloc);
+    let found = serves_case(threads, alloc, &clock, *case, &mut doors);
     drop(doors);
-    tried
+    drop(clock);
+    found
+}
+
+fn is_within(second: u64, over: (u64, u64)) -> bool {
+    over.0 <= second && second <= over.1
+}
+
+fn assert_within(rt: &impl Abort, number: usize, found: (bool, u64), over: (u64, u64)) {
+    let (is_given, second) = found;
+    let holds = is_given && is_within(second, over);
+    assert!(rt; holds, "case {number}: {is_given}, {second}");
+}
+
+fn tries<T: Abort + Threads + Wait + Sync>(
+    threads: &T,
+    alloc: Global,
+    number: usize,
+    case: &Case<'_>,
+) -> Result<(), Fail> {
+    let found = outcome(threads, alloc, case)?;
+    assert_within(threads, number, found, case.over);
+    Ok(())
 }
 
 #[test]
 fn who_is_slow_is_let_go(rt: HostRuntime) -> Result<(), Fail> {
     for (number, case) in CASES.iter().enumerate() {
-        let (is_given, second) = tries(&rt, &rt, *case)?;
-        assert!(rt; is_given, "case {number}");
-        assert!(rt;
-            case.over.0 <= second && second <= case.over.1,
-            "case {number}: {second}"
-        );
+        tries(&rt, rt.alloc(), number, case)?;
     }
     Ok(())
+}
+
+fn put_long(request: &mut Vec<u8>) -> Result<(), AllocError> {
+    request.extend_from_slice(SEND)?;
+    request.resize(SEND.len() + 204_800, b'x')
+}
+
+// Within which seconds it is over, by how many bytes come in one.
+fn tries_long<T: Abort + Threads + Wait + Sync>(
+    threads: &T,
+    alloc: Global,
+    request: &[u8],
+) -> Result<(), Fail> {
+    let steady = Case {
+        comes: 2048,
+        request,
+        given: b"HTTP/1.1 201 Created\r\n",
+        over: (100, 103),
+        ..USUAL
+    };
+    tries(threads, alloc, 0, &steady)?;
+    let slow = Case {
+        comes: 512,
+        given: b"",
+        over: (118, 124),
+        ..steady
+    };
+    tries(threads, alloc, 1, &slow)
+}
+
+fn tries_made<T: Abort + Threads + Wait + Sync>(
+    threads: &T,
+    alloc: Global,
+    request: &mut Vec<u8>,
+) -> Result<(), Fail> {
+    put_long(request)?;
+    tries_long(threads, alloc, request)
 }
 
 // A body of 200 KiB, of which 2 KiB come in a second, and one of which half a KiB does.
 #[test]
 fn a_long_body_may_take_long(rt: HostRuntime) -> Result<(), Fail> {
-    let alloc = rt.alloc();
-    let mut request = SEND.to_vec(alloc)?;
-    request.resize(SEND.len() + 204_800, b'x')?;
-    let steady = Case {
-        comes: 2048,
-        request: request.as_slice(),
-        given: b"HTTP/1.1 201 Created\r\n",
-        ..USUAL
-    };
-    let (is_given, second) = tries(&rt, &rt, steady)?;
-    assert!(rt; is_given);
-    assert!(rt; 100 <= second && second <= 103, "{second}");
-    let slow = Case {
-        comes: 512,
-        given: b"",
-        ..steady
-    };
-    let (is_given, second) = tries(&rt, &rt, slow)?;
-    assert!(rt; is_given);
-    assert!(rt; 118 <= second && second <= 124, "{second}");
-    Ok(())
+    let mut request = Vec::new(rt.alloc());
+    let tried = tries_made(&rt, rt.alloc(), &mut request);
+    drop(request);
+    tried
 }

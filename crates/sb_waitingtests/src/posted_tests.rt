@@ -1,18 +1,21 @@
 // Calls that are left with a desk over a node and then answered: one group, whose changes are safe by two syncs, and
 // of which a disk that fails leaves all or nothing. The lines were worked out by hand.
 ghost use Rattle.std.specs.Prelude.{[]};
+ghost use Rattle.sb_node.specs.Nodes.{node_state};
+ghost use Rattle.sb_node.specs.Serving.{StandsFor};
 
-use crate::desks::{call_of, closed, node_over, put_reply};
+use crate::desks::{call_of, put_reply};
 use crate::posting::{one_more, three_answers};
-use sb_calls::{ONE_EVENT, bytes_of, ran, sink_of};
+use sb_calls::{CallFault, ONE_EVENT, bytes_of, closed, found_behind, node_over, ran, sink_of};
 use sb_desk::{Desk, NewFault, Report, Served};
 use sb_machine::Answer;
+use sb_node::Node;
 use sb_outside::MemDisk;
 use std::alloc::Global;
 use std::process::Abort;
 use std::sync::Wait;
 
-const RUN: [&str; 3] = ["run", "--data", "."];
+static RUN: [&str; 3] = ["run", "--data", "."];
 
 // Three calls and a look behind them, over the queue of the one event, and what comes of them.
 #[derive(Clone, Copy)]
@@ -33,7 +36,7 @@ struct Row {
 const LOOK: &str = "{\"do\":\"counts\",\"entity\":\"q\"}";
 
 // The third finds what the other two sent.
-const TWO_SENDS: Row = Row {
+static TWO_SENDS: Row = Row {
     before: "",
     lines: [
         "{\"at\":0,\"do\":\"send\",\"to\":\"q\",\"messages\":[{\"body\":\"hi\"}]}",
@@ -51,7 +54,7 @@ const TWO_SENDS: Row = Row {
 };
 
 // What is sent is received, and something is asked that isn't there.
-const ONE_REFUSED: Row = Row {
+static ONE_REFUSED: Row = Row {
     before: "",
     lines: [
         "{\"at\":0,\"do\":\"send\",\"to\":\"q\",\"messages\":[{\"body\":\"hi\"}]}",
@@ -69,7 +72,7 @@ const ONE_REFUSED: Row = Row {
 };
 
 // By the reading of the first a message has expired.
-const ONE_EXPIRED: Row = Row {
+static ONE_EXPIRED: Row = Row {
     before: "{\"at\":0,\"do\":\"send\",\"to\":\"q\",\"messages\":[{\"body\":\"hi\",\"ttl\":1}]}\n",
     lines: [
         "{\"at\":2000,\"do\":\"send\",\"to\":\"q\",\"messages\":[{\"body\":\"ho\"}]}",
@@ -117,7 +120,7 @@ fn told_by<V: Served, R: Wait + Abort>(
     rt: &R,
     alloc: Global,
     value: V,
-    row: Row,
+    row: &Row,
     is_at_once: bool,
 ) -> Result<(V, String, Report), V>
     requires stands { V.stands value (V.state value) [] }
@@ -147,27 +150,47 @@ struct Outcome {
     disk: MemDisk,
 }
 
+impl Outcome {
+    // Whether this was told, with these numbers.
+    fn is(&self, told: &str, numbers: (u64, u64, u64)) -> bool {
+        self.told.as_str() == told && self.numbers == numbers
+    }
+}
+
+fn outcome_over<R: Wait + Abort>(
+    rt: &R,
+    alloc: Global,
+    node: Node<MemDisk>,
+    row: &Row,
+    is_at_once: bool,
+) -> Outcome
+    requires { StandsFor node (node_state node) [] }
+{
+    match told_by(rt, alloc, node, row, is_at_once) {
+        Ok((node, told, report)) => Outcome {
+            told,
+            numbers: (report.entries, report.changing, report.refused),
+            disk: closed(node),
+        },
+        Err(node) => {
+            drop(closed(node));
+            panic!(rt; "no memory for a desk")
+        }
+    }
+}
+
 // None where the disk fails as it is opened.
 fn outcome_of<R: Wait + Abort>(
     rt: &R,
     alloc: Global,
     disk: (&[u8], &[u64]),
-    row: Row,
+    row: &Row,
     is_at_once: bool,
 ) -> Option<Outcome> {
-    let Some(node) = node_over(rt, alloc, disk) else {
-        return None;
-    };
-    match told_by(rt, alloc, node, row, is_at_once) {
-        Ok((node, told, report)) => Some(Outcome {
-            told,
-            numbers: (report.entries, report.changing, report.refused),
-            disk: closed(node),
-        }),
-        Err(node) => {
-            drop(closed(node));
-            panic!(rt; "no memory for a desk")
-        }
+    match node_over(alloc, disk) {
+        Ok(node) => Some(outcome_over(rt, alloc, node, row, is_at_once)),
+        Err(CallFault::Unopened) => None,
+        Err(_) => panic!(rt; "no memory for a node"),
     }
 }
 
@@ -181,23 +204,30 @@ fn bytes_behind(rt: &impl Abort, alloc: Global, lines: &str) -> Vec<u8> {
     bytes_of(alloc, disk).expect(rt, "memory for the bytes")
 }
 
-// The events and the live copies that an opening finds where a crash leaves this byte wherever it may leave any.
-fn found(rt: &impl Abort, alloc: Global, disk: &MemDisk, fill: u8) -> (u64, u64) {
-    let image = disk.image(alloc, fill).expect(rt, "memory for an image");
-    let node = node_over(rt, alloc, (&image, &[])).expect(rt, "the image opens");
-    drop(image);
-    let numbers = node.summary();
-    drop(closed(node));
-    (numbers.events, numbers.copies)
-}
-
 // The syncs of a node that is opened and closed.
 fn quiet_syncs(rt: &impl Abort, alloc: Global, bytes: &[u8]) -> usize {
-    let node = node_over(rt, alloc, (bytes, &[])).expect(rt, "the node opens");
+    let node = node_over(alloc, (bytes, &[])).expect(rt, "the node opens");
     let disk = closed(node);
     let syncs = disk.syncs();
     drop(disk);
     syncs
+}
+
+// The events and the live copies that an opening finds where a crash leaves this byte wherever it may leave any.
+fn found(rt: &impl Abort, alloc: Global, disk: &MemDisk, fill: u8) -> (u64, u64) {
+    found_behind(alloc, disk, fill).expect(rt, "the image opens")
+}
+
+// The disk was synced so often, and has these events and live copies whatever a crash leaves.
+fn assert_disk(rt: &impl Abort, alloc: Global, disk: &MemDisk, syncs: usize, wanted: (u64, u64)) {
+    assert_eq!(rt; disk.syncs(), syncs);
+    for fill in [0xff, 0x01] {
+        assert_eq!(rt; found(rt, alloc, disk, fill), wanted);
+    }
+}
+
+fn assert_told(rt: &impl Abort, outcome: &Outcome, told: &str, numbers: (u64, u64, u64)) {
+    assert!(rt; outcome.is(told, numbers), "{}", outcome.told.as_str());
 }
 
 // The row comes to what it has to, whatever a crash behind it leaves, by so many syncs.
@@ -205,27 +235,19 @@ fn has_syncs<R: Wait + Abort>(
     rt: &R,
     alloc: Global,
     bytes: &[u8],
-    row: Row,
+    row: &Row,
     is_at_once: bool,
     syncs: usize,
 ) {
     let outcome = outcome_of(rt, alloc, (bytes, &[]), row, is_at_once).expect(rt, "the node opens");
-    assert!(rt;
-        outcome.told.as_str() == row.told,
-        "{}",
-        outcome.told.as_str()
-    );
-    assert_eq!(rt; outcome.numbers, row.numbers);
-    assert_eq!(rt; outcome.disk.syncs(), syncs);
-    for fill in [0xff, 0x01] {
-        assert_eq!(rt; found(rt, alloc, &outcome.disk, fill), row.last);
-    }
+    assert_told(rt, &outcome, row.told, row.numbers);
+    assert_disk(rt, alloc, &outcome.disk, syncs, row.last);
     drop(outcome);
 }
 
 // At once it takes two syncs, and four where each of its two calls that change something is answered before the
 // next one is made.
-fn tries_syncs<R: Wait + Abort>(rt: &R, alloc: Global, row: Row) {
+fn tries_syncs<R: Wait + Abort>(rt: &R, alloc: Global, row: &Row) {
     let bytes = bytes_behind(rt, alloc, row.before);
     let quiet = quiet_syncs(rt, alloc, &bytes);
     has_syncs(rt, alloc, &bytes, row, true, quiet.saturating_add(2));
@@ -246,7 +268,7 @@ struct Stops {
 }
 
 // 1 where a crash leaves all that the calls changed, 0 where it leaves nothing of it.
-fn left_by(rt: &impl Abort, alloc: Global, disk: &MemDisk, fill: u8, row: Row) -> u64 {
+fn left_by(rt: &impl Abort, alloc: Global, disk: &MemDisk, fill: u8, row: &Row) -> u64 {
     let found = found(rt, alloc, disk, fill);
     if found == row.last {
         return 1;
@@ -255,12 +277,21 @@ fn left_by(rt: &impl Abort, alloc: Global, disk: &MemDisk, fill: u8, row: Row) -
     0
 }
 
+// Counts three calls that failed.
+fn count_stop(rt: &impl Abort, alloc: Global, disk: &MemDisk, row: &Row, stops: &mut Stops) {
+    let by_ff = left_by(rt, alloc, disk, 0xff, row);
+    let by_01 = left_by(rt, alloc, disk, 0x01, row);
+    stops.failed = stops.failed.saturating_add(1);
+    stops.left_by_ff = stops.left_by_ff.saturating_add(by_ff);
+    stops.left_by_01 = stops.left_by_01.saturating_add(by_01);
+}
+
 // Counts the three calls whose disk failed at this call of it: each has failed, and so has the look behind them.
 fn stop_at<R: Wait + Abort>(
     rt: &R,
     alloc: Global,
     bytes: &[u8],
-    row: Row,
+    row: &Row,
     call: u64,
     stops: &mut Stops,
 ) {
@@ -268,33 +299,29 @@ fn stop_at<R: Wait + Abort>(
         return;
     };
     if outcome.told.as_str() != row.told {
-        assert!(rt;
-            outcome.told.as_str() == FAILED,
-            "{}",
-            outcome.told.as_str()
-        );
-        assert_eq!(rt; outcome.numbers, FAILED_NUMBERS);
-        let by_ff = left_by(rt, alloc, &outcome.disk, 0xff, row);
-        let by_01 = left_by(rt, alloc, &outcome.disk, 0x01, row);
-        stops.failed = stops.failed.saturating_add(1);
-        stops.left_by_ff = stops.left_by_ff.saturating_add(by_ff);
-        stops.left_by_01 = stops.left_by_01.saturating_add(by_01);
+        assert_told(rt, &outcome, FAILED, FAILED_NUMBERS);
+        count_stop(rt, alloc, &outcome.disk, row, stops);
     }
     drop(outcome);
 }
 
-// A group makes four calls of the disk, as one call does: a write behind the gate, a sync, the gate's write, a sync.
-// Only where the gate may have been opened a crash leaves all of it.
-fn tries_stops<R: Wait + Abort>(rt: &R, alloc: Global, row: Row) {
-    let bytes = bytes_behind(rt, alloc, row.before);
+fn count_stops<R: Wait + Abort>(rt: &R, alloc: Global, bytes: &[u8], row: &Row) -> Stops {
     let mut stops = Stops {
         failed: 0,
         left_by_ff: 0,
         left_by_01: 0,
     };
     for call in 0..MANY_CALLS {
-        stop_at(rt, alloc, &bytes, row, call, &mut stops);
+        stop_at(rt, alloc, bytes, row, call, &mut stops);
     }
+    stops
+}
+
+// A group makes four calls of the disk, as one call does: a write behind the gate, a sync, the gate's write, a sync.
+// Only where the gate may have been opened a crash leaves all of it.
+fn tries_stops<R: Wait + Abort>(rt: &R, alloc: Global, row: &Row) {
+    let bytes = bytes_behind(rt, alloc, row.before);
+    let stops = count_stops(rt, alloc, &bytes, row);
     drop(bytes);
     assert_eq!(rt;
         (stops.failed, stops.left_by_ff, stops.left_by_01),
@@ -307,22 +334,22 @@ fn tries_stops<R: Wait + Abort>(rt: &R, alloc: Global, row: Row) {
 // other.
 #[test]
 fn two_sends_share_their_syncs(rt: HostRuntime) {
-    tries_syncs(&rt, rt.alloc(), TWO_SENDS);
+    tries_syncs(&rt, rt.alloc(), &TWO_SENDS);
 }
 
 // Where the disk fails at any of its calls both sends fail, and so does the look behind them, which changes nothing;
 // a call behind them finds that the node has stopped. A crash leaves both or none.
 #[test]
 fn two_sends_fail_together(rt: HostRuntime) {
-    tries_stops(&rt, rt.alloc(), TWO_SENDS);
+    tries_stops(&rt, rt.alloc(), &TWO_SENDS);
 }
 
 // A receive finds what was sent in the same group, and a call that is refused has its own answer, where the disk
 // doesn't fail. A crash leaves what both changed, or nothing of it.
 #[test]
 fn a_group_has_a_refused_call(rt: HostRuntime) {
-    tries_syncs(&rt, rt.alloc(), ONE_REFUSED);
-    tries_stops(&rt, rt.alloc(), ONE_REFUSED);
+    tries_syncs(&rt, rt.alloc(), &ONE_REFUSED);
+    tries_stops(&rt, rt.alloc(), &ONE_REFUSED);
 }
 
 // Where a message has expired by the reading of the first call, the tick stands in the group, and in the numbers. It
@@ -330,6 +357,6 @@ fn a_group_has_a_refused_call(rt: HostRuntime) {
 // all.
 #[test]
 fn a_group_begins_with_a_tick(rt: HostRuntime) {
-    tries_syncs(&rt, rt.alloc(), ONE_EXPIRED);
-    tries_stops(&rt, rt.alloc(), ONE_EXPIRED);
+    tries_syncs(&rt, rt.alloc(), &ONE_EXPIRED);
+    tries_stops(&rt, rt.alloc(), &ONE_EXPIRED);
 }

@@ -1,16 +1,10 @@
-// What the tests of desks over nodes share: the calls of lines, nodes over disks in memory, and reply lines.
-ghost use Rattle.std.specs.Prelude.{◌≡◌, [], IfSome};
+// What the tests of desks over nodes share: the calls of lines, and reply lines.
 ghost use Rattle.sb_machine.specs.Ordered.{IsActInOrder};
 ghost use Rattle.sb_desk.specs.Desks.{Calls, IsOf};
-ghost use Rattle.sb_node.specs.Nodes.{node_state};
-ghost use Rattle.sb_node.specs.Serving.{StandsFor};
 
-use sb_calls::{SALT, disks_of};
 use sb_desk::{Desk, Pass, Served};
 use sb_lines::{Form, read_line, reply_line};
 use sb_machine::{Answer, TimedCall};
-use sb_node::Node;
-use sb_outside::MemDisk;
 use std::alloc::Global;
 use std::process::Abort;
 use std::sync::Wait;
@@ -51,30 +45,4 @@ pub(crate) fn put_reply(rt: &impl Abort, alloc: Global, told: &mut String, answe
     told.push_str(line.as_str())
         .expect(rt, "memory for a reply line");
     drop(line);
-}
-
-/// A node over a disk a with these bytes, which fails at these calls, and an empty disk b; none where the disk
-/// fails as it is opened.
-pub(crate) fn node_over(
-    rt: &impl Abort,
-    alloc: Global,
-    disk: (&[u8], &[u64]),
-) -> Option<Node<MemDisk>>
-    ensures { IfSome result (λ n. StandsFor n (node_state n) []) }
-{
-    let (disk_a, disk_b) = disks_of(alloc, disk).expect(rt, "memory for two disks");
-    match Node::open(alloc, disk_a, disk_b, SALT) {
-        Ok(node) => Some(node),
-        Err(fault) => {
-            drop(fault);
-            None
-        }
-    }
-}
-
-/// Disk a of a node that is closed.
-pub(crate) fn closed(node: Node<MemDisk>) -> MemDisk {
-    let (disk_a, disk_b) = node.close();
-    drop(disk_b);
-    disk_a
 }

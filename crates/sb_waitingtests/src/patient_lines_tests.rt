@@ -1,10 +1,7 @@
 // Script lines that wait, and the accept of a session over REST: each has the reply to its last call, and who has gone
 // takes nothing.
-use crate::waiting_tests::{SEND, Single, Still, door, is_given, serve_doors};
-use std::sync::Wait;
-use std::sync::atomic::AtomicU64;
+use crate::callers::{Caller, SEND, tries};
 use std::test::Fail;
-use std::thread::Threads;
 
 const TAKE: &[u8] =
     b"POST /$script HTTP/1.1\r\nHost: h\r\nContent-Length: 53\r\n\r\n{\"do\":\"receive\",\"from\":\"q\",\"mode\":\"delete\",\"wait\":60}";
@@ -20,19 +17,8 @@ const ACCEPT_BY_REST: &[u8] = b"POST /s/sessions/head?timeout=60 HTTP/1.1\r\nHos
 const SEND_TO_SESSION: &[u8] =
     b"POST /$script HTTP/1.1\r\nHost: h\r\nContent-Length: 75\r\n\r\n{\"do\":\"send\",\"to\":\"s\",\"messages\":[{\"body\":\"hi\",\"sys\":{\"SessionId\":\"one\"}}]}";
 
-// A connection: how often the clock is paused before it asks, and before it leaves without a response, what it
-// asks for, and how the bytes that it is given begin and end.
-#[derive(Clone, Copy)]
-struct Caller {
-    asks: u64,
-    leaves: u64,
-    request: &'static [u8],
-    begins: &'static [u8],
-    ends: &'static [u8],
-}
-
 // A receive that waits for what another connection sends.
-const WAITS: [Caller; 2] = [
+static WAITS: [Caller; 2] = [
     Caller {
         asks: 0,
         leaves: u64::MAX,
@@ -50,7 +36,7 @@ const WAITS: [Caller; 2] = [
 ];
 
 // A session that is waited for until a message comes for it.
-const WAITS_FOR_SESSION: [Caller; 3] = [
+static WAITS_FOR_SESSION: [Caller; 3] = [
     Caller {
         asks: 0,
         leaves: u64::MAX,
@@ -75,7 +61,7 @@ const WAITS_FOR_SESSION: [Caller; 3] = [
 ];
 
 // The same over REST.
-const WAITS_BY_REST: [Caller; 3] = [
+static WAITS_BY_REST: [Caller; 3] = [
     Caller {
         asks: 0,
         leaves: u64::MAX,
@@ -100,7 +86,7 @@ const WAITS_BY_REST: [Caller; 3] = [
 ];
 
 // One whose caller goes, a message behind it, and another that has the message.
-const GONE: [Caller; 3] = [
+static GONE: [Caller; 3] = [
     Caller {
         asks: 0,
         leaves: 20,
@@ -124,78 +110,22 @@ const GONE: [Caller; 3] = [
     },
 ];
 
-fn put_callers<'a>(
-    rt: &HostRuntime,
-    clock: &'a Still,
-    callers: &[Caller],
-    doors: &mut Vec<Single<'a>>,
-) -> Result<(), Fail> {
-    for caller in callers {
-        doors.push(door(rt, clock, caller.asks, caller.leaves, caller.request))?;
-    }
-    Ok(())
-}
-
-// Whether each was given what it is to be given.
-fn are_given(doors: &[Single<'_>], callers: &[Caller]) -> bool {
-    for (place, caller) in callers.iter().enumerate() {
-        let Some(door) = doors.get(place) else {
-            return false;
-        };
-        if !is_given(door, caller.begins, caller.ends) {
-            return false;
-        }
-    }
-    true
-}
-
-fn serves<'a, T: Threads + Wait + Sync>(
-    rt: &HostRuntime,
-    threads: &T,
-    clock: &'a Still,
-    callers: &[Caller],
-    doors: &mut Vec<Single<'a>>,
-) -> Result<(), Fail> {
-    put_callers(rt, clock, callers, doors)?;
-    if serve_doors(rt, threads, clock, doors, 3)? != 0 {
-        return Err(Fail::from("another status"));
-    }
-    if !are_given(doors, callers) {
-        return Err(Fail::from("a caller was given something else"));
-    }
-    Ok(())
-}
-
-fn tries<T: Threads + Wait + Sync>(
-    rt: &HostRuntime,
-    threads: &T,
-    callers: &[Caller],
-) -> Result<(), Fail> {
-    let clock = Still {
-        pauses: AtomicU64::new(0),
-    };
-    let mut doors = Vec::new(rt.alloc());
-    let tried = serves(rt, threads, &clock, callers, &mut doors);
-    drop(doors);
-    tried
-}
-
 #[test]
 fn a_line_waits_for_a_message(rt: HostRuntime) -> Result<(), Fail> {
-    tries(&rt, &rt, &WAITS)
+    tries(&rt, rt.alloc(), &WAITS, 3)
 }
 
 #[test]
 fn a_line_waits_for_a_session(rt: HostRuntime) -> Result<(), Fail> {
-    tries(&rt, &rt, &WAITS_FOR_SESSION)
+    tries(&rt, rt.alloc(), &WAITS_FOR_SESSION, 3)
 }
 
 #[test]
 fn an_accept_waits_for_a_session(rt: HostRuntime) -> Result<(), Fail> {
-    tries(&rt, &rt, &WAITS_BY_REST)
+    tries(&rt, rt.alloc(), &WAITS_BY_REST, 3)
 }
 
 #[test]
 fn a_line_whose_caller_has_gone_takes_nothing(rt: HostRuntime) -> Result<(), Fail> {
-    tries(&rt, &rt, &GONE)
+    tries(&rt, rt.alloc(), &GONE, 3)
 }
