@@ -108,26 +108,27 @@ impl OpenFile for FlakyFile {
 
 // Each row: the call of the file that fails (a read makes two, a write of two bytes four), whether it
 // can be cut and synced, and which of length, read, write, cut and sync fail.
+static ROWS: [(u64, bool, bool, [bool; 5]); 9] = [
+    (9, true, true, [true, false, false, false, false]),
+    (0, true, true, [true, true, false, false, false]),
+    (1, true, true, [true, true, false, false, false]),
+    (2, true, true, [true, false, true, false, false]),
+    (3, true, true, [true, false, true, false, false]),
+    (4, true, true, [true, false, true, false, false]),
+    (5, true, true, [true, false, true, false, false]),
+    (9, false, true, [true, false, false, true, false]),
+    (9, true, false, [true, false, false, false, true]),
+];
+
 #[test]
 fn a_file_fails(rt: HostRuntime) -> Result<(), Fail> {
-    let rows = [
-        (9, true, true, [true, false, false, false, false]),
-        (0, true, true, [true, true, false, false, false]),
-        (1, true, true, [true, true, false, false, false]),
-        (2, true, true, [true, false, true, false, false]),
-        (3, true, true, [true, false, true, false, false]),
-        (4, true, true, [true, false, true, false, false]),
-        (5, true, true, [true, false, true, false, false]),
-        (9, false, true, [true, false, false, true, false]),
-        (9, true, false, [true, false, false, false, true]),
-    ];
-    for (failing, cuts, syncs, expected) in rows {
-        let file = FlakyFile {
-            inner: Flaky::new(failing),
-            cuts,
-            syncs,
-        };
+    for (failing, cuts, syncs, expected) in &ROWS {
         let name = String::from_str(rt.alloc(), "flaky.journal")?;
+        let file = FlakyFile {
+            inner: Flaky::new(*failing),
+            cuts: *cuts,
+            syncs: *syncs,
+        };
         let mut disk = FileDisk::new(rt.alloc(), file, name, rt);
         let mut piece = [0u8; 4];
         let found = [
@@ -137,7 +138,8 @@ fn a_file_fails(rt: HostRuntime) -> Result<(), Fail> {
             disk.cut(1).is_err(),
             disk.sync().is_err(),
         ];
-        assert!(rt; found == expected, "{failing} {cuts} {syncs}");
+        drop(disk);
+        assert!(rt; found == *expected, "{failing} {cuts} {syncs}");
     }
     Ok(())
 }

@@ -5,9 +5,9 @@ use sb_outside::{MemDisk, MemSink};
 use std::alloc::{AllocError, Global};
 use std::test::Fail;
 
-const RUN: [&str; 3] = ["run", "--data=.", "--checkpoint"];
+static RUN: [&str; 3] = ["run", "--data=.", "--checkpoint"];
 
-const CHECK: [&str; 2] = ["check", "--data=."];
+static CHECK: [&str; 2] = ["check", "--data=."];
 
 // Of the queue of the one event.
 const ONE: &str =

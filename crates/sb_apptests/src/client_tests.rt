@@ -7,7 +7,7 @@ use std::sync::Wait;
 use std::test::Fail;
 use std::thread::Threads;
 
-const CLIENT: [&str; 3] = ["client", "--port", "8080"];
+static CLIENT: [&str; 3] = ["client", "--port", "8080"];
 
 // A run of a client: its input, the responses, the calls of the link that fail, and what comes.
 #[derive(Clone, Copy)]
@@ -31,7 +31,7 @@ const CREATE: &str = "{\"do\":\"create-queue\",\"name\":\"q\"}";
 const REQUEST: &str =
     "POST /$script HTTP/1.1\r\nHost: localhost\r\nContent-Length: 32\r\nConnection: close\r\n\r\n{\"do\":\"create-queue\",\"name\":\"q\"}";
 
-const CASES: [Case<'static>; 8] = [
+static CASES: [Case<'static>; 8] = [
     Case {
         input: CREATE,
         replies: &[MADE],
@@ -98,7 +98,7 @@ fn put_replies(alloc: Global, replies: &mut Vec<Bytes>, given: &[&str]) -> Resul
     Ok(())
 }
 
-fn link_of(rt: &HostRuntime, case: Case<'_>) -> Result<MemLink, Fail> {
+fn link_of(rt: &HostRuntime, case: &Case<'_>) -> Result<MemLink, Fail> {
     let alloc = rt.alloc();
     let failing = case.failing.to_vec(alloc)?;
     let mut replies = Vec::new(alloc);
@@ -115,7 +115,7 @@ fn link_of(rt: &HostRuntime, case: Case<'_>) -> Result<MemLink, Fail> {
 fn run_into<T: Threads + Wait + Sync>(
     rt: &HostRuntime,
     threads: &T,
-    case: Case<'_>,
+    case: &Case<'_>,
     output: &mut MemSink,
     link: &mut MemLink,
 ) -> Result<u8, Fail> {
@@ -140,7 +140,7 @@ fn run_into<T: Threads + Wait + Sync>(
 fn answers<T: Threads + Wait + Sync>(
     rt: &HostRuntime,
     threads: &T,
-    case: Case<'_>,
+    case: &Case<'_>,
     link: &mut MemLink,
 ) -> Result<(), Fail> {
     let mut output = sink_of(rt.alloc(), 256, &[])?;
@@ -160,7 +160,7 @@ fn answers<T: Threads + Wait + Sync>(
 fn try_case<T: Threads + Wait + Sync>(
     rt: &HostRuntime,
     threads: &T,
-    case: Case<'_>,
+    case: &Case<'_>,
 ) -> Result<(), Fail> {
     let mut link = link_of(rt, case)?;
     let answered = answers(rt, threads, case, &mut link);
@@ -176,7 +176,7 @@ fn try_case<T: Threads + Wait + Sync>(
 #[test]
 fn a_client_has_its_lines_answered(rt: HostRuntime) -> Result<(), Fail> {
     for case in &CASES {
-        try_case(&rt, &rt, *case)?;
+        try_case(&rt, &rt, case)?;
     }
     Ok(())
 }

@@ -4,9 +4,9 @@ use sb_calls::{ONE_EVENT, bytes_of, ran, sink_of};
 use std::alloc::Global;
 use std::test::Fail;
 
-const CHECK: [&str; 2] = ["check", "--data=."];
+static CHECK: [&str; 2] = ["check", "--data=."];
 
-const LOOK: [&str; 3] = ["check", "--data=.", "--look"];
+static LOOK: [&str; 3] = ["check", "--data=.", "--look"];
 
 // Of an empty namespace.
 const NONE: &str = r#"{"copies":0,"entities":0,"events":0,"made":0,"now":0,"ok":"check"}"#;
@@ -27,28 +27,28 @@ struct Row {
     changes: bool,
 }
 
-fn same(length: usize, place: usize, byte: u8, told: &'static str) -> Row {
+// What a check does with the bytes.
+#[derive(Clone, Copy)]
+enum Check {
+    Leaves,
+    Changes,
+    Refuses,
+}
+
+fn row_of(image: (usize, usize, u8), told: &'static str, check: Check) -> Row {
+    let (length, place, byte) = image;
+    let (status, changes) = match check {
+        Check::Leaves => (0, false),
+        Check::Changes => (0, true),
+        Check::Refuses => (6, false),
+    };
     Row {
         length,
         place,
         byte,
         told,
-        status: 0,
-        changes: false,
-    }
-}
-
-fn changed(length: usize, place: usize, byte: u8, told: &'static str) -> Row {
-    Row {
-        changes: true,
-        ..same(length, place, byte, told)
-    }
-}
-
-fn damaged(length: usize, place: usize, byte: u8, told: &'static str) -> Row {
-    Row {
-        status: 6,
-        ..same(length, place, byte, told)
+        status,
+        changes,
     }
 }
 
@@ -67,7 +67,7 @@ const AT_42: &str = r#"{"disk":"a","place":42,"refused":"Damaged"}"#;
 
 const AT_86: &str = r#"{"disk":"a","place":86,"refused":"Damaged"}"#;
 
-fn image_of(alloc: Global, row: Row) -> Result<Vec<u8>, Fail> {
+fn image_of(alloc: Global, row: &Row) -> Result<Vec<u8>, Fail> {
     let mut bytes = ONE_EVENT.to_vec(alloc)?;
     if let Some(byte) = bytes.get_mut(row.place) {
         *byte = row.byte;
@@ -112,7 +112,7 @@ fn is_told(told: &[u8], line: &str) -> bool {
 }
 
 // Makes a call over these bytes, which has to end and tell as the row has it: whether it changed them.
-fn changes(alloc: Global, words: &[&str], image: &[u8], row: Row) -> Result<bool, Fail> {
+fn changes(alloc: Global, words: &[&str], image: &[u8], row: &Row) -> Result<bool, Fail> {
     let outcome = outcome_of(alloc, words, image, &[], &[])?;
     let is_so = outcome.status == row.status && is_told(&outcome.told, row.told);
     let changes = outcome.left.as_slice() != image;
@@ -123,7 +123,7 @@ fn changes(alloc: Global, words: &[&str], image: &[u8], row: Row) -> Result<bool
     Err(Fail::from("a call told something else"))
 }
 
-fn try_image(alloc: Global, image: &[u8], row: Row) -> Result<(), Fail> {
+fn try_image(alloc: Global, image: &[u8], row: &Row) -> Result<(), Fail> {
     if changes(alloc, &LOOK, image, row)? {
         return Err(Fail::from("a look changed the disk"));
     }
@@ -134,46 +134,47 @@ fn try_image(alloc: Global, image: &[u8], row: Row) -> Result<(), Fail> {
 }
 
 // Tries a look, and a check of the same bytes.
-fn try_row(alloc: Global, row: Row) -> Result<(), Fail> {
+fn try_row(alloc: Global, row: &Row) -> Result<(), Fail> {
     let image = image_of(alloc, row)?;
     let tried = try_image(alloc, &image, row);
     drop(image);
     tried
 }
 
+static ROWS: [((usize, usize, u8), &str, Check); 23] = [
+    // Whole; with a torn end, or none; with its gate closed.
+    ((87, 86, 0), ONE, Check::Leaves),
+    ((87, 86, 7), ONE, Check::Changes),
+    ((86, 86, 0), ONE, Check::Changes),
+    ((87, 42, 0), NONE, Check::Leaves),
+    // No journal yet.
+    ((0, 0, 0), NONE, Check::Changes),
+    ((1, 0, 0), NONE, Check::Changes),
+    ((42, 0, 1), NONE, Check::Changes),
+    ((43, 0, 0), NONE, Check::Changes),
+    // Somebody else's bytes.
+    ((87, 0, 0), AT_0, Check::Refuses),
+    ((87, 0, 0x58), AT_0, Check::Refuses),
+    ((44, 0, 0x58), AT_0, Check::Refuses),
+    // Damage of the head, of a record and of its event.
+    ((87, 8, 0), AT_1, Check::Refuses),
+    ((87, 9, 2), AT_9, Check::Refuses),
+    ((87, 25, 0), AT_18, Check::Refuses),
+    ((87, 33, 0), AT_26, Check::Refuses),
+    ((87, 41, 1), AT_42, Check::Refuses),
+    ((85, 0, 1), AT_42, Check::Refuses),
+    ((43, 0, 1), AT_42, Check::Refuses),
+    ((87, 44, 0x11), AT_42, Check::Refuses),
+    ((87, 54, 2), AT_42, Check::Refuses),
+    ((87, 55, 2), AT_42, Check::Refuses),
+    ((87, 70, 0x20), AT_42, Check::Refuses),
+    ((87, 86, 1), AT_86, Check::Refuses),
+];
+
 #[test]
 fn a_look_tells_what_a_check_does(rt: HostRuntime) -> Result<(), Fail> {
-    let rows = [
-        // Whole; with a torn end, or none; with its gate closed.
-        same(87, 86, 0, ONE),
-        changed(87, 86, 7, ONE),
-        changed(86, 86, 0, ONE),
-        same(87, 42, 0, NONE),
-        // No journal yet.
-        changed(0, 0, 0, NONE),
-        changed(1, 0, 0, NONE),
-        changed(42, 0, 1, NONE),
-        changed(43, 0, 0, NONE),
-        // Somebody else's bytes.
-        damaged(87, 0, 0, AT_0),
-        damaged(87, 0, 0x58, AT_0),
-        damaged(44, 0, 0x58, AT_0),
-        // Damage of the head, of a record and of its event.
-        damaged(87, 8, 0, AT_1),
-        damaged(87, 9, 2, AT_9),
-        damaged(87, 25, 0, AT_18),
-        damaged(87, 33, 0, AT_26),
-        damaged(87, 41, 1, AT_42),
-        damaged(85, 0, 1, AT_42),
-        damaged(43, 0, 1, AT_42),
-        damaged(87, 44, 0x11, AT_42),
-        damaged(87, 54, 2, AT_42),
-        damaged(87, 55, 2, AT_42),
-        damaged(87, 70, 0x20, AT_42),
-        damaged(87, 86, 1, AT_86),
-    ];
-    for row in &rows {
-        try_row(rt.alloc(), *row)?;
+    for (image, told, check) in &ROWS {
+        try_row(rt.alloc(), &row_of(*image, *told, *check))?;
     }
     Ok(())
 }

@@ -4,9 +4,9 @@ use sb_outside::MemSink;
 use std::alloc::Global;
 use std::test::Fail;
 
-const RUN: [&str; 3] = ["run", "--data", "."];
+static RUN: [&str; 3] = ["run", "--data", "."];
 
-const CHECK: [&str; 2] = ["check", "--data=."];
+static CHECK: [&str; 2] = ["check", "--data=."];
 
 // More than the calls of the disk in each of these runs.
 const MANY_CALLS: u64 = 40;
@@ -17,14 +17,14 @@ const SETUP: &str = r#"{"at":0,"do":"create-queue","name":"q"}
 "#;
 
 // What the lines of the setup are answered, one behind the other.
-const REPLIES: [&str; 3] = [
+static REPLIES: [&str; 3] = [
     "{\"ok\":\"done\"}\n",
     "{\"numbers\":[1],\"ok\":\"sent\"}\n",
     "{\"message\":{\"body\":\"hi\",\"delivery\":1,\"enqueued\":0,\"enqueued_seq\":1,\"props\":{},\"seq\":1,\"sys\":{},\"token\":\"a1b2c3d4-e5f6-0718-0000-000000000001\",\"until\":60000},\"ok\":\"message\"}\n",
 ];
 
 // What a check tells behind none of them, the first, the first two and all.
-const CHECKS: [&str; 4] = [
+static CHECKS: [&str; 4] = [
     "{\"copies\":0,\"entities\":0,\"events\":0,\"made\":0,\"now\":0,\"ok\":\"check\"}\n",
     "{\"copies\":0,\"entities\":1,\"events\":1,\"made\":0,\"now\":0,\"ok\":\"check\"}\n",
     "{\"copies\":1,\"entities\":1,\"events\":2,\"made\":1,\"now\":0,\"ok\":\"check\"}\n",

@@ -7,11 +7,11 @@ use std::sync::Wait;
 use std::test::Fail;
 use std::thread::Threads;
 
-const RUN: [&str; 3] = ["run", "--data", "."];
+static RUN: [&str; 3] = ["run", "--data", "."];
 
-const CHECK: [&str; 2] = ["check", "--data=."];
+static CHECK: [&str; 2] = ["check", "--data=."];
 
-const DRILL: [&str; 3] = ["drill", "0", "7"];
+static DRILL: [&str; 3] = ["drill", "0", "7"];
 
 const SETUP: &str = r#"
 {"at":0,"do":"create-queue","name":"q"}
@@ -274,24 +274,26 @@ fn try_call<T: Threads + Wait + Sync>(
     Ok(())
 }
 
+// The call of the disk that fails, the row of the run and its status, and that of the next run.
+static ROWS: [(u64, &str, u8, &str); 10] = [
+    (0, SEND, 5, SEND),
+    (1, SEND, 5, SEND),
+    (2, SEND, 5, SEND),
+    (3, SEND, 5, SEND),
+    (4, SEND, 5, SEND),
+    (5, SEND_FAILS, 5, SEND),
+    (6, SEND_FAILS, 5, SEND),
+    (7, SEND_FAILS, 5, SEND),
+    (8, SEND_FAILS, 5, SEND_AGAIN),
+    (9, SEND, 0, SEND_AGAIN),
+];
+
 // Each call of the disk fails in turn, over a journal that has an event: opening reads in five calls
 // and an append makes four. What was there is there for the next run, with what was synced with its
 // gate, and no more.
 #[test]
 fn each_disk_call_fails(rt: HostRuntime) -> Result<(), Fail> {
-    let rows = [
-        (0, SEND, 5, SEND),
-        (1, SEND, 5, SEND),
-        (2, SEND, 5, SEND),
-        (3, SEND, 5, SEND),
-        (4, SEND, 5, SEND),
-        (5, SEND_FAILS, 5, SEND),
-        (6, SEND_FAILS, 5, SEND),
-        (7, SEND_FAILS, 5, SEND),
-        (8, SEND_FAILS, 5, SEND_AGAIN),
-        (9, SEND, 0, SEND_AGAIN),
-    ];
-    for row in &rows {
+    for row in &ROWS {
         try_call(&rt, &rt, *row)?;
     }
     Ok(())
@@ -312,36 +314,6 @@ const SETUP_FAILS: &str = r#"
 {"refused":"DiskFault"}
 "#;
 
-// A row of the table of stops.
-#[derive(Clone, Copy)]
-struct Stop<'a> {
-    // The call of the disk that fails, its number from 0.
-    call: Option<u64>,
-    // What stands where a crash may leave any byte.
-    fill: u8,
-    // What the next run finds.
-    next: &'a str,
-    status: u8,
-}
-
-fn before(call: u64, fill: u8) -> Stop<'static> {
-    Stop {
-        call: Some(call),
-        fill,
-        next: NOT_MADE,
-        status: 1,
-    }
-}
-
-fn after(call: Option<u64>, fill: u8) -> Stop<'static> {
-    Stop {
-        call,
-        fill,
-        next: MADE,
-        status: 0,
-    }
-}
-
 // What a crash may leave behind an append that stops so.
 fn image_of<T: Threads + Wait + Sync>(
     rt: &HostRuntime,
@@ -359,14 +331,37 @@ fn image_of<T: Threads + Wait + Sync>(
     Ok(image?)
 }
 
+// The call of the disk that fails, what stands where a crash may leave any byte, and whether the next run finds what
+// was made.
+type Stop = (Option<u64>, u8, bool);
+
+static STOPS: [Stop; 11] = [
+    // Within the first call, and after it.
+    (Some(5), 0xff, false),
+    (Some(5), 0x01, false),
+    (Some(6), 0xff, false),
+    (Some(6), 0x01, false),
+    // After the second, with nothing of the third; within the third, and after it.
+    (Some(7), 0x00, false),
+    (Some(7), 0xff, false),
+    (Some(7), 0x01, true),
+    (Some(8), 0xff, false),
+    (Some(8), 0x01, true),
+    // After the fourth.
+    (None, 0xff, true),
+    (None, 0x01, true),
+];
+
 fn try_stop<T: Threads + Wait + Sync>(
     rt: &HostRuntime,
     threads: &T,
     made: &[u8],
-    stop: Stop<'_>,
+    stop: Stop,
 ) -> Result<(), Fail> {
-    let image = image_of(rt, threads, made, stop.call, stop.fill)?;
-    let found = left_by(rt, threads, &image, &[stop.next], stop.status);
+    let (call, fill, is_made) = stop;
+    let (next, status) = if is_made { (MADE, 0) } else { (NOT_MADE, 1) };
+    let image = image_of(rt, threads, made, call, fill)?;
+    let found = left_by(rt, threads, &image, &[next], status);
     drop(image);
     drop(found?);
     Ok(())
@@ -376,9 +371,8 @@ fn try_stops<T: Threads + Wait + Sync>(
     rt: &HostRuntime,
     threads: &T,
     made: &[u8],
-    stops: &[Stop<'_>],
 ) -> Result<(), Fail> {
-    for stop in stops {
+    for stop in &STOPS {
         try_stop(rt, threads, made, *stop)?;
     }
     Ok(())
@@ -389,26 +383,68 @@ fn try_stops<T: Threads + Wait + Sync>(
 // since the last sync holds the fill: also what the failed call was to write.
 #[test]
 fn an_append_stops(rt: HostRuntime) -> Result<(), Fail> {
-    let stops = [
-        // Within the first call, and after it.
-        before(5, 0xff),
-        before(5, 0x01),
-        before(6, 0xff),
-        before(6, 0x01),
-        // After the second, with nothing of the third; within the third, and after it.
-        before(7, 0x00),
-        before(7, 0xff),
-        after(Some(7), 0x01),
-        before(8, 0xff),
-        after(Some(8), 0x01),
-        // After the fourth.
-        after(None, 0xff),
-        after(None, 0x01),
-    ];
     let made = left_by(&rt, &rt, &[], &[], 0)?;
-    let tried = try_stops(&rt, &rt, &made, &stops);
+    let tried = try_stops(&rt, &rt, &made);
     drop(made);
     tried
+}
+
+// What fails, whether what answers the first line is written, and the status. The first line is 40 bytes, in six
+// reads of 7 bytes at most.
+static CAUSES: [(Failing, bool, u8); 5] = [
+    (
+        Failing {
+            input: Some(6),
+            ..NOTHING
+        },
+        true,
+        3,
+    ),
+    (
+        Failing {
+            output: Some(1),
+            ..NOTHING
+        },
+        true,
+        4,
+    ),
+    (
+        Failing {
+            input: Some(0),
+            ..NOTHING
+        },
+        false,
+        3,
+    ),
+    (NO_OUTPUT, false, 4),
+    (
+        Failing {
+            disk: Some(0),
+            ..NOTHING
+        },
+        false,
+        5,
+    ),
+];
+
+fn try_cause<T: Threads + Wait + Sync>(
+    rt: &HostRuntime,
+    threads: &T,
+    failing: Failing,
+    script: &[u8],
+    told: &[u8],
+    status: u8,
+) -> Result<(), Fail> {
+    let case = Case {
+        words: &RUN,
+        disk: &[],
+        failing,
+        script,
+        told,
+        status,
+    };
+    drop(leaves(rt, threads, case)?);
+    Ok(())
 }
 
 // Runs over the lines of two rows that write what the first of them is answered, or nothing.
@@ -418,41 +454,9 @@ fn try_causes<T: Threads + Wait + Sync>(
     one: &Rows,
     two: &Rows,
 ) -> Result<(), Fail> {
-    let no_disk = Failing {
-        disk: Some(0),
-        ..NOTHING
-    };
-    let no_input = Failing {
-        input: Some(0),
-        ..NOTHING
-    };
-    // The first line is 40 bytes, in six reads of 7 bytes at most.
-    let late_input = Failing {
-        input: Some(6),
-        ..NOTHING
-    };
-    let late_output = Failing {
-        output: Some(1),
-        ..NOTHING
-    };
-    let rows: [(Failing, &[u8], u8); 5] = [
-        (late_input, &one.told, 3),
-        (late_output, &one.told, 4),
-        (no_input, &[], 3),
-        (NO_OUTPUT, &[], 4),
-        (no_disk, &[], 5),
-    ];
-    for row in &rows {
-        let (failing, told, status) = *row;
-        let case = Case {
-            words: &RUN,
-            disk: &[],
-            failing,
-            script: &two.script,
-            told,
-            status,
-        };
-        drop(leaves(rt, threads, case)?);
+    for (failing, is_told, status) in &CAUSES {
+        let told = if *is_told { one.told.as_slice() } else { &[] };
+        try_cause(rt, threads, *failing, &two.script, told, *status)?;
     }
     Ok(())
 }
@@ -471,9 +475,7 @@ fn try_runs<T: Threads + Wait + Sync>(rt: &HostRuntime, threads: &T) -> Result<(
     tried
 }
 
-#[test]
-fn each_status_has_its_cause(rt: HostRuntime) -> Result<(), Fail> {
-    try_runs(&rt, &rt)?;
+fn try_check<T: Threads + Wait + Sync>(rt: &HostRuntime, threads: &T) -> Result<(), Fail> {
     let checked = Case {
         words: &CHECK,
         disk: &ONE_EVENT,
@@ -482,7 +484,43 @@ fn each_status_has_its_cause(rt: HostRuntime) -> Result<(), Fail> {
         told: &[],
         status: 4,
     };
-    drop(leaves(&rt, &rt, checked)?);
+    drop(leaves(rt, threads, checked)?);
+    Ok(())
+}
+
+#[test]
+fn each_status_has_its_cause(rt: HostRuntime) -> Result<(), Fail> {
+    try_runs(&rt, &rt)?;
+    try_check(&rt, &rt)
+}
+
+// Which call of the disk and of the output fails, and the status.
+static DRILLS: [(Option<u64>, Option<u64>, u8); 3] = [
+    (Some(0), None, 5),
+    (Some(12), None, 5),
+    (None, Some(0), 4),
+];
+
+fn try_drill<T: Threads + Wait + Sync>(
+    rt: &HostRuntime,
+    threads: &T,
+    disk: Option<u64>,
+    output: Option<u64>,
+    status: u8,
+) -> Result<(), Fail> {
+    let case = Case {
+        words: &DRILL,
+        disk: &[],
+        failing: Failing {
+            disk,
+            output,
+            ..NOTHING
+        },
+        script: b"[",
+        told: &[],
+        status,
+    };
+    drop(leaves(rt, threads, case)?);
     Ok(())
 }
 
@@ -490,26 +528,8 @@ fn each_status_has_its_cause(rt: HostRuntime) -> Result<(), Fail> {
 // of its setup, which make twenty calls of it.
 #[test]
 fn a_drill_fails(rt: HostRuntime) -> Result<(), Fail> {
-    let rows: [(Option<u64>, Option<u64>, u8); 3] = [
-        (Some(0), None, 5),
-        (Some(12), None, 5),
-        (None, Some(0), 4),
-    ];
-    for row in &rows {
-        let (disk, output, status) = *row;
-        let case = Case {
-            words: &DRILL,
-            disk: &[],
-            failing: Failing {
-                disk,
-                output,
-                ..NOTHING
-            },
-            script: b"[",
-            told: &[],
-            status,
-        };
-        drop(leaves(&rt, &rt, case)?);
+    for (disk, output, status) in &DRILLS {
+        try_drill(&rt, &rt, *disk, *output, *status)?;
     }
     Ok(())
 }
