@@ -4,9 +4,10 @@ ghost use Rattle.sb_codec.specs.Choices as choices;
 ghost use Rattle.sb_codec.specs.Readers.{Gives};
 ghost use Rattle.sb_codec.specs.Forms.{Form, Puts};
 
+use crate::coded::split_code;
 use crate::fields::{Number64, Opt, Words};
 use crate::messages::ConditionsPiece;
-use crate::piece::{Piece, take_fields};
+use crate::piece::{Piece, put_fields, take_fields};
 use crate::unread::Unread;
 use sb_machine::{FilterText, How, Which};
 use sb_model::Text;
@@ -35,18 +36,12 @@ impl Piece for WhichPiece {
 
     #[tactic(auto, unfolding(crate::specs::Choices::which, crate::specs::Forms::chosen_at))]
     fn take(alloc: Global, bytes: &[u8]) -> Result<(Which, &[u8]), Unread> {
-        let [code, rest @ ..] = bytes else {
+        let Some((code, rest)) = split_code(bytes) else {
             return Err(Unread::NoSpelling);
         };
-        match *code {
-            0 => {
-                let (number, rest) = Number64::take(alloc, rest)?;
-                Ok((Which::Number(number), rest))
-            }
-            1 => {
-                let (id, rest) = Words::take(alloc, rest)?;
-                Ok((Which::Id(id), rest))
-            }
+        match code {
+            0 => take_fields!(alloc, rest, Which::Number(Number64)),
+            1 => take_fields!(alloc, rest, Which::Id(Words)),
             _ => Err(Unread::NoSpelling),
         }
     }
@@ -80,18 +75,17 @@ impl Piece for HowPiece {
                 description,
             } => {
                 out.push(3)?;
-                Opt::<Words>::put(reason, out)?;
-                Opt::<Words>::put(description, out)
+                put_fields!(out, reason => Opt<Words>, description => Opt<Words>)
             }
         }
     }
 
     #[tactic(auto, unfolding(crate::specs::Choices::how, crate::specs::Forms::chosen_at))]
     fn take(alloc: Global, bytes: &[u8]) -> Result<(How, &[u8]), Unread> {
-        let [code, rest @ ..] = bytes else {
+        let Some((code, rest)) = split_code(bytes) else {
             return Err(Unread::NoSpelling);
         };
-        match *code {
+        match code {
             0 => Ok((How::Complete, rest)),
             1 => Ok((How::Abandon, rest)),
             2 => Ok((How::Defer, rest)),
@@ -125,18 +119,12 @@ impl Piece for FilterPiece {
 
     #[tactic(auto, unfolding(crate::specs::Choices::filter_text, crate::specs::Forms::chosen_at))]
     fn take(alloc: Global, bytes: &[u8]) -> Result<(FilterText, &[u8]), Unread> {
-        let [code, rest @ ..] = bytes else {
+        let Some((code, rest)) = split_code(bytes) else {
             return Err(Unread::NoSpelling);
         };
-        match *code {
-            0 => {
-                let (text, rest) = Words::take(alloc, rest)?;
-                Ok((FilterText::Sql(text), rest))
-            }
-            1 => {
-                let (conditions, rest) = ConditionsPiece::take(alloc, rest)?;
-                Ok((FilterText::Correlation(conditions), rest))
-            }
+        match code {
+            0 => take_fields!(alloc, rest, FilterText::Sql(Words)),
+            1 => take_fields!(alloc, rest, FilterText::Correlation(ConditionsPiece)),
             _ => Err(Unread::NoSpelling),
         }
     }

@@ -5,6 +5,7 @@ ghost use Rattle.sb_codec.specs.Readers.{Gives};
 ghost use Rattle.sb_codec.specs.Forms.{Form, Puts};
 
 use crate::acts::ActPiece;
+use crate::coded::split_code;
 use crate::fields::{Number64, Opt};
 use crate::piece::{Piece, put_fields, take_fields};
 use crate::pieces::ByPiece;
@@ -25,8 +26,7 @@ pub(crate) fn put_event(event: &EventRef<'_>, out: &mut Vec<u8>) -> Result<(), A
         }
         EventRef::Called { moment, call } => {
             out.push(1)?;
-            Number64::put(moment, out)?;
-            CallPiece::put(call, out)
+            put_fields!(out, moment => Number64, call => CallPiece)
         }
     }
 }
@@ -35,10 +35,10 @@ pub(crate) fn put_event(event: &EventRef<'_>, out: &mut Vec<u8>) -> Result<(), A
 pub(crate) fn take_event(alloc: Global, bytes: &[u8]) -> Result<(Event, &[u8]), Unread>
     ensures { Gives (λ x. (x.0, x.1.now)) result (event_bytes.event.reads bytes.now) }
 {
-    let [kind, rest @ ..] = bytes else {
+    let Some((kind, rest)) = split_code(bytes) else {
         return Err(Unread::NoSpelling);
     };
-    match *kind {
+    match kind {
         0 => take_fields!(alloc, rest, Event::Tick { moment: Number64 }),
         1 => take_fields!(
             alloc,

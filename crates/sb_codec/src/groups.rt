@@ -6,8 +6,10 @@ ghost use Rattle.sb_codec.specs.Readers.{Gives};
 use crate::piece::Piece;
 use crate::unread::Unread;
 use std::alloc::{AllocError, Global};
+use std::marker::PhantomData;
 
-pub(crate) fn put_two<A: Piece, B: Piece>(
+/// Writes these fields in order.
+pub fn put_two<A: Piece, B: Piece>(
     first: &A::Value,
     second: &B::Value,
     out: &mut Vec<u8>,
@@ -20,7 +22,8 @@ pub(crate) fn put_two<A: Piece, B: Piece>(
     B::put(second, out)
 }
 
-pub(crate) fn put_three<A: Piece, B: Piece, C: Piece>(
+/// Writes these fields in order.
+pub fn put_three<A: Piece, B: Piece, C: Piece>(
     first: &A::Value,
     second: &B::Value,
     third: &C::Value,
@@ -34,7 +37,8 @@ pub(crate) fn put_three<A: Piece, B: Piece, C: Piece>(
     put_two::<B, C>(second, third, out)
 }
 
-pub(crate) fn put_four<A: Piece, B: Piece, C: Piece, D: Piece>(
+/// Writes these fields in order.
+pub fn put_four<A: Piece, B: Piece, C: Piece, D: Piece>(
     first: &A::Value,
     second: &B::Value,
     third: &C::Value,
@@ -49,7 +53,8 @@ pub(crate) fn put_four<A: Piece, B: Piece, C: Piece, D: Piece>(
     put_three::<B, C, D>(second, third, fourth, out)
 }
 
-pub(crate) fn put_five<A: Piece, B: Piece, C: Piece, D: Piece, E: Piece>(
+/// Writes these fields in order.
+pub fn put_five<A: Piece, B: Piece, C: Piece, D: Piece, E: Piece>(
     first: &A::Value,
     second: &B::Value,
     third: &C::Value,
@@ -65,7 +70,8 @@ pub(crate) fn put_five<A: Piece, B: Piece, C: Piece, D: Piece, E: Piece>(
     put_four::<B, C, D, E>(second, third, fourth, fifth, out)
 }
 
-pub(crate) fn put_six<A: Piece, B: Piece, C: Piece, D: Piece, E: Piece, F: Piece>(
+/// Writes these fields in order.
+pub fn put_six<A: Piece, B: Piece, C: Piece, D: Piece, E: Piece, F: Piece>(
     first: &A::Value,
     second: &B::Value,
     third: &C::Value,
@@ -82,125 +88,24 @@ pub(crate) fn put_six<A: Piece, B: Piece, C: Piece, D: Piece, E: Piece, F: Piece
     put_five::<B, C, D, E, F>(second, third, fourth, fifth, sixth, out)
 }
 
-pub(crate) fn take_two<A: Piece, B: Piece>(
-    alloc: Global,
-    bytes: &[u8],
-) -> Result<((A::Value, B::Value), &[u8]), Unread>
-    ensures { Gives (λ x. (x.0, x.1.now)) result ((A.form then B.form).reads bytes.now) }
-{
-    let (first, rest) = A::take(alloc, bytes)?;
-    let (others, rest) = B::take(alloc, rest)?;
-    Ok(((first, others), rest))
+/// A field, and what stands behind it.
+pub struct Both<A, B> {
+    first: PhantomData<A>,
+    second: PhantomData<B>,
 }
 
-pub(crate) fn take_three<A: Piece, B: Piece, C: Piece>(
-    alloc: Global,
-    bytes: &[u8],
-) -> Result<((A::Value, (B::Value, C::Value)), &[u8]), Unread>
-    ensures { Gives (λ x. (x.0, x.1.now)) result ((A.form then B.form then C.form).reads bytes.now) }
-{
-    let (first, rest) = A::take(alloc, bytes)?;
-    let (others, rest) = take_two::<B, C>(alloc, rest)?;
-    Ok(((first, others), rest))
-}
+impl<A: Piece, B: Piece> Piece for Both<A, B> {
+    type Value = (A::Value, B::Value);
 
-pub(crate) fn take_four<A: Piece, B: Piece, C: Piece, D: Piece>(
-    alloc: Global,
-    bytes: &[u8],
-) -> Result<((A::Value, (B::Value, (C::Value, D::Value))), &[u8]), Unread>
-    ensures { Gives (λ x. (x.0, x.1.now)) result ((A.form then B.form then C.form then D.form).reads bytes.now) }
-{
-    let (first, rest) = A::take(alloc, bytes)?;
-    let (others, rest) = take_three::<B, C, D>(alloc, rest)?;
-    Ok(((first, others), rest))
-}
+    ghost form = { A.form then B.form };
 
-pub(crate) fn take_five<A: Piece, B: Piece, C: Piece, D: Piece, E: Piece>(
-    alloc: Global,
-    bytes: &[u8],
-) -> Result<
-    (
-        (A::Value, (B::Value, (C::Value, (D::Value, E::Value)))),
-        &[u8],
-    ),
-    Unread,
->
-    ensures { Gives (λ x. (x.0, x.1.now)) result ((A.form then B.form then C.form then D.form then E.form).reads bytes.now) }
-{
-    let (first, rest) = A::take(alloc, bytes)?;
-    let (others, rest) = take_four::<B, C, D, E>(alloc, rest)?;
-    Ok(((first, others), rest))
-}
+    fn put(value: &(A::Value, B::Value), out: &mut Vec<u8>) -> Result<(), AllocError> {
+        put_two::<A, B>(&value.0, &value.1, out)
+    }
 
-pub(crate) fn take_six<A: Piece, B: Piece, C: Piece, D: Piece, E: Piece, F: Piece>(
-    alloc: Global,
-    bytes: &[u8],
-) -> Result<
-    (
-        (
-            A::Value,
-            (B::Value, (C::Value, (D::Value, (E::Value, F::Value)))),
-        ),
-        &[u8],
-    ),
-    Unread,
->
-    ensures { Gives (λ x. (x.0, x.1.now)) result ((A.form then B.form then C.form then D.form then E.form then F.form).reads bytes.now) }
-{
-    let (first, rest) = A::take(alloc, bytes)?;
-    let (others, rest) = take_five::<B, C, D, E, F>(alloc, rest)?;
-    Ok(((first, others), rest))
+    fn take(alloc: Global, bytes: &[u8]) -> Result<((A::Value, B::Value), &[u8]), Unread> {
+        let (first, rest) = A::take(alloc, bytes)?;
+        let (second, rest) = B::take(alloc, rest)?;
+        Ok(((first, second), rest))
+    }
 }
-
-// The call that writes these fields.
-macro_rules! put_group {
-    ($out:ident, $first:expr => $a:ty) => {
-        <$a as Piece>::put($first, $out)
-    };
-    ($out:ident, $first:expr => $a:ty, $second:expr => $b:ty) => {
-        put_two::<$a, $b>($first, $second, $out)
-    };
-    ($out:ident, $first:expr => $a:ty, $second:expr => $b:ty, $third:expr => $c:ty) => {
-        put_three::<$a, $b, $c>($first, $second, $third, $out)
-    };
-    ($out:ident, $first:expr => $a:ty, $second:expr => $b:ty, $third:expr => $c:ty, $fourth:expr => $d:ty) => {
-        put_four::<$a, $b, $c, $d>($first, $second, $third, $fourth, $out)
-    };
-    ($out:ident, $first:expr => $a:ty, $second:expr => $b:ty, $third:expr => $c:ty, $fourth:expr => $d:ty, $fifth:expr => $e:ty) => {
-        put_five::<$a, $b, $c, $d, $e>($first, $second, $third, $fourth, $fifth, $out)
-    };
-    ($out:ident, $first:expr => $a:ty, $second:expr => $b:ty, $third:expr => $c:ty, $fourth:expr => $d:ty, $fifth:expr => $e:ty, $sixth:expr => $f:ty) => {
-        put_six::<$a, $b, $c, $d, $e, $f>($first, $second, $third, $fourth, $fifth, $sixth, $out)
-    };
-}
-
-// The call that reads these fields, and the value that is made of them.
-macro_rules! take_group {
-    ($alloc:ident, $bytes:ident, $($made:ident)::+ { $first:ident: $a:ty }) => {{
-        let ($first, rest) = <$a as Piece>::take($alloc, $bytes)?;
-        Ok(($($made)::+ { $first }, rest))
-    }};
-    ($alloc:ident, $bytes:ident, $($made:ident)::+ { $first:ident: $a:ty, $second:ident: $b:ty }) => {{
-        let (($first, $second), rest) = take_two::<$a, $b>($alloc, $bytes)?;
-        Ok(($($made)::+ { $first, $second }, rest))
-    }};
-    ($alloc:ident, $bytes:ident, $($made:ident)::+ { $first:ident: $a:ty, $second:ident: $b:ty, $third:ident: $c:ty }) => {{
-        let (($first, ($second, $third)), rest) = take_three::<$a, $b, $c>($alloc, $bytes)?;
-        Ok(($($made)::+ { $first, $second, $third }, rest))
-    }};
-    ($alloc:ident, $bytes:ident, $($made:ident)::+ { $first:ident: $a:ty, $second:ident: $b:ty, $third:ident: $c:ty, $fourth:ident: $d:ty }) => {{
-        let (($first, ($second, ($third, $fourth))), rest) = take_four::<$a, $b, $c, $d>($alloc, $bytes)?;
-        Ok(($($made)::+ { $first, $second, $third, $fourth }, rest))
-    }};
-    ($alloc:ident, $bytes:ident, $($made:ident)::+ { $first:ident: $a:ty, $second:ident: $b:ty, $third:ident: $c:ty, $fourth:ident: $d:ty, $fifth:ident: $e:ty }) => {{
-        let (($first, ($second, ($third, ($fourth, $fifth)))), rest) = take_five::<$a, $b, $c, $d, $e>($alloc, $bytes)?;
-        Ok(($($made)::+ { $first, $second, $third, $fourth, $fifth }, rest))
-    }};
-    ($alloc:ident, $bytes:ident, $($made:ident)::+ { $first:ident: $a:ty, $second:ident: $b:ty, $third:ident: $c:ty, $fourth:ident: $d:ty, $fifth:ident: $e:ty, $sixth:ident: $f:ty }) => {{
-        let (($first, ($second, ($third, ($fourth, ($fifth, $sixth))))), rest) = take_six::<$a, $b, $c, $d, $e, $f>($alloc, $bytes)?;
-        Ok(($($made)::+ { $first, $second, $third, $fourth, $fifth, $sixth }, rest))
-    }};
-}
-
-pub(crate) use put_group;
-pub(crate) use take_group;

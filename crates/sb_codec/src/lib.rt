@@ -17,6 +17,7 @@
 
 mod acts;
 mod choices;
+mod coded;
 mod decode;
 mod encode;
 mod events;
@@ -36,6 +37,7 @@ pub use choices::HowPiece;
 pub use decode::decode_event;
 pub use encode::{encode_event, write_event};
 pub use fields::{Blob, Number32, Number64, Opt, Truth, Words};
+pub use groups::{Both, put_five, put_four, put_six, put_three, put_two};
 pub use laws::{journaled_calls, one_spelling};
 pub use lists::{Item, Listed, items_of, put_items};
 pub use messages::{ConditionsPiece, MessagePiece};

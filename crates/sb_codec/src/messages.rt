@@ -6,6 +6,7 @@ ghost use Rattle.sb_codec.specs.Readers.{Gives};
 ghost use Rattle.sb_codec.specs.Forms.{Form, Puts};
 ghost use Rattle.sb_codec.specs.Messages as messages;
 
+use crate::coded::split_code;
 use crate::fields::{Number64, Opt, Shared, Truth, Words};
 use crate::lists::{Item, Listed};
 use crate::piece::{Piece, put_fields, take_fields};
@@ -46,10 +47,10 @@ impl Piece for NamePiece {
 
     #[tactic(auto, unfolding(crate::specs::Forms::coded_at))]
     fn take(_alloc: Global, bytes: &[u8]) -> Result<(SystemName, &[u8]), Unread> {
-        let [code, rest @ ..] = bytes else {
+        let Some((code, rest)) = split_code(bytes) else {
             return Err(Unread::NoSpelling);
         };
-        let Some(name) = named_by(*code) else {
+        let Some(name) = named_by(code) else {
             return Err(Unread::NoSpelling);
         };
         Ok((name, rest))
@@ -141,22 +142,13 @@ impl Piece for ValuePiece {
 
     #[tactic(auto, unfolding(crate::specs::Messages::value, crate::specs::Forms::chosen_at))]
     fn take(alloc: Global, bytes: &[u8]) -> Result<(PropertyValue, &[u8]), Unread> {
-        let [kind, rest @ ..] = bytes else {
+        let Some((kind, rest)) = split_code(bytes) else {
             return Err(Unread::NoSpelling);
         };
-        match *kind {
-            0 => {
-                let (number, rest) = Signed64::take(alloc, rest)?;
-                Ok((PropertyValue::Int(number), rest))
-            }
-            1 => {
-                let (text, rest) = Words::take(alloc, rest)?;
-                Ok((PropertyValue::Text(text), rest))
-            }
-            2 => {
-                let (truth, rest) = Truth::take(alloc, rest)?;
-                Ok((PropertyValue::Bool(truth), rest))
-            }
+        match kind {
+            0 => take_fields!(alloc, rest, PropertyValue::Int(Signed64)),
+            1 => take_fields!(alloc, rest, PropertyValue::Text(Words)),
+            2 => take_fields!(alloc, rest, PropertyValue::Bool(Truth)),
             _ => Err(Unread::NoSpelling),
         }
     }

@@ -27,20 +27,59 @@ pub trait Piece {
 /// Writes these fields in order.
 #[macro_export]
 macro_rules! put_fields {
-    ($out:ident, $($value:expr => $form:ty),*) => {{
-        $(<$form as Piece>::put($value, $out)?;)*
-        Ok(())
+    ($out:ident, $first:expr => $a:ty) => {
+        <$a as $crate::Piece>::put($first, $out)
+    };
+    ($out:ident, $first:expr => $a:ty, $second:expr => $b:ty) => {
+        $crate::put_two::<$a, $b>($first, $second, $out)
+    };
+    ($out:ident, $first:expr => $a:ty, $second:expr => $b:ty, $third:expr => $c:ty) => {
+        $crate::put_three::<$a, $b, $c>($first, $second, $third, $out)
+    };
+    ($out:ident, $first:expr => $a:ty, $second:expr => $b:ty, $third:expr => $c:ty, $fourth:expr => $d:ty) => {
+        $crate::put_four::<$a, $b, $c, $d>($first, $second, $third, $fourth, $out)
+    };
+    ($out:ident, $first:expr => $a:ty, $second:expr => $b:ty, $third:expr => $c:ty, $fourth:expr => $d:ty, $fifth:expr => $e:ty) => {
+        $crate::put_five::<$a, $b, $c, $d, $e>($first, $second, $third, $fourth, $fifth, $out)
+    };
+    ($out:ident, $first:expr => $a:ty, $second:expr => $b:ty, $third:expr => $c:ty, $fourth:expr => $d:ty, $fifth:expr => $e:ty, $sixth:expr => $f:ty) => {
+        $crate::put_six::<$a, $b, $c, $d, $e, $f>($first, $second, $third, $fourth, $fifth, $sixth, $out)
+    };
+    ($out:ident, $first:expr => $a:ty, $($other:expr => $form:ty),+) => {{
+        <$a as $crate::Piece>::put($first, $out)?;
+        $crate::put_fields!($out, $($other => $form),+)
     }};
+}
+
+/// The piece that these are, one behind the other.
+#[macro_export]
+macro_rules! fields_piece {
+    ($only:ty) => { $only };
+    ($first:ty, $($other:ty),+) => { $crate::Both<$first, $crate::fields_piece!($($other),+)> };
+}
+
+/// The values that such a piece reads.
+#[macro_export]
+macro_rules! fields_read {
+    ($only:ident) => { $only };
+    ($first:ident, $($other:ident),+) => { ($first, $crate::fields_read!($($other),+)) };
 }
 
 /// Reads these fields in order, and makes a value of them.
 #[macro_export]
 macro_rules! take_fields {
-    ($alloc:ident, $bytes:ident, $($made:ident)::+ { $($field:ident: $form:ty),* }) => {{
-        let rest = $bytes;
-        $(let ($field, rest) = <$form as Piece>::take($alloc, rest)?;)*
-        Ok(($($made)::+ { $($field),* }, rest))
-    }};
+    ($alloc:ident, $bytes:ident, $($made:ident)::+ { $($field:ident: $form:ty),+ }) => {
+        match <$crate::fields_piece!($($form),+) as $crate::Piece>::take($alloc, $bytes) {
+            Ok(($crate::fields_read!($($field),+), rest)) => Ok(($($made)::+ { $($field),+ }, rest)),
+            Err(unread) => Err(unread),
+        }
+    };
+    ($alloc:ident, $bytes:ident, $($made:ident)::+ ($form:ty)) => {
+        match <$form as $crate::Piece>::take($alloc, $bytes) {
+            Ok((value, rest)) => Ok(($($made)::+(value), rest)),
+            Err(unread) => Err(unread),
+        }
+    };
 }
 
 pub(crate) use put_fields;

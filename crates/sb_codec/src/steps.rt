@@ -6,13 +6,11 @@ ghost use Rattle.sb_codec.specs.Forms.{Form, Puts};
 ghost use Rattle.sb_codec.specs.Steps as steps;
 
 use crate::choices::{HowPiece, WhichPiece};
+use crate::coded::split_code;
 use crate::fields::{Blob, Opt};
-use crate::groups::{
-    put_five, put_group, put_three, put_two, take_five, take_group, take_three, take_two,
-};
 use crate::lists::{Item, Listed};
 use crate::messages::MessagePiece;
-use crate::piece::Piece;
+use crate::piece::{Piece, put_fields, take_fields};
 use crate::pieces::{PathPiece, TokenPiece};
 use crate::unread::Unread;
 use sb_machine::Step;
@@ -30,7 +28,7 @@ impl Piece for StepPiece {
         match value {
             Step::Send { to, messages } => {
                 out.push(7)?;
-                put_group!(out, to => PathPiece, messages => Listed<MessagePiece>)
+                put_fields!(out, to => PathPiece, messages => Listed<MessagePiece>)
             }
             Step::Settle {
                 from,
@@ -40,7 +38,7 @@ impl Piece for StepPiece {
                 how,
             } => {
                 out.push(11)?;
-                put_group!(out, from => PathPiece, which => WhichPiece, token => TokenPiece, session => Opt<TokenPiece>, how => HowPiece)
+                put_fields!(out, from => PathPiece, which => WhichPiece, token => TokenPiece, session => Opt<TokenPiece>, how => HowPiece)
             }
             Step::SessionSet {
                 from,
@@ -48,25 +46,17 @@ impl Piece for StepPiece {
                 state,
             } => {
                 out.push(16)?;
-                put_group!(out, from => PathPiece, session => TokenPiece, state => Opt<Blob>)
+                put_fields!(out, from => PathPiece, session => TokenPiece, state => Opt<Blob>)
             }
         }
     }
 
     #[tactic(auto, unfolding(crate::specs::Steps::step, crate::specs::Forms::chosen_at))]
     fn take(alloc: Global, bytes: &[u8]) -> Result<(Step, &[u8]), Unread> {
-        let [code, rest @ ..] = bytes else {
+        let Some((code, rest)) = split_code(bytes) else {
             return Err(Unread::NoSpelling);
         };
-        match *code {
-            7 =>
-                take_group!(alloc, rest, Step::Send { to: PathPiece, messages: Listed<MessagePiece> }),
-            11 =>
-                take_group!(alloc, rest, Step::Settle { from: PathPiece, which: WhichPiece, token: TokenPiece, session: Opt<TokenPiece>, how: HowPiece }),
-            16 =>
-                take_group!(alloc, rest, Step::SessionSet { from: PathPiece, session: TokenPiece, state: Opt<Blob> }),
-            _ => Err(Unread::NoSpelling),
-        }
+        take_behind_code(alloc, code, rest)
     }
 }
 
@@ -75,5 +65,20 @@ impl Item for StepPiece {
 
     fn follows(_last: Option<&Step>, _next: &Step) -> bool {
         true
+    }
+}
+
+// The operation whose fields these bytes begin with, where its code stood ahead of them.
+fn take_behind_code(alloc: Global, code: u8, rest: &[u8]) -> Result<(Step, &[u8]), Unread>
+    ensures { Gives (λ x. (x.0, x.1.now)) result (steps.step_choice code rest.now) }
+{
+    match code {
+        7 =>
+            take_fields!(alloc, rest, Step::Send { to: PathPiece, messages: Listed<MessagePiece> }),
+        11 =>
+            take_fields!(alloc, rest, Step::Settle { from: PathPiece, which: WhichPiece, token: TokenPiece, session: Opt<TokenPiece>, how: HowPiece }),
+        16 =>
+            take_fields!(alloc, rest, Step::SessionSet { from: PathPiece, session: TokenPiece, state: Opt<Blob> }),
+        _ => Err(Unread::NoSpelling),
     }
 }

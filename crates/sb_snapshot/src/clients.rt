@@ -8,7 +8,7 @@ ghost use Rattle.sb_snapshot.specs.Replies as replies;
 
 use crate::replies::ReplyPiece;
 use crate::texts::is_before;
-use sb_codec::{ActPiece, Item, Number64, Piece, Unread, Words, put_fields};
+use sb_codec::{ActPiece, Item, Number64, Piece, Unread, Words, put_fields, take_fields};
 use sb_machine::Kept;
 use std::alloc::{AllocError, Global};
 
@@ -38,24 +38,16 @@ impl Piece for KeptPiece {
 
     #[tactic(auto, unfolding(crate::specs::Replies::kept))]
     fn take(alloc: Global, bytes: &[u8]) -> Result<(Kept, &[u8]), Unread> {
-        let (client, rest) = Words::take(alloc, bytes)?;
-        let (number, rest) = Number64::take(alloc, rest)?;
-        let (act, rest) = ActPiece::take(alloc, rest)?;
-        match ReplyPiece::take(alloc, rest) {
-            Ok((reply, rest)) => {
-                let kept = Kept {
-                    client,
-                    number,
-                    act,
-                    reply,
-                };
-                Ok((kept, rest))
+        take_fields!(
+            alloc,
+            bytes,
+            Kept {
+                client: Words,
+                number: Number64,
+                act: ActPiece,
+                reply: ReplyPiece
             }
-            Err(e) => {
-                drop(act);
-                Err(e)
-            }
-        }
+        )
     }
 }
 

@@ -1,5 +1,5 @@
 // Variants: a code, and what stands behind it.
-ghost use Rattle.std.specs.Prelude.{◌≡◌, ◌∷◌, [], OnOk};
+ghost use Rattle.std.specs.Prelude.{◌≡◌, ◌∷◌, [], MatchOption, OnOk};
 ghost use Rattle.sb_codec.specs.Forms.{Puts};
 
 use sb_codec::Piece;
@@ -25,4 +25,14 @@ pub(crate) fn put_coded<F: Piece>(
 {
     out.push(code)?;
     F::put(value, out)
+}
+
+/// The code that these bytes begin with, and what is behind it.
+pub(crate) fn split_code(bytes: &[u8]) -> Option<(u8, &[u8])>
+    ensures { MatchOption result (bytes.now ≡ []) (λ x. bytes.now ≡ x.0 ∷ x.1.now) }
+{
+    let [code, rest @ ..] = bytes else {
+        return None;
+    };
+    Some((*code, rest))
 }

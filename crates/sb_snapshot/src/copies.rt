@@ -7,7 +7,7 @@ ghost use Rattle.sb_codec.specs.Readers.{Gives};
 ghost use Rattle.sb_snapshot.specs.Copies as copies;
 ghost use Rattle.sb_snapshot.specs.Lists.{count32, number8};
 
-use crate::coded::{put_code, put_coded};
+use crate::coded::{put_code, put_coded, split_code};
 use crate::counted::{Count32, Number8};
 use sb_codec::{Item, MessagePiece, Number64, Piece, Truth, Unread, put_fields, take_fields};
 use sb_machine::{Hold, Standing, StoredCopy};
@@ -31,10 +31,10 @@ impl Piece for HoldPiece {
 
     #[tactic(auto, unfolding(crate::specs::Copies::hold, sb_codec::specs::Forms::chosen_at))]
     fn take(alloc: Global, bytes: &[u8]) -> Result<(Hold, &[u8]), Unread> {
-        let [code, rest @ ..] = bytes else {
+        let Some((code, rest)) = split_code(bytes) else {
             return Err(Unread::NoSpelling);
         };
-        match *code {
+        match code {
             0 => {
                 let (moment, rest) = Number64::take(alloc, rest)?;
                 Ok((Hold::Until(moment), rest))
@@ -75,10 +75,10 @@ impl Piece for StandingPiece {
 
     #[tactic(auto, unfolding(crate::specs::Copies::standing, sb_codec::specs::Forms::chosen_at))]
     fn take(alloc: Global, bytes: &[u8]) -> Result<(Standing, &[u8]), Unread> {
-        let [code, rest @ ..] = bytes else {
+        let Some((code, rest)) = split_code(bytes) else {
             return Err(Unread::NoSpelling);
         };
-        match *code {
+        match code {
             0 => Ok((Standing::Ready, rest)),
             1 => Ok((Standing::Deferred, rest)),
             2 => take_fields!(

@@ -28,8 +28,18 @@ pub(crate) fn gathered(alloc: Global, salt: u64, parts: Parts) -> Result<Option<
         transactions,
         clients,
     } = parts;
-    let Some(entities) = entities_with(alloc, entities, leaves, sessions)? else {
-        return Ok(None);
+    let entities = match entities_with(alloc, entities, leaves, sessions) {
+        Ok(Some(entities)) => entities,
+        Ok(None) => {
+            drop(transactions);
+            drop(clients);
+            return Ok(None);
+        }
+        Err(e) => {
+            drop(transactions);
+            drop(clients);
+            return Err(e);
+        }
     };
     let space = Space {
         salt,
@@ -84,6 +94,7 @@ fn first_entity(
     ensures none { IfOk result (λ o. IfNone o (steps.first_entity head leaves.old.items sessions.old.items ≡ None)) }
 {
     let Some((main, dead, transfer)) = first_three(leaves) else {
+        drop(head);
         return Ok(None);
     };
     if !has_parts(&head, &main, &dead, &transfer) {
@@ -119,9 +130,12 @@ fn first_three(leaves: &mut VecDeque<PlacedLeaf>) -> Option<(PlacedLeaf, PlacedL
         return None;
     };
     let Some(dead) = leaves.pop_front() else {
+        drop(main);
         return None;
     };
     let Some(transfer) = leaves.pop_front() else {
+        drop(main);
+        drop(dead);
         return None;
     };
     Some((main, dead, transfer))

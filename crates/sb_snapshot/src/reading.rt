@@ -49,20 +49,28 @@ fn read_parts(alloc: Global, bytes: &[u8]) -> Result<(Parts, &[u8]), Unread>
 {
     let ((now, (last_lock, (last_txn, last_entity))), rest) = read_numbers(alloc, bytes)?;
     let ((entities, (leaves, removed)), rest) = read_entities(alloc, rest)?;
-    let ((sessions, (transactions, clients)), rest) = read_others(alloc, rest)?;
-    let parts = Parts {
-        now,
-        last_lock,
-        last_txn,
-        last_entity,
-        entities,
-        leaves,
-        removed,
-        sessions,
-        transactions,
-        clients,
-    };
-    Ok((parts, rest))
+    match read_others(alloc, rest) {
+        Ok(((sessions, (transactions, clients)), rest)) => {
+            let parts = Parts {
+                now,
+                last_lock,
+                last_txn,
+                last_entity,
+                entities,
+                leaves,
+                removed,
+                sessions,
+                transactions,
+                clients,
+            };
+            Ok((parts, rest))
+        }
+        Err(unread) => {
+            drop(entities);
+            drop(leaves);
+            Err(unread)
+        }
+    }
 }
 
 fn read_numbers(alloc: Global, bytes: &[u8]) -> Result<((u64, (u64, (u64, u64))), &[u8]), Unread>

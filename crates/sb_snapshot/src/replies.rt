@@ -4,7 +4,7 @@ ghost use Rattle.sb_codec.specs.Forms.{Form, Puts};
 ghost use Rattle.sb_codec.specs.Readers.{Gives, mapped};
 ghost use Rattle.sb_snapshot.specs.Replies as replies;
 
-use crate::coded::{put_code, put_coded};
+use crate::coded::{put_code, put_coded, split_code};
 use crate::shown::{ReceiptPiece, ShownPiece};
 use crate::step_replies::StepReplyPiece;
 use sb_codec::{
@@ -132,10 +132,10 @@ impl Piece for ReplyPiece {
 
     #[tactic(auto, unfolding(crate::specs::Replies::answer, sb_codec::specs::Forms::chosen_at))]
     fn take(alloc: Global, bytes: &[u8]) -> Result<(Reply, &[u8]), Unread> {
-        let [code, rest @ ..] = bytes else {
+        let Some((code, rest)) = split_code(bytes) else {
             return Err(Unread::NoSpelling);
         };
-        match *code {
+        match code {
             0 => Ok((Reply::Done, rest)),
             1 => take_sent(alloc, rest),
             2 => take_given(alloc, rest),

@@ -7,7 +7,7 @@ ghost use Rattle.sb_codec.specs.Forms.{Form, Puts};
 ghost use Rattle.sb_codec.specs.Readers.{Gives};
 ghost use Rattle.sb_snapshot.specs.Entities as entities;
 
-use crate::coded::put_coded;
+use crate::coded::{put_coded, split_code};
 use crate::texts::is_before;
 use sb_codec::{ConditionsPiece, Item, Opt, Piece, Unread, Words, put_fields, take_fields};
 use sb_machine::{Condition, Effect, Rule, RuleFilter};
@@ -99,10 +99,10 @@ impl Piece for FilterPiece {
 
     #[tactic(auto, unfolding(crate::specs::Entities::filter, sb_codec::specs::Forms::chosen_at))]
     fn take(alloc: Global, bytes: &[u8]) -> Result<(RuleFilter, &[u8]), Unread> {
-        let [code, rest @ ..] = bytes else {
+        let Some((code, rest)) = split_code(bytes) else {
             return Err(Unread::NoSpelling);
         };
-        match *code {
+        match code {
             0 => {
                 let (condition, rest) = ConditionPiece::take(alloc, rest)?;
                 Ok((RuleFilter::Sql(condition), rest))

@@ -5,7 +5,7 @@ ghost use Rattle.sb_codec.specs.Messages.{any_next};
 ghost use Rattle.sb_codec.specs.Readers.{Gives, mapped};
 ghost use Rattle.sb_snapshot.specs.Replies as replies;
 
-use crate::coded::{put_code, put_coded};
+use crate::coded::{put_code, put_coded, split_code};
 use crate::shown::ReceiptPiece;
 use sb_codec::{Item, Listed, Piece, Unread};
 use sb_machine::StepReply;
@@ -36,10 +36,10 @@ impl Piece for StepReplyPiece {
 
     #[tactic(auto, unfolding(crate::specs::Replies::step_reply, sb_codec::specs::Forms::chosen_at))]
     fn take(alloc: Global, bytes: &[u8]) -> Result<(StepReply, &[u8]), Unread> {
-        let [code, rest @ ..] = bytes else {
+        let Some((code, rest)) = split_code(bytes) else {
             return Err(Unread::NoSpelling);
         };
-        match *code {
+        match code {
             0 => Ok((StepReply::Done, rest)),
             1 => take_sent(alloc, rest),
             _ => Err(Unread::NoSpelling),

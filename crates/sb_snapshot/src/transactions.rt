@@ -6,6 +6,7 @@ ghost use Rattle.sb_codec.specs.Messages.{any_next};
 ghost use Rattle.sb_codec.specs.Readers.{Gives};
 ghost use Rattle.sb_snapshot.specs.Transactions as transactions;
 
+use crate::coded::split_code;
 use sb_codec::{
     HowPiece, Item, Listed, MessagePiece, Number32, Number64, Opt, PathPiece, Piece, TokenPiece,
     Unread, put_fields, take_fields,
@@ -59,10 +60,10 @@ impl Piece for OperationPiece {
 
     #[tactic(auto, unfolding(crate::specs::Transactions::operation, sb_codec::specs::Forms::chosen_at))]
     fn take(alloc: Global, bytes: &[u8]) -> Result<(Operation, &[u8]), Unread> {
-        let [code, rest @ ..] = bytes else {
+        let Some((code, rest)) = split_code(bytes) else {
             return Err(Unread::NoSpelling);
         };
-        match *code {
+        match code {
             0 =>
                 take_fields!(alloc, rest, Operation::Send { to: PathPiece, messages: Listed<MessagePiece> }),
             1 => take_fields!(alloc, rest, Operation::Settle {
