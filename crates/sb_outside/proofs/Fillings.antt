@@ -1,6 +1,6 @@
 -- An image with one byte in place of all that isn't synced, call by call.
 use Rattle.std.proofs.Common.{◌≡◌, ◌⊎◌, inl, inr, ◌∷◌, ℕ, ◌+◌, ◌-◌, ◌<◌, ◌≤◌, List, length, get_or, take, drop, max, replicate, true, false, refl, sym, ◌∙◌, ap, subst, arith, length-drop}
-use Rattle.std.proofs.lemmas.List.{length-replicate, get_or-replicate, length-take-le, drop_more, drop-drop}
+use Rattle.std.proofs.lemmas.List.{length-replicate, get_or-replicate, length-take-le, drop_more, drop_all, drop-drop, take_rest}
 use Rattle.std.proofs.lemmas.Grind.{common_steps}
 use Rattle.std.proofs.lemmas.Bool.Decides.{nat_tests}
 use Rattle.std.proofs.lemmas.Bool.{cases_lt}
@@ -125,6 +125,35 @@ pub record IsPast (fill : ℕ) (calls : List DiskCall) (i at : ℕ) (written see
   pub counted : at + counts_of (drop i calls) ≡ length written
   pub leads : held_after held (drop i calls) (drop at written) ≡ all
 
+-- the calls that are left begin with the next
+next_split : (calls : List DiskCall) (i : ℕ) (c : DiskCall) → i < length calls → c ≡ get_or calls i c → drop i calls ≡ c ∷ drop (i + 1) calls
+next_split calls i c less is = drop_more calls i c less ∙ ap (λ (d : DiskCall). d ∷ drop (i + 1) calls) (sym is)
+
+next_counts : (calls : List DiskCall) (i : ℕ) (c : DiskCall) → i < length calls → c ≡ get_or calls i c → counts_of (drop i calls) ≡ count_of c + counts_of (drop (i + 1) calls)
+next_counts calls i c less is = ap counts_of (next_split calls i c less is)
+
+next_placed : (fill : ℕ) (calls : List DiskCall) (i at : ℕ) (c : DiskCall) (written seen image : List ℕ) (all : Held) → i < length calls → c ≡ get_or calls i c → (p : IsPast fill calls i at written seen image all) → ArePlaced p.held (c ∷ drop (i + 1) calls) (drop at written)
+next_placed fill calls i at c written seen image all less is p = subst (λ (cs : List DiskCall). ArePlaced p.held cs (drop at written)) (next_split calls i c less is) p.placed
+
+-- the next call begins within what is read, and within the image
+pub next_in_seen : (fill : ℕ) (calls : List DiskCall) (i at : ℕ) (c : DiskCall) (written seen image : List ℕ) (all : Held) → i < length calls → c ≡ get_or calls i c → IsPast fill calls i at written seen image all → IsPlaced (length seen) c
+next_in_seen fill calls i at c written seen image all less is p = subst (λ (s : List ℕ). IsPlaced (length s) c) (sym p.is_seen) (next_placed fill calls i at c written seen image all less is p).0
+
+pub next_in_image : (fill : ℕ) (calls : List DiskCall) (i at : ℕ) (c : DiskCall) (written seen image : List ℕ) (all : Held) → i < length calls → c ≡ get_or calls i c → IsPast fill calls i at written seen image all → IsPlaced (length image) c
+next_in_image fill calls i at c written seen image all less is p = placed-longer (length p.held.seen) (length image) c (omega (arith, p.is_image.no_longer, p.is_filled.longest)) (next_placed fill calls i at c written seen image all less is p).0
+
+-- what the next call wrote is there
+pub next_written : (fill : ℕ) (calls : List DiskCall) (i at : ℕ) (c : DiskCall) (written seen image : List ℕ) (all : Held) → i < length calls → c ≡ get_or calls i c → IsPast fill calls i at written seen image all → at + count_of c ≤ length written
+next_written fill calls i at c written seen image all less is p = omega (arith, p.counted, next_counts calls i c less is)
+
+pub next_counted : (fill : ℕ) (calls : List DiskCall) (i at : ℕ) (c : DiskCall) (written bytes seen image : List ℕ) (all : Held) → i < length calls → c ≡ get_or calls i c → bytes ≡ written → IsPast fill calls i at written seen image all → count_of c ≤ length (take (length bytes - at) (drop at bytes))
+next_counted fill calls i at c written bytes seen image all less is same p =
+    subst (λ (l : List ℕ). count_of c ≤ length l) (sym (take_rest bytes at)) (omega (arith, length-drop at bytes, ap length same, next_written fill calls i at c written seen image all less is p))
+
+-- behind the last call
+pub all_past : (fill : ℕ) (calls : List DiskCall) (i at : ℕ) (written seen image : List ℕ) (all : Held) → length calls ≤ i → IsPast fill calls i at written seen image all → IsFilled fill all image
+all_past fill calls i at written seen image all over p = subst (λ (h : Held). IsFilled fill h image) (ap (λ (cs : List DiskCall). held_after p.held cs (drop at written)) (sym (drop_all i calls over)) ∙ p.leads) p.is_filled
+
 pub past_next : (fill : ℕ) (calls : List DiskCall) (i at count : ℕ) (c : DiskCall) (written seen seen_next image image_next : List ℕ) (all : Held)
     → i < length calls → c ≡ get_or calls i c → count ≡ count_of c
     → image_next ≡ filled_past fill seen c image
@@ -141,13 +170,13 @@ past_next fill calls i at count c written seen seen_next image image_next all le
 }
   where
     split : drop i calls ≡ c ∷ drop (i + 1) calls
-    split = drop_more calls i c less ∙ ap (λ (d : DiskCall). d ∷ drop (i + 1) calls) (sym is)
+    split = next_split calls i c less is
 
     parts : counts_of (drop i calls) ≡ count_of c + counts_of (drop (i + 1) calls)
-    parts = ap counts_of split
+    parts = next_counts calls i c less is
 
     placed : ArePlaced p.held (c ∷ drop (i + 1) calls) (drop at written)
-    placed = subst (λ (cs : List DiskCall). ArePlaced p.held cs (drop at written)) split p.placed
+    placed = next_placed fill calls i at c written seen image all less is p
 
     long : length p.held.seen ≤ length image
     long = omega (arith, p.is_image.no_longer, p.is_filled.longest)

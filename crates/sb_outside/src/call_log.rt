@@ -9,7 +9,7 @@ use std::rt::Clock;
 use std::time::{Duration, Instant};
 
 // The names of the months in a date of HTTP.
-const MONTHS: [&str; 12] = [
+static MONTHS: [&str; 12] = [
     "Jan", "Feb", "Mar", "Apr", "May", "Jun", "Jul", "Aug", "Sep", "Oct", "Nov", "Dec",
 ];
 

@@ -37,8 +37,15 @@ pub fn disks_in<R: Files, E: Eprint + Copy + Drop>(
     stderr: E,
 ) -> Option<(FileDisk<R::File, E>, FileDisk<R::File, E>)> {
     let disk_a = journal_in(files, alloc, folder, "a", stderr)?;
-    let disk_b = journal_in(files, alloc, folder, "b", stderr)?;
-    made(&stderr, folder, SEE_FILE, sync_folder(files, folder))?;
+    let Some(disk_b) = journal_in(files, alloc, folder, "b", stderr) else {
+        drop(disk_a);
+        return None;
+    };
+    let Some(()) = made(&stderr, folder, SEE_FILE, sync_folder(files, folder)) else {
+        drop(disk_b);
+        drop(disk_a);
+        return None;
+    };
     Some((disk_a, disk_b))
 }
 
@@ -50,14 +57,21 @@ fn journal_in<R: Files, E: Eprint + Copy + Drop>(
     name: &str,
     stderr: E,
 ) -> Option<FileDisk<R::File, E>> {
+    let (path, shown) = journal_paths(alloc, folder, name)?;
+    let opened = open_disk(files, alloc, path, stderr);
+    let disk = made(&stderr, shown.as_str(), SEE_FILE, opened);
+    drop(shown);
+    disk
+}
+
+// The path of the journal with this name in a folder, twice: for its disk, and to tell of it.
+fn journal_paths(alloc: Global, folder: &str, name: &str) -> Option<(String, String)> {
     let path = format!(in alloc; "{folder}/{name}.journal").ok()?;
-    let shown = String::from_str(alloc, path.as_str()).ok()?;
-    made(
-        &stderr,
-        shown.as_str(),
-        SEE_FILE,
-        open_disk(files, alloc, path, stderr),
-    )
+    let Ok(shown) = String::from_str(alloc, path.as_str()) else {
+        drop(path);
+        return None;
+    };
+    Some((path, shown))
 }
 
 /// Makes sure that the files of a folder are found there after a crash.

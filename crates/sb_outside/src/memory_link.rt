@@ -1,5 +1,5 @@
 // A link in memory.
-ghost use Rattle.std.specs.Prelude.{◌≡◌, [], Some, IfOk};
+ghost use Rattle.std.specs.Prelude.{◌≡◌, [], ◌∷◌, ◌++◌, Some, IfOk, OnOk, OnErr};
 
 use crate::faults::CallFaults;
 use crate::{Bytes, Link, LinkFault};
@@ -29,6 +29,28 @@ fn keep_exchange(alloc: Global, request: &[u8], reply: &[u8]) -> Result<Exchange
     let request = Bytes::of(alloc, request)?;
     let reply = Bytes::of(alloc, reply)?;
     Ok(Exchanged { request, reply })
+}
+
+// Gives this reply, and keeps the exchange.
+fn give(
+    alloc: Global,
+    request: &[u8],
+    given: &[u8],
+    reply: &mut Vec<u8>,
+    made: &mut Vec<Exchanged>,
+) -> Result<(), AllocError>
+    ensures reply { OnOk result (reply.new.items ≡ given.now) }
+    ensures made { OnOk result (made.new.items ≡ made.old.items ++ record { request = request.now; reply = given.now } ∷ []) }
+    ensures err { OnErr result (made.new.items ≡ made.old.items) }
+{
+    let kept = keep_exchange(alloc, request, given)?;
+    reply.clear();
+    let Ok(()) = reply.extend_from_slice(given) else {
+        drop(kept);
+        return Err(AllocError);
+    };
+    made.push(kept)?;
+    Ok(())
 }
 
 impl MemLink {
@@ -70,14 +92,7 @@ impl Link for MemLink {
             self.faults.rise();
             return Err(LinkFault::Fault);
         };
-        let Ok(kept) = keep_exchange(self.alloc, request, given.as_slice()) else {
-            return Err(LinkFault::OutOfMemory);
-        };
-        reply.clear();
-        let Ok(()) = reply.extend_from_slice(given.as_slice()) else {
-            return Err(LinkFault::OutOfMemory);
-        };
-        let Ok(()) = self.made.push(kept) else {
+        let Ok(()) = give(self.alloc, request, given.as_slice(), reply, &mut self.made) else {
             return Err(LinkFault::OutOfMemory);
         };
         self.at += 1;

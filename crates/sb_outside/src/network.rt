@@ -57,6 +57,16 @@ impl<R: Net + Eprint + Drop> Dialing<R> {
     pub fn is_kept_out(&self) -> bool {
         self.code == *b"401" || self.code == *b"403"
     }
+
+    // Counts a fault, and tells it.
+    fn fault(&mut self, error: io::Error)
+        ensures fault { RoseByOne self.old.faults self.new.faults }
+        ensures later { self.old.faults ≤ self.new.faults }
+    {
+        let (port, advice) = (self.port, AFTER_LINK);
+        let _ = eprintln!(self.net; "bus: 127.0.0.1:{port}: {error}; {advice}");
+        self.faults = self.faults.saturating_add(1);
+    }
 }
 
 impl<R: Net + Eprint + Drop> Link for Dialing<R> {
@@ -72,9 +82,7 @@ impl<R: Net + Eprint + Drop> Link for Dialing<R> {
             }
             Err(Failed::NoMemory) => Err(LinkFault::OutOfMemory),
             Err(Failed::Fault(error)) => {
-                let (port, advice) = (self.port, AFTER_LINK);
-                let _ = eprintln!(self.net; "bus: 127.0.0.1:{port}: {error}; {advice}");
-                self.faults = self.faults.saturating_add(1);
+                self.fault(error);
                 Err(LinkFault::Fault)
             }
         }

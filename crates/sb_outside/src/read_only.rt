@@ -121,19 +121,14 @@ pub fn read_disk<R: Files, E: Eprint>(
     stderr: &E,
 ) -> io::Result<Option<ReadOnly>> {
     for _ in 0..MOST_TRIES {
-        let mut file = match File::open(files, path) {
-            Ok(file) => file,
-            Err(error) if error.kind() == ErrorKind::NotFound => return Ok(None),
-            Err(error) => return Err(error),
+        let Some(mut file) = opened(files, path)? else {
+            return Ok(None);
         };
-        match steady_bytes(alloc, &mut file) {
-            Ok(Some(bytes)) => return Ok(Some(ReadOnly::new(bytes))),
-            Ok(None) => {}
-            Err(error) if error.kind() == ErrorKind::OutOfMemory => return Err(error),
-            Err(error) => {
-                let _ = eprintln!(stderr; "bus: {path}: {error}; mend the disk, and look again");
-                return Ok(Some(ReadOnly::failing(alloc)));
-            }
+        let bytes = steady_bytes(alloc, &mut file);
+        let disk = disk_of(alloc, path, stderr, bytes);
+        drop(file);
+        if let Some(disk) = disk? {
+            return Ok(Some(disk));
         }
     }
     Err(io::Error::new(
@@ -142,16 +137,57 @@ pub fn read_disk<R: Files, E: Eprint>(
     ))
 }
 
+// A file that is read; none where it isn't there.
+fn opened<R: Files>(files: &R, path: &str) -> io::Result<Option<R::File>> {
+    match File::open(files, path) {
+        Ok(file) => Ok(Some(file)),
+        Err(error) if error.kind() == ErrorKind::NotFound => Ok(None),
+        Err(error) => Err(error),
+    }
+}
+
+// The disk of what was read of a file, if that stayed the same. Of a read that failed it tells, and each call
+// of the disk fails.
+fn disk_of<E: Eprint>(
+    alloc: Global,
+    path: &str,
+    stderr: &E,
+    bytes: io::Result<Option<Vec<u8>>>,
+) -> io::Result<Option<ReadOnly>> {
+    match bytes {
+        Ok(Some(bytes)) => Ok(Some(ReadOnly::new(bytes))),
+        Ok(None) => Ok(None),
+        Err(error) if error.kind() == ErrorKind::OutOfMemory => Err(error),
+        Err(error) => {
+            let _ = eprintln!(stderr; "bus: {path}: {error}; mend the disk, and look again");
+            Ok(Some(ReadOnly::failing(alloc)))
+        }
+    }
+}
+
 // The bytes of a file, unless it is another one once they are read.
 fn steady_bytes<F: Read + Seek>(alloc: Global, file: &mut F) -> io::Result<Option<Vec<u8>>> {
     let bytes = bytes_of(alloc, file, PIECE_BYTES, u64::MAX)?;
+    match may_hold(alloc, file, &bytes) {
+        Ok(true) => Ok(Some(bytes)),
+        Ok(false) => {
+            drop(bytes);
+            Ok(None)
+        }
+        Err(error) => {
+            drop(bytes);
+            Err(error)
+        }
+    }
+}
+
+// Whether a file may still be the one of which these bytes were read.
+fn may_hold<F: Read + Seek>(alloc: Global, file: &mut F, bytes: &[u8]) -> io::Result<bool> {
     let length = file.seek(SeekFrom::End(0))?;
     let front = bytes_of(alloc, file, FRONT_BYTES, FRONT_BYTES as u64)?;
-    if length < bytes.len() as u64 || !is_front(&front, &bytes) {
-        return Ok(None);
-    }
+    let is_same = length >= bytes.len() as u64 && is_front(&front, bytes);
     drop(front);
-    Ok(Some(bytes))
+    Ok(is_same)
 }
 
 // Whether a file that begins so may be the one with these bytes.
@@ -169,15 +205,32 @@ fn bytes_of<F: Read + Seek>(
     reads: u64,
 ) -> io::Result<Vec<u8>> {
     file.seek(SeekFrom::Start(0))?;
-    let mut bytes = Vec::new(alloc);
     let mut piece = vec![in alloc; 0; piece_bytes]?;
+    let mut bytes = Vec::new(alloc);
+    let added = add_pieces(file, &mut piece, reads, &mut bytes);
+    drop(piece);
+    match added {
+        Ok(()) => Ok(bytes),
+        Err(error) => {
+            drop(bytes);
+            Err(error)
+        }
+    }
+}
+
+// Adds what a file gives piece by piece, up to the first read that gives none or the last of so many.
+fn add_pieces<F: Read>(
+    file: &mut F,
+    piece: &mut [u8],
+    reads: u64,
+    bytes: &mut Vec<u8>,
+) -> io::Result<()> {
     for _ in 0..reads {
-        let count = read_some(file, &mut piece)?;
+        let count = read_some(file, piece)?;
         if count == 0 {
             break;
         }
         bytes.extend_from_slice(&piece[..count])?;
     }
-    drop(piece);
-    Ok(bytes)
+    Ok(())
 }
