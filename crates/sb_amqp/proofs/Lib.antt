@@ -4,6 +4,7 @@ pub mod Fronts
 pub mod Begins
 pub mod Passed
 pub mod Walked
+pub mod Added
 pub mod Left
 pub mod Only
 pub mod WorkedRows

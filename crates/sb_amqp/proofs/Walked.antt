@@ -1,21 +1,39 @@
 -- What loops over values and fields keep.
-use Rattle.std.proofs.Common.{◌≡◌, ℕ, zero, suc, ◌+◌, ◌-◌, ◌<◌, ◌≤◌, Bool, false, List, [], ◌∷◌, ◌++◌, length, get_or, Option, Some, None, refl, sym, ap, ◌∙◌, append_assoc, arith}
-use Rattle.std.specs.Prelude.{◌==◌}
+use Rattle.std.proofs.Common.{◌≡◌, ℕ, zero, suc, ◌+◌, ◌-◌, ◌<◌, ◌≤◌, Bool, false, List, [], ◌∷◌, ◌++◌, length, get_or, take, drop, Option, Some, None, refl, sym, ap, ◌∙◌, append_assoc, arith}
+use Rattle.std.specs.Prelude.{◌==◌, option_and_then}
+use Rattle.std.proofs.lemmas.List.{take_all}
 use Rattle.sb_model.specs.declared.message.SystemText.{SystemText}
 use Rattle.sb_amqp.specs.Fields.{field_name}
-use Rattle.sb_amqp.specs.Reading.{after_plain, after_value, value_at, are_values, is_some_and}
-use Rattle.sb_amqp.specs.Values.{extent_of, joined}
+use Rattle.sb_amqp.specs.Reading.{after_value, value_at, are_values, is_some_and}
+use Rattle.sb_amqp.specs.Values.{joined}
 use Rattle.sb_amqp.specs.Written.{field, fields}
+
+-- ---- what is behind a value
 
 abbrev no_rest : Option (List ℕ)
 no_rest = None
 
-pub no_depth : (nesting : ℕ) (bytes : List ℕ) → nesting ≡ 0 → get_or bytes 0 1 ≡ 0 → no_rest ≡ after_value nesting bytes
-unfolding after_value after_plain extent_of
-no_depth zero [] z first = refl
-no_depth zero (zero ∷ rest) z first = refl
-no_depth zero (suc b ∷ rest) z first = absurd (omega (arith, first))
-no_depth (suc n) bytes z first = absurd (omega (arith, z))
+abbrev a_rest : List ℕ → Option (List ℕ)
+a_rest rest = Some rest
+
+behind_zero : (n : ℕ) (bytes : List ℕ) → 1 ≤ length bytes → get_or bytes 0 0 ≡ 0 → (n ≡ 0 → ⊥)
+    → after_value n bytes ≡ option_and_then (after_value (n - 1)) (after_value (n - 1) (take (length bytes - 1) (drop 1 bytes)))
+unfolding after_value
+behind_zero n [] some first nested = absurd (omega (arith, some))
+behind_zero n (suc b ∷ rest) some first nested = absurd (omega (arith, first))
+behind_zero zero (zero ∷ rest) some first nested = absurd (nested refl)
+behind_zero (suc n) (zero ∷ rest) some first nested =
+    let less : suc n - 1 ≡ n = omega arith in
+    let all : take (suc (length rest) - 1) rest ≡ rest = take_all (suc (length rest) - 1) rest (omega arith) in
+    rw (less, all) refl
+
+pub goes_on : (n : ℕ) (bytes value : List ℕ) (o : Option (List ℕ)) → 1 ≤ length bytes → get_or bytes 0 0 ≡ 0 → (n ≡ 0 → ⊥)
+    → a_rest value ≡ after_value (n - 1) (take (length bytes - 1) (drop 1 bytes)) → o ≡ after_value (n - 1) value → o ≡ after_value n bytes
+goes_on n bytes value o some first nested one two = two ∙ ap (option_and_then (after_value (n - 1))) one ∙ sym (behind_zero n bytes some first nested)
+
+pub goes_no_further : (n : ℕ) (bytes : List ℕ) → 1 ≤ length bytes → get_or bytes 0 0 ≡ 0 → (n ≡ 0 → ⊥)
+    → no_rest ≡ after_value (n - 1) (take (length bytes - 1) (drop 1 bytes)) → no_rest ≡ after_value n bytes
+goes_no_further n bytes some first nested one = ap (option_and_then (after_value (n - 1))) one ∙ sym (behind_zero n bytes some first nested)
 
 -- ---- values
 

@@ -1,0 +1,12 @@
+use Rattle.sb_machine.specs.Ends.{lock_in}
+use Rattle.sb_machine.specs.declared.state.StoredCopy.{StoredCopy}
+use Rattle.sb_judge.proofs.Collected.{one_more, no_more}
+use Rattle.sb_judge.proofs.locks.put_copies.Goals as goal
+
+pub loop-copy-preserved : goal.loop-copy-preserved
+loop-copy-preserved c =
+    one_more (λ (x : StoredCopy). lock_in x.standing) c.args.copies.now c.loop-copy.copy-index c.copy-item.result _ c.loop-copy.out.items c.put_copy.new.out.items
+    c.loop-copy-test.true c.copy-item.is c.loop-copy.invariant c.in_ok-put_copy.ensures
+
+pub returns : goal.returns
+returns c = no_more (λ (x : StoredCopy). lock_in x.standing) c.args.copies.now c.loop-copy.copy-index _ c.loop-copy.out.items c.loop-copy-test.false c.loop-copy.invariant
