@@ -19,28 +19,56 @@ fn main(rt: HostRuntime) -> Result<()> {
     for word in env::args(&rt)?.skip(1) {
         words.push(word)?;
     }
-    if words.is_empty() {
-        tell(&rt, "read", 1024, 3)?;
-        return tell(&rt, "write", 1024, 3);
+    tell_asked(&rt, words.as_slice())
+}
+
+// Does what the words ask for; without words each task a few times.
+fn tell_asked<R: Print + AllocGlobal>(rt: &R, words: &[String]) -> Result<()> {
+    match words {
+        [] => tell_few(rt),
+        [task, size, count] => tell_numbered(rt, task.as_str(), size.as_str(), count.as_str()),
+        _ => bail!("the words are read or write, a size and a count"),
     }
-    let [task, size, count] = words.as_slice() else {
-        bail!("the words are read or write, a size and a count");
-    };
-    let size = size.parse::<u32>().context("the size")?;
-    let count = count.parse::<u32>().context("the count")?;
-    tell(&rt, task.as_str(), size, count)
+}
+
+fn tell_few<R: Print + AllocGlobal>(rt: &R) -> Result<()> {
+    tell(rt, "read", 1024, 3)?;
+    tell(rt, "write", 1024, 3)
+}
+
+fn tell_numbered<R: Print + AllocGlobal>(
+    rt: &R,
+    task: &str,
+    size: &str,
+    count: &str,
+) -> Result<()> {
+    let size = number_in(size, "the size")?;
+    let count = number_in(count, "the count")?;
+    tell(rt, task, size, count)
+}
+
+// The number that a word tells; `name` says of what.
+fn number_in(word: &str, name: &'static str) -> Result<u32> {
+    word.parse::<u32>().context(name)
 }
 
 // Does it so often, and prints how many bytes that were.
 fn tell<R: Print + AllocGlobal>(rt: &R, task: &str, size: u32, count: u32) -> Result<()> {
     let message = sample(rt.alloc(), size)?;
-    let bytes = match task {
-        "read" => read_often(rt.alloc(), &message, count)?,
-        "write" => write_often(rt.alloc(), &message, count)?,
-        _ => bail!("the first word is read or write"),
-    };
+    let done = do_often(rt.alloc(), task, &message, count);
+    drop(message);
+    let bytes = done?;
     println!(rt; "{task}: {bytes} bytes in {count} messages")?;
     Ok(())
+}
+
+// The task, so often, and how many bytes that were.
+fn do_often(alloc: Global, task: &str, message: &Message, count: u32) -> Result<u64> {
+    match task {
+        "read" => read_often(alloc, message, count),
+        "write" => write_often(alloc, message, count),
+        _ => bail!("the first word is read or write"),
+    }
 }
 
 fn read_often(alloc: Global, message: &Message, count: u32) -> Result<u64> {

@@ -2,7 +2,7 @@
 use sb_model::{Body, Message, Property, PropertyValue, Rows, SystemName, SystemText, Text};
 use std::alloc::{AllocError, Global};
 
-const TEXTS: [(SystemName, &str); 5] = [
+static TEXTS: [(SystemName, &str); 5] = [
     (SystemName::MessageId, "order-4711-2"),
     (SystemName::Label, "order placed"),
     (SystemName::CorrelationId, "cart-4711"),
@@ -10,7 +10,7 @@ const TEXTS: [(SystemName, &str); 5] = [
     (SystemName::ContentType, "application/json"),
 ];
 
-const PROPERTIES: [(&str, &str); 8] = [
+static PROPERTIES: [(&str, &str); 8] = [
     ("channel", "web"),
     ("city", "Zwolle"),
     ("color", "red"),
@@ -23,33 +23,42 @@ const PROPERTIES: [(&str, &str); 8] = [
 
 /// A message with a body of so many bytes, ten user properties, five system texts and a time to live.
 pub fn sample(alloc: Global, size: u32) -> Result<Message, AllocError> {
-    Ok(Message {
+    let mut message = Message {
         body: Body::from_vec(vec![in alloc; 0x78; size as usize]?)?,
-        sys: texts(alloc)?,
-        props: properties(alloc)?,
+        sys: Rows::new(alloc),
+        props: Rows::new(alloc),
         ttl: Some(3600),
         schedule: None,
-    })
+    };
+    match fill(alloc, &mut message) {
+        Ok(()) => Ok(message),
+        Err(error) => {
+            drop(message);
+            Err(error)
+        }
+    }
 }
 
-fn texts(alloc: Global) -> Result<Rows<SystemText>, AllocError> {
-    let mut sys = Rows::new(alloc);
-    for (name, text) in TEXTS {
+fn fill(alloc: Global, message: &mut Message) -> Result<(), AllocError> {
+    put_texts(alloc, &mut message.sys)?;
+    put_properties(alloc, &mut message.props)
+}
+
+fn put_texts(alloc: Global, sys: &mut Rows<SystemText>) -> Result<(), AllocError> {
+    for (name, text) in &TEXTS {
         let text = Text::of(alloc, text)?;
-        sys.push(SystemText { name, text })?;
+        sys.push(SystemText { name: *name, text })?;
     }
-    Ok(sys)
+    Ok(())
 }
 
-fn properties(alloc: Global) -> Result<Rows<Property>, AllocError> {
-    let mut props = Rows::new(alloc);
-    for (name, text) in PROPERTIES {
+fn put_properties(alloc: Global, props: &mut Rows<Property>) -> Result<(), AllocError> {
+    for (name, text) in &PROPERTIES {
         let value = PropertyValue::Text(Text::of(alloc, text)?);
-        put(alloc, name, value, &mut props)?;
+        put(alloc, name, value, props)?;
     }
-    put(alloc, "price", PropertyValue::Int(129), &mut props)?;
-    put(alloc, "rush", PropertyValue::Bool(true), &mut props)?;
-    Ok(props)
+    put(alloc, "price", PropertyValue::Int(129), props)?;
+    put(alloc, "rush", PropertyValue::Bool(true), props)
 }
 
 fn put(
