@@ -2,11 +2,12 @@
 use Rattle.std.proofs.Common.{◌≡◌, ◌≢◌, ◌⊎◌, inl, inr, ℕ, zero, suc, List, Bool, true, false, Option, Some, None, Err, refl, sym, ◌∙◌, subst, arith}
 use Rattle.std.specs.Prelude.{is_some}
 use Rattle.sb_outside.specs.declared.disk.Disk.{Ghosts as Disk}
-use Rattle.sb_journal.specs.Disks.{Disks, disks_of, AreHonest, SameHonesty}
+use Rattle.sb_journal.specs.Disks.{Disks, AreHonest}
 use Rattle.sb_journal.specs.declared.found.OpenWhy.{OpenWhy}
 use Rattle.sb_node.specs.declared.node.Node.{Node}
-use Rattle.sb_node.specs.Nodes.{node_disk_a, node_disk_b, node_disks, IsKept}
+use Rattle.sb_node.specs.Nodes.{node_disks, IsKept}
 use Rattle.sb_desk.specs.Desks.{Open}
+use Rattle.sb_desk.specs.declared.report.Report.{Report}
 use Rattle.sb_server.specs.Serves.{Worker}
 use Rattle.sb_server.specs.declared.ending.ServeEnding.{ServeEnding}
 use Rattle.sb_words.specs.Words.{command_in, form_in}
@@ -18,9 +19,10 @@ use Rattle.sb_app.specs.Checkpoints.{EndsCheckpoint, HasCheckpoint}
 use Rattle.sb_app.specs.Clients.{Exchanges}
 use Rattle.sb_app.specs.Held.{IsJumpStatus}
 use Rattle.sb_app.specs.Openings.{IsFailed}
-use Rattle.sb_app.specs.Outside.{Input, Output, Outside}
+use Rattle.sb_app.specs.Outside.{Output, Outside}
 use Rattle.sb_app.specs.declared.jump.Jump.{Jump}
 use Rattle.sb_app.specs.Servings.{serve_status, IsServeCall, IsServer}
+use Rattle.sb_app.specs.Stages.{ServerEnded}
 use Rattle.sb_app.specs.declared.task.Task.{Task}
 use Rattle.sb_app.proofs.Calls.{no_form, IsBadWords}
 use Rattle.sb_app.proofs.Checkpoints.{ended_usage, failed_low}
@@ -59,37 +61,28 @@ pub served_runs : (o : Option ℕ) (ending : ServeEnding) (told : ℕ) → serve
 served_runs None ending told is = refl
 served_runs (Some n) ending told is = absurd cc
 
--- behind a server over this node, which came to that one
-pub ended_server : {R : Type 0} {D : Type 0} {B : Disk D} (checkpoint : Bool) (clock : ℕ → Type 0) (days : ℕ) (goes_on : Bool) (Works : Open → Worker R → Type 0) (count : R → ℕ) (salt : ℕ) (was : Outside) (input : Input) (output : Output) (doors doors_now : List R) (last after : Node D B) (a b : D) (served status : ℕ)
-    → IsServeCall clock days goes_on Works count salt was (record { input = input; output = output; disks = node_disks last }) doors doors_now served
-    → (AreHonest (node_disks last) → served ≡ 0 → IsKept last)
-    → (checkpoint ≡ false → (status ≡ served) × (node_disks after ≡ node_disks last))
-    → (served ≢ 0 → (status ≡ served) × (node_disks after ≡ node_disks last))
-    → (checkpoint ≡ true → served ≡ 0 → EndsCheckpoint (node_disks last) (node_disks after) served status)
-    → (checkpoint ≡ true → served ≡ 0 → IsKept last → (s : ℕ) → HasCheckpoint s (node_disks last) (node_disks after) served status)
-    → SameHonesty (node_disks last) (node_disks after)
-    → a ≡ node_disk_a after → b ≡ node_disk_b after
-    → IsServer checkpoint clock days goes_on Works count salt was (record { input = input; output = output; disks = disks_of B a b }) doors doors_now status
-ended_server {R} {D} {B} checkpoint clock days goes_on Works count salt was input output doors doors_now last after a b served status call kept unasked early ends has honesty is_a is_b =
-    subst (λ (d : Disks). IsServer checkpoint clock days goes_on Works count salt was (record { input = input; output = output; disks = d }) doors doors_now status) there (by_words checkpoint unasked ends has)
+-- behind a server over this node
+pub ended_server : {R D : Type 0} {B : Disk D} (checkpoint : Bool) (clock : ℕ → Type 0) (days : ℕ) (goes_on : Bool) (Works : Open → Worker R → Type 0) (count : R → ℕ) (salt : ℕ) (was now : Outside) (doors doors_now : List R) (ending : ServeEnding) (report : Report) (last : Node D B) (disks : Disks) (status : ℕ)
+    → (ended : ServerEnded checkpoint ending report last disks was.output now.output status)
+    → IsServeCall clock days goes_on Works count salt was (record now { disks = node_disks last }) doors doors_now ended.served
+    → (AreHonest (node_disks last) → ended.served ≡ 0 → IsKept last)
+    → IsServer checkpoint clock days goes_on Works count salt was (record now { disks = disks }) doors doors_now status
+ended_server {R} {D} {B} checkpoint clock days goes_on Works count salt was now doors doors_now ending report last disks status ended call kept = by_words checkpoint ended.unasked ended.ends ended.has
   where
-    there : node_disks after ≡ disks_of B a b
-    there i = disks_of B (sym is_a i) (sym is_b i)
-
-    by_words : (c : Bool) → (c ≡ false → (status ≡ served) × (node_disks after ≡ node_disks last))
-        → (c ≡ true → served ≡ 0 → EndsCheckpoint (node_disks last) (node_disks after) served status)
-        → (c ≡ true → served ≡ 0 → IsKept last → (s : ℕ) → HasCheckpoint s (node_disks last) (node_disks after) served status)
-        → IsServer c clock days goes_on Works count salt was (record { input = input; output = output; disks = node_disks after }) doors doors_now status
+    by_words : (c : Bool) → (c ≡ false → (status ≡ ended.served) × (disks ≡ node_disks last))
+        → (c ≡ true → ended.served ≡ 0 → EndsCheckpoint (node_disks last) disks ended.served status)
+        → (c ≡ true → ended.served ≡ 0 → IsKept last → (s : ℕ) → HasCheckpoint s (node_disks last) disks ended.served status)
+        → IsServer c clock days goes_on Works count salt was (record now { disks = disks }) doors doors_now status
     by_words false unasked ends has =
         let same = unasked refl in
-        subst (λ (n : ℕ). IsServeCall clock days goes_on Works count salt was (record { input = input; output = output; disks = node_disks after }) doors doors_now n) (sym same.0)
-        (subst (λ (d : Disks). IsServeCall clock days goes_on Works count salt was (record { input = input; output = output; disks = d }) doors doors_now served) (sym same.1) call)
+        subst (λ (n : ℕ). IsServeCall clock days goes_on Works count salt was (record now { disks = disks }) doors doors_now n) (sym same.0)
+        (subst (λ (d : Disks). IsServeCall clock days goes_on Works count salt was (record now { disks = d }) doors doors_now ended.served) (sym same.1) call)
     by_words true unasked ends has = record {
       served = node_disks last;
-      served_status = served;
+      served_status = ended.served;
       call = call;
-      whole = λ is. record { ends = ends refl is; has = λ honest. has refl is (kept honest is) salt; honesty = honesty };
-      early = early;
+      whole = λ is. record { ends = ends refl is; has = λ honest. has refl is (kept honest is) salt; honesty = ended.honesty };
+      early = ended.early;
     }
 
 -- ---- words that couldn't be read

@@ -1,5 +1,5 @@
 -- A server's call, on each of its ways, up to the end of its workers.
-use Rattle.std.proofs.Common.{◌≡◌, ◌≢◌, ◌≤◌, ◌<◌, ◌⊎◌, inl, inr, ℕ, List, [], ◌∷◌, length, map, Bool, true, false, Option, Some, None, refl, sym, ◌∙◌, ap, ap₂, subst, ⊎_elim, arith}
+use Rattle.std.proofs.Common.{◌≡◌, ◌≢◌, ◌≤◌, ◌<◌, ◌⊎◌, inl, inr, ℕ, List, [], ◌∷◌, map, Bool, true, false, Option, Some, None, refl, sym, ◌∙◌, ap, ap₂, subst, ⊎_elim, arith}
 use Rattle.std.specs.Prelude.{if◌then◌else◌, is_some, ◌||◌}
 use Rattle.std.specs.List.{list_any}
 use Rattle.sb_outside.specs.declared.disk.Disk.{Ghosts}
@@ -17,9 +17,9 @@ use Rattle.sb_node.specs.Groups.{FollowByGroups}
 use Rattle.sb_node.specs.Serving.{node_goes_on, opened_disks, origin_of, IsLeft, StandsFor}
 use Rattle.sb_node.specs.Steps.{is_spared}
 use Rattle.sb_node.proofs.Whole.{honest_on, quiet_on}
-use Rattle.sb_desk.specs.Desks.{IsKeptIn, IsNew, IsOf, Open, Sitting, below}
+use Rattle.sb_desk.specs.Desks.{IsNew, IsOf, Open, Sitting}
 use Rattle.sb_desk.specs.Entries.{IsReport}
-use Rattle.sb_desk.specs.Lists.{Each, HaveSeatsBelow}
+use Rattle.sb_desk.specs.Lists.{Each}
 use Rattle.sb_desk.specs.Spared.{Spares}
 use Rattle.sb_desk.specs.declared.report.Report.{Report}
 use Rattle.sb_server.specs.Serves.{AllServedOrNone, Worker, is_fault, is_lost, serve_ending}
@@ -36,6 +36,7 @@ use Rattle.sb_app.specs.declared.jump.Jump.{Jump}
 use Rattle.sb_app.specs.Outside.{Output, Outside}
 use Rattle.sb_app.specs.Openings.{IsOpened, IsFailed, IsFailedStatus}
 use Rattle.sb_app.specs.Servings.{HasDoorRisen, HasJumped, IsFreeServing, IsServeCall, IsServed, IsServeStatus, NoneStops, has_stopped, passes_for, report_line, serve_status}
+use Rattle.sb_app.specs.Stages.{IsWorked}
 use Rattle.sb_app.specs.declared.ending.RunEnd.TheVariants.{DiskFault, OutOfMemory as WantsMemory}
 use Rattle.sb_app.proofs.Carried.{nothing_done, refused_by, rose_of, told_fault, told_quiet, told_status, unopened_by}
 use Rattle.sb_app.proofs.Faults.{failed_on}
@@ -278,7 +279,7 @@ told_at false Done told n is low = is
 -- ---- counts of the doors
 
 -- what a worker tells of its door's count
-abbrev Tells : {R : Type 0} → (Worker R → Type 0) → (R → ℕ) → Type 0
+abbrev pub Tells : {R : Type 0} → (Worker R → Type 0) → (R → ℕ) → Type 0
 Tells Work count = (w : Worker _) → Work w → TellsFault w.stop (count w.door) (count w.door_after)
 
 fault_of : (stop : Stop) → is_fault stop ≡ true → stop ≡ Fault
@@ -399,15 +400,6 @@ pub some_for : (doors passes : ℕ) → passes ≡ passes_for doors → 0 < pass
 some_for doors passes is = omega (arith, is)
 
 -- ---- the doors were served
-
--- what is known of the desk and of its workers
-pub record IsWorked {R : Type 0} (Works : Open → Worker R → Type 0) (h : List Entry) (desk : Open) (passes passes_now : List Sitting) (doors doors_now : List R) (ending : ServeEnding) : Type 0 where
-  pub many : desk.passes ≡ passes_for (length doors)
-  pub fresh : Each (IsNew desk) passes
-  pub seats : map (λ p. p.seat) passes ≡ below desk.passes
-  pub seen : Each (IsKeptIn h) passes_now
-  pub seated : HaveSeatsBelow desk.passes h
-  pub serves : AllServedOrNone (Works desk) passes passes_now doors doors_now ending
 
 module _ {R : Type 0} (clock : ℕ → Type 0) (days : ℕ) (goes_on : Bool) (Works : Open → Worker R → Type 0) (count : R → ℕ) (Safe : Type 0) (salt : ℕ) (was now : Outside) (ready : Disks) (doors doors_now : List R) (h : List Entry) (desk : Open) (passes passes_now : List Sitting) (ending : ServeEnding) (report : Report) (stopped : Bool) (told : ℕ) where
   served : IsOpened Safe salt was.disks ready desk.start → IsSettled clock days desk.start.now → desk.origin ≡ origin_of goes_on ready → IsWorked Works h desk passes passes_now doors doors_now ending → IsReport desk.start h report → IsClosed goes_on salt desk.start h ready now.disks stopped

@@ -1,6 +1,6 @@
 -- The whole program. Read sb_machine's pages first (names, namespace; leaves, changes; rows, claims, leases; visits, delivery; an operation; due;
 -- repeats, answers, history; the laws), then Lawful and Backing. The page of the headline is Tops; Outside, Lines, Taking, Nodes, Runs, Endings, Commits,
--- Openings are what it is made of; Checkpoints what a run or a server may end with; Checks, Drills, Clients, Servings are the other commands, Calls all of them.
+-- Openings are what it is made of; Checkpoints what a run or a server may end with; Checks, Drills, Clients, Servings are the other commands (Stages has the steps of the last), Calls all of them.
 pub mod Outside
 pub mod Lines
 pub mod Jumps
@@ -21,3 +21,4 @@ pub mod Clients
 pub mod Looks
 pub mod Calls
 pub mod Servings
+pub mod Stages

@@ -67,6 +67,7 @@ pub fn run_script<D: Disk, C: Clock, S: Source, K: Sink>(
         match hold_line(clock, max_jump, &line) {
             Ok(()) => {}
             Err(jump) => {
+                drop(line);
                 let Ok(()) = tell_jump(alloc, jump, output) else {
                     return Err(RunEnd::OutOfMemory);
                 };

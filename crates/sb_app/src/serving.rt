@@ -1,6 +1,8 @@
 // Serving the connections of doors over the namespace of two disks.
-ghost use Rattle.std.specs.Prelude.{◌≡◌, ℕ, nat_lt, Option, IfOk, IfSome, IsSome, string_bytes};
-ghost use Rattle.sb_journal.specs.Disks.{disks_of};
+ghost use Rattle.std.specs.Prelude.{◌≡◌, [], ℕ, nat_lt, IfErr, IfOk, string_bytes};
+ghost use Rattle.sb_journal.specs.Disks.{disks_of, Disks};
+ghost use Rattle.sb_node.specs.Nodes.{node_state};
+ghost use Rattle.sb_node.specs.Serving.{StandsFor};
 ghost use Rattle.sb_desk.specs.Desks.{value_of};
 ghost use Rattle.sb_server.specs.Serves.{WorkerDid};
 ghost use Rattle.sb_server.specs.Works.{ConnectionServed};
@@ -8,6 +10,7 @@ ghost use Rattle.sb_app.specs.Checks.{IsLineTold};
 ghost use Rattle.sb_app.specs.Outside.{Input, output_of};
 ghost use Rattle.sb_app.specs.Servings.{IsServer, serve_status};
 ghost use Rattle.sb_app.specs.Servings as servings;
+ghost use Rattle.sb_app.specs.Stages.{DeskServed, MayNotServe, MayServe, ServerEnded};
 
 use crate::checkpointing::end_server;
 use crate::jump::{hold_server, jump_status};
@@ -71,35 +74,140 @@ where
     let Ok(routes) = Routes::new(alloc) else {
         return (7, disk_a, disk_b);
     };
-    let mut node = match open_node(alloc, disk_a, disk_b, salt, output) {
+    let node = match open_held(
+        alloc, disk_a, disk_b, salt, clock, max_jump, output, watcher,
+    ) {
         Ok(node) => node,
         Err(failed) => {
             drop(routes);
             return failed;
         }
     };
+    let served = serve_node(
+        rt,
+        alloc,
+        &routes,
+        access,
+        limits,
+        node,
+        clock,
+        output,
+        doors,
+        lobby,
+        most,
+        checkpoint_after,
+        checkpoint,
+    );
+    drop(routes);
+    served
+}
+
+// Opens the namespace of two disks, and holds it back where the clock reads too far ahead of it: then the status
+// comes with the disks.
+fn open_held<D: Disk, C: Clock, K: Sink, W: Watcher>(
+    alloc: Global,
+    disk_a: D,
+    disk_b: D,
+    salt: u64,
+    clock: &C,
+    max_jump: u32,
+    output: &mut K,
+    watcher: &W,
+) -> Result<Node<D>, (u8, D, D)>
+    ensures ok { IfOk result (λ n. MayServe (C.reads clock.now) max_jump salt (disks_of D.Disk disk_a disk_b) n × (output.new ≡ output.old)) }
+    ensures err { IfErr result (λ e. MayNotServe (C.reads clock.now) max_jump salt (disks_of D.Disk disk_a disk_b) (disks_of D.Disk e.1 e.2) (output_of K.Sink output.old) (output_of K.Sink output.new) e.0) }
+{
+    let node = match open_node(alloc, disk_a, disk_b, salt, output) {
+        Ok(node) => node,
+        Err(failed) => return Err(failed),
+    };
     match hold_server(clock, max_jump, node.summary(), watcher) {
-        Ok(()) => {}
+        Ok(()) => Ok(node),
         Err(jump) => {
-            drop(routes);
             let status = jump_status(alloc, jump, output);
             let (disk_a, disk_b) = node.close();
-            return (status, disk_a, disk_b);
+            Err((status, disk_a, disk_b))
         }
     }
+}
+
+// Serves the doors over a node that may serve, until all workers have ended, and ends it.
+fn serve_node<
+    T: Threads + Wait + Sync,
+    D: Disk + Send,
+    C: Clock + Sync,
+    K: Sink,
+    R: Door + Send,
+    L: Lobby + Sync,
+>(
+    rt: &T,
+    alloc: Global,
+    routes: &Routes,
+    access: &Access,
+    limits: Limits,
+    node: Node<D>,
+    clock: &C,
+    output: &mut K,
+    doors: &mut Vec<R>,
+    lobby: &L,
+    most: u64,
+    checkpoint_after: u64,
+    checkpoint: bool,
+) -> (u8, D, D)
+where
+    R::Conn: Send,
+    requires stands { StandsFor node (node_state node) [] }
+    ensures { (input : Input) (days salt : ℕ) (was : Disks) → MayServe (C.reads clock.now) days salt was node → IsServer checkpoint (C.reads clock.now) days (nat_lt 0 checkpoint_after) (λ desk. WorkerDid R.Door (ConnectionServed R.Conn.Conn (C.reads clock.now) access.now limits) desk most) R.count salt
+        (record { input = input; output = output_of K.Sink output.old; disks = was }) (record { input = input; output = output_of K.Sink output.new; disks = disks_of D.Disk result.1 result.2 })
+        doors.old.items doors.new.items result.0 }
+{
+    let mut node = node;
     node.go_on_after(checkpoint_after);
+    match serve_desk(
+        rt, alloc, routes, access, limits, node, clock, doors, lobby, most,
+    ) {
+        Ok((node, report, ending)) => end_serving(alloc, node, report, ending, output, checkpoint),
+        Err(node) => {
+            let (disk_a, disk_b) = node.close();
+            (7, disk_a, disk_b)
+        }
+    }
+}
+
+// Serves the doors over a desk of this node, with a worker each, until all workers have ended. Without memory for the
+// desk the node comes back as it was.
+fn serve_desk<
+    T: Threads + Wait + Sync,
+    D: Disk + Send,
+    C: Clock + Sync,
+    R: Door + Send,
+    L: Lobby + Sync,
+>(
+    rt: &T,
+    alloc: Global,
+    routes: &Routes,
+    access: &Access,
+    limits: Limits,
+    node: Node<D>,
+    clock: &C,
+    doors: &mut Vec<R>,
+    lobby: &L,
+    most: u64,
+) -> Result<(Node<D>, Report, ServeEnding), Node<D>>
+where
+    R::Conn: Send,
+    requires stands { StandsFor node (node_state node) [] }
+    ensures ok { IfOk result (λ r. DeskServed (λ desk. WorkerDid R.Door (ConnectionServed R.Conn.Conn (C.reads clock.now) access.now limits) desk most) node r.0 doors.old.items doors.new.items r.1 r.2) }
+    ensures err { IfErr result (λ n. (n ≡ node) × (doors.new.items ≡ doors.old.items)) }
+{
     let (desk, mut passes) = match Desk::new(alloc, node, at_least_one(doors.len())) {
         Ok(opened) => opened,
-        Err(fault) => {
-            drop(routes);
-            let (disk_a, disk_b) = node_back(fault).close();
-            return (7, disk_a, disk_b);
-        }
+        Err(fault) => return Err(node_back(fault)),
     };
     let ending = serve(
         rt,
         alloc,
-        &routes,
+        routes,
         access,
         limits,
         &desk,
@@ -109,11 +217,24 @@ where
         lobby,
         most,
     );
-    drop(routes);
-    let (mut node, report) = match desk.close(passes) {
-        Ok(closed) => closed,
+    match desk.close(passes) {
+        Ok((node, report)) => Ok((node, report, ending)),
         Err(_fault) => unreachable!(),
-    };
+    }
+}
+
+// Tells the numbers of what was served, makes the checkpoint that is asked for, and gives the disks back.
+fn end_serving<D: Disk, K: Sink>(
+    alloc: Global,
+    node: Node<D>,
+    report: Report,
+    ending: ServeEnding,
+    output: &mut K,
+    checkpoint: bool,
+) -> (u8, D, D)
+    ensures { ServerEnded checkpoint ending report node (disks_of D.Disk result.1 result.2) (output_of K.Sink output.old) (output_of K.Sink output.new) result.0 }
+{
+    let mut node = node;
     let told = tell_report(alloc, output, report);
     let served = status_of(node.stopped(), ending, told);
     let status = end_server(&mut node, served, checkpoint);
