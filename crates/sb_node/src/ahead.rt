@@ -11,6 +11,7 @@ ghost use Rattle.sb_machine.specs.History.{is_disk_fault};
 ghost use Rattle.sb_machine.specs.declared.reply.Refusal.TheVariants.{DiskFault, OutOfMemory, Stopped};
 ghost use Rattle.sb_recorder.specs.Recorders.{recorder_journal};
 
+use crate::refusing::put_went;
 use crate::replay::MAX_MOMENT;
 use sb_desk::{Post, Went};
 use sb_engine::{Engine, Plan};
@@ -118,6 +119,7 @@ impl<D: Disk> Ahead<D> {
             Ok(tick) => tick,
             Err(refusal) => {
                 if is_disk_refusal(&refusal) {
+                    drop(refusal);
                     return Err(sb_outside::DiskFault);
                 }
                 return Ok(Went {
@@ -128,6 +130,7 @@ impl<D: Disk> Ahead<D> {
         };
         let answer = self.answer(t, call);
         if is_disk_fault(&answer) {
+            drop(answer);
             return Err(sb_outside::DiskFault);
         }
         Ok(Went { answer, tick })
@@ -265,7 +268,7 @@ impl<D: Disk> Ahead<D> {
         let Ok(went) = self.step(post.reading, &post.call) else {
             return Err(sb_outside::DiskFault);
         };
-        post.went = Some(went);
+        put_went(post, went);
         Ok(())
     }
 
@@ -356,7 +359,8 @@ impl<D: Disk> Ahead<D> {
                 return Err(refusal);
             }
         }
-        let _answered = self.engine.commit(t, plan);
+        let answered = self.engine.commit(t, plan);
+        drop(answered);
         Ok(Some(t))
     }
 

@@ -1,5 +1,5 @@
 // What calls are answered that aren't carried out, since a disk failed or had failed.
-ghost use Rattle.std.specs.Prelude.{◌≡◌, ◌∷◌, [], filter, is_some, length, map, true};
+ghost use Rattle.std.specs.Prelude.{◌≡◌, ◌∷◌, [], Some, filter, is_some, length, map, true};
 ghost use Rattle.std.specs.List.{All};
 ghost use Rattle.sb_desk.specs.Entries.{is_refused};
 ghost use Rattle.sb_desk.specs.Posts.{asked_of, group_entries, post_entries};
@@ -9,6 +9,7 @@ ghost use Rattle.sb_node.specs.Serving.{raised};
 use crate::counting::count_posts;
 use sb_desk::{Post, Report, Went};
 use sb_machine::Refusal;
+use std::mem;
 
 // Each of these calls is answered that the disk failed, or, where it had before, with its count of faults then; that counts among the
 // numbers.
@@ -22,6 +23,13 @@ pub(crate) fn refuse_all(posts: &mut [Post], stopped: Option<u64>, numbers: &mut
 {
     refuse_each(posts, stopped);
     count_posts(numbers, posts);
+}
+
+// Puts what came of a post's call into it.
+pub(crate) fn put_went(post: &mut Post, went: Went)
+    ensures { post.new ≡ record post.old { went = Some went } }
+{
+    drop(mem::replace(&mut post.went, Some(went)));
 }
 
 fn refuse_each(posts: &mut [Post], stopped: Option<u64>)
@@ -39,10 +47,13 @@ fn refuse(post: &mut Post, stopped: Option<u64>)
     ensures asked { asked_of post.new ≡ asked_of post.old }
     ensures went { is_some post.new.went ≡ true }
 {
-    post.went = Some(Went {
-        answer: Err(refusal_of(stopped)),
-        tick: None,
-    });
+    put_went(
+        post,
+        Went {
+            answer: Err(refusal_of(stopped)),
+            tick: None,
+        },
+    );
 }
 
 fn refusal_of(stopped: Option<u64>) -> Refusal

@@ -45,6 +45,7 @@ pub fn receive_waiting<V: Served, R: Wait, C: Clock>(
         let (next, same, found) = call_once(rt, desk, current, clock, now, asked);
         current = next;
         asked = same;
+        drop(answer);
         answer = found;
     }
     (current, asked, answer)
