@@ -128,40 +128,42 @@ fn shows_its_key(rt: HostRuntime) -> Result<(), Fail> {
     Ok(())
 }
 
+static ENDINGS: [(&[u8], ClientEnding); 8] = [
+    (
+        b"HTTP/1.1 200 OK\r\nContent-Length: 28\r\n\r\n{\"refused\":\"EntityNotFound\"}",
+        ClientEnding::BadReply,
+    ),
+    (
+        b"HTTP/1.1 200 OK\r\nContent-Length: 23\r\n\r\n{\"refused\":\"LockLost\"}\n",
+        ClientEnding::Done { refused: true },
+    ),
+    (
+        b"HTTP/1.1 200 OK\r\nContent-Length: 24\r\n\r\n{\"refused\":\"DiskFault\"}\n",
+        ClientEnding::Done { refused: true },
+    ),
+    (
+        b"HTTP/1.1 200 OK\r\nContent-Length: 15\r\n\r\n{\"ok\": \"done\"}\n",
+        ClientEnding::BadReply,
+    ),
+    (
+        b"HTTP/1.1 404 Not Found\r\nContent-Length: 14\r\n\r\n{\"ok\":\"done\"}\n",
+        ClientEnding::BadReply,
+    ),
+    (
+        b"HTTP/1.1 401 Unauthorized\r\nContent-Length: 0\r\n\r\n",
+        ClientEnding::BadReply,
+    ),
+    (
+        b"HTTP/1.1 403 Forbidden\r\nContent-Length: 0\r\n\r\n",
+        ClientEnding::BadReply,
+    ),
+    (b"x", ClientEnding::BadReply),
+];
+
 #[test]
 fn says_how_it_ended(rt: HostRuntime) -> Result<(), Fail> {
-    let refusal =
-        b"HTTP/1.1 200 OK\r\nContent-Length: 28\r\n\r\n{\"refused\":\"EntityNotFound\"}".as_slice();
-    let rows = [
-        (refusal, ClientEnding::BadReply),
-        (
-            b"HTTP/1.1 200 OK\r\nContent-Length: 23\r\n\r\n{\"refused\":\"LockLost\"}\n".as_slice(),
-            ClientEnding::Done { refused: true },
-        ),
-        (
-            b"HTTP/1.1 200 OK\r\nContent-Length: 24\r\n\r\n{\"refused\":\"DiskFault\"}\n".as_slice(),
-            ClientEnding::Done { refused: true },
-        ),
-        (
-            b"HTTP/1.1 200 OK\r\nContent-Length: 15\r\n\r\n{\"ok\": \"done\"}\n".as_slice(),
-            ClientEnding::BadReply,
-        ),
-        (
-            b"HTTP/1.1 404 Not Found\r\nContent-Length: 14\r\n\r\n{\"ok\":\"done\"}\n".as_slice(),
-            ClientEnding::BadReply,
-        ),
-        (
-            b"HTTP/1.1 401 Unauthorized\r\nContent-Length: 0\r\n\r\n".as_slice(),
-            ClientEnding::BadReply,
-        ),
-        (
-            b"HTTP/1.1 403 Forbidden\r\nContent-Length: 0\r\n\r\n".as_slice(),
-            ClientEnding::BadReply,
-        ),
-        (b"x".as_slice(), ClientEnding::BadReply),
-    ];
-    for (reply, wanted) in rows {
-        assert!(rt; ending_of(rt.alloc(), reply)? == wanted);
+    for (reply, wanted) in &ENDINGS {
+        assert!(rt; ending_of(rt.alloc(), reply)? == *wanted);
     }
     Ok(())
 }

@@ -78,42 +78,49 @@ fn write_twice<N: Conn>(rt: &impl Abort, conn: &mut N, counts: [Option<usize>; 2
 
 // Each row: what the stream answers, and what comes of two reads of up to four bytes, and of two writes of
 // four; no number is a fault. A silent caller's time is over with `WouldBlock`.
+static STREAMS: [(&[Step], [Option<usize>; 2], [Option<usize>; 2]); 6] = [
+    (&[Step::Moves(3)], [Some(3), Some(0)], [Some(3), None]),
+    (
+        &[Step::Moves(9), Step::Moves(1)],
+        [Some(4), Some(1)],
+        [Some(4), Some(1)],
+    ),
+    (
+        &[Step::Fails(ErrorKind::Interrupted), Step::Moves(2)],
+        [Some(2), Some(0)],
+        [Some(2), None],
+    ),
+    (
+        &[Step::Fails(ErrorKind::ConnectionReset), Step::Moves(2)],
+        [None, Some(2)],
+        [None, Some(2)],
+    ),
+    (
+        &[Step::Moves(1), Step::Fails(ErrorKind::WouldBlock)],
+        [Some(1), None],
+        [Some(1), None],
+    ),
+    (
+        &[Step::Moves(1), Step::Fails(ErrorKind::TimedOut)],
+        [Some(1), None],
+        [Some(1), None],
+    ),
+];
+
 #[test]
 fn a_stream_fails(rt: HostRuntime) -> Result<(), Fail> {
-    let rows: [(&[Step], [Option<usize>; 2], [Option<usize>; 2]); 6] = [
-        (&[Step::Moves(3)], [Some(3), Some(0)], [Some(3), None]),
-        (
-            &[Step::Moves(9), Step::Moves(1)],
-            [Some(4), Some(1)],
-            [Some(4), Some(1)],
-        ),
-        (
-            &[Step::Fails(ErrorKind::Interrupted), Step::Moves(2)],
-            [Some(2), Some(0)],
-            [Some(2), None],
-        ),
-        (
-            &[Step::Fails(ErrorKind::ConnectionReset), Step::Moves(2)],
-            [None, Some(2)],
-            [None, Some(2)],
-        ),
-        (
-            &[Step::Moves(1), Step::Fails(ErrorKind::WouldBlock)],
-            [Some(1), None],
-            [Some(1), None],
-        ),
-        (
-            &[Step::Moves(1), Step::Fails(ErrorKind::TimedOut)],
-            [Some(1), None],
-            [Some(1), None],
-        ),
-    ];
-    for (steps, reads, writes) in rows {
-        let mut conn = Connected::new(Scripted { steps, call: 0 });
-        read_twice(&rt, &mut conn, reads);
+    for (steps, reads, writes) in &STREAMS {
+        let mut conn = Connected::new(Scripted {
+            steps: *steps,
+            call: 0,
+        });
+        read_twice(&rt, &mut conn, *reads);
         drop(conn);
-        let mut conn = Connected::new(Scripted { steps, call: 0 });
-        write_twice(&rt, &mut conn, writes);
+        let mut conn = Connected::new(Scripted {
+            steps: *steps,
+            call: 0,
+        });
+        write_twice(&rt, &mut conn, *writes);
         drop(conn);
     }
     Ok(())
@@ -260,41 +267,43 @@ fn line_of(
     Ok(line?)
 }
 
+// The moment, method and target of a call, the response, and the line.
+static CALLS: [(u64, &[u8], &[u8], &[u8], &str); 4] = [
+    (
+        0,
+        b"GET",
+        b"/",
+        b"HTTP/1.1 404 Not Found\r\n\r\n",
+        "1970-01-01T00:00:00.000Z GET / 404 26 1500",
+    ),
+    (
+        1_795_852_800_123,
+        b"POST",
+        b"/orders/messages/head?timeout=5",
+        b"HTTP/1.1 201 Created\r\n\r\n",
+        "2026-11-28T08:00:00.123Z POST /orders/messages/head?timeout=5 201 24 1500",
+    ),
+    (
+        951_782_399_999,
+        b"PUT",
+        b"/a\nb\x7f\xc3\xa9~",
+        b"HTTP",
+        "2000-02-28T23:59:59.999Z PUT /a%0Ab%7F%C3%A9~ - 4 1500",
+    ),
+    (
+        253_402_300_800_000,
+        b"GET",
+        b"/%0A",
+        b"HTTP/1.1 200 OK\r\n\r\n",
+        "- GET /%0A 200 19 1500",
+    ),
+];
+
 #[test]
 fn a_log_has_a_line(rt: HostRuntime) -> Result<(), Fail> {
-    let rows: [(u64, &[u8], &[u8], &[u8], &str); 4] = [
-        (
-            0,
-            b"GET",
-            b"/",
-            b"HTTP/1.1 404 Not Found\r\n\r\n",
-            "1970-01-01T00:00:00.000Z GET / 404 26 1500",
-        ),
-        (
-            1_795_852_800_123,
-            b"POST",
-            b"/orders/messages/head?timeout=5",
-            b"HTTP/1.1 201 Created\r\n\r\n",
-            "2026-11-28T08:00:00.123Z POST /orders/messages/head?timeout=5 201 24 1500",
-        ),
-        (
-            951_782_399_999,
-            b"PUT",
-            b"/a\nb\x7f\xc3\xa9~",
-            b"HTTP",
-            "2000-02-28T23:59:59.999Z PUT /a%0Ab%7F%C3%A9~ - 4 1500",
-        ),
-        (
-            253_402_300_800_000,
-            b"GET",
-            b"/%0A",
-            b"HTTP/1.1 200 OK\r\n\r\n",
-            "- GET /%0A 200 19 1500",
-        ),
-    ];
-    for (at_ms, method, path, response, wanted) in rows {
-        let line = line_of(rt.alloc(), at_ms, (method, path), response)?;
-        assert_eq!(rt; line.as_str(), wanted);
+    for (at_ms, method, path, response, wanted) in &CALLS {
+        let line = line_of(rt.alloc(), *at_ms, (method, path), response)?;
+        assert_eq!(rt; line.as_str(), *wanted);
     }
     Ok(())
 }

@@ -152,7 +152,7 @@ fn fault_of(alloc: Global, bytes: Vec<u8>) -> Result<(OpenWhy, usize), Fail> {
 
 const SALT: u64 = 0xa1b2_c3d4_e5f6_0718;
 
-const NEW_FILE: [u8; 43] = [
+static NEW_FILE: [u8; 43] = [
     1, 0x53, 0x42, 0x4e, 0x53, 0x4a, 0x52, 0x4e, 0x4c, 1, 0xa1, 0xb2, 0xc3, 0xd4, 0xe5, 0xf6, 0x07,
     0x18, 0, 0, 0, 0, 0, 0, 0, 1, 0, 0, 0, 0, 0, 0, 0, 1, 0, 0, 0, 0, 0, 0, 0, 0, 0,
 ];
@@ -204,23 +204,25 @@ fn changed_file(alloc: Global, place: usize, byte: u8) -> Result<Vec<u8>, AllocE
     Ok(bytes)
 }
 
+// The place and the byte that stands there, and the place that is told.
+static DAMAGES: [(usize, u8, u64); 9] = [
+    (0, 0, 0),
+    (0, b'X', 0),
+    (1, 0, 1),
+    (9, 2, 9),
+    (18, 255, 18),
+    (33, 0, 26),
+    (41, 16, 42),
+    (46, 3, 42),
+    (54, 9, 42),
+];
+
 #[test]
 fn tells_the_place_of_damage(rt: HostRuntime) -> Result<(), Fail> {
-    let cases = [
-        (0, 0, 0),
-        (0, b'X', 0),
-        (1, 0, 1),
-        (9, 2, 9),
-        (18, 255, 18),
-        (33, 0, 26),
-        (41, 16, 42),
-        (46, 3, 42),
-        (54, 9, 42),
-    ];
-    for (place, byte, damage) in cases {
-        let bytes = changed_file(rt.alloc(), place, byte)?;
+    for (place, byte, damage) in &DAMAGES {
+        let bytes = changed_file(rt.alloc(), *place, *byte)?;
         let (why, length) = fault_of(rt.alloc(), bytes)?;
-        assert!(rt; why == OpenWhy::Damaged(Side::A, damage), "at {place}");
+        assert!(rt; why == OpenWhy::Damaged(Side::A, *damage), "at {place}");
         assert_eq!(rt; length, 57);
     }
     Ok(())
@@ -306,7 +308,7 @@ fn closes_a_torn_end(rt: HostRuntime) -> Result<(), Fail> {
 
 // An empty disk's calls: sync, length, length; sync, read, write 00, sync, cut, write all behind it, sync,
 // write 01, sync; and four for a record. How many bytes it has where one of them failed.
-const LENGTHS: [usize; 16] = [0, 0, 0, 0, 0, 0, 1, 1, 1, 43, 43, 43, 43, 59, 59, 59];
+static LENGTHS: [usize; 16] = [0, 0, 0, 0, 0, 0, 1, 1, 1, 43, 43, 43, 43, 59, 59, 59];
 
 // How many bytes the disk of a journal has whose first append fails.
 fn length_after_append(rt: &impl Abort, journal: Journal<MemDisk>) -> usize

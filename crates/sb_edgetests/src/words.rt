@@ -29,89 +29,93 @@ fn help_for(alloc: Global, line: &str) -> Result<String, Fail> {
     Ok(text?.ok_or("no help")?)
 }
 
+static WRONG_LINES: [(&str, &str); 17] = [
+    (
+        "serve --data=a --port=80800",
+        "--port takes a number from 1 to 65535",
+    ),
+    (
+        "serve --data=a --port=80 --workers=65536",
+        "--workers takes a number from 1 to 65535",
+    ),
+    (
+        "serve --data=a --port=80 --request-time=0",
+        "--request-time takes a number from 1 to 86400",
+    ),
+    (
+        "serve --data=a --port=80 --idle-time=86401",
+        "--idle-time takes a number from 1 to 86400",
+    ),
+    (
+        "serve --data=a --port=80 --threads=65",
+        "--threads takes a number from 1 to 64",
+    ),
+    (
+        "serve --data=a --port=80 --host=",
+        "--host takes names of 1 to 255 visible characters, up to 8 times",
+    ),
+    (
+        "run --data=a --max-jump=07",
+        "--max-jump takes a number from 0 to 100000",
+    ),
+    (
+        "client --port=80 --patience=0",
+        "--patience takes a number from 1 to 7200",
+    ),
+    ("client --port=80 --key=", "--key takes the name of a file"),
+    (
+        "serve --data=a --port=80 --checkpoint-after=-1",
+        "--checkpoint-after takes a number from 0 to 4611686018427387904",
+    ),
+    ("run --dat a", "unexpected argument '--dat' found"),
+    ("drll", "unrecognized subcommand 'drll'"),
+    (
+        "drill",
+        "the following required arguments were not provided: <COUNT> <SEED>",
+    ),
+    ("drill 1000001 7", "COUNT takes a number from 0 to 1000000"),
+    (
+        "drill 5 18446744073709551616",
+        "SEED takes a number from 0 to 18446744073709551615",
+    ),
+    ("drill 5 7 9", "unexpected argument '9' found"),
+    (
+        "client",
+        "the following required arguments were not provided: --port <P>",
+    ),
+];
+
 #[test]
 fn says_what_is_wrong(rt: HostRuntime) -> Result<(), Fail> {
-    let hosts = "--host takes names of 1 to 255 visible characters, up to 8 times";
-    let rows = [
-        (
-            "serve --data=a --port=80800",
-            "--port takes a number from 1 to 65535",
-        ),
-        (
-            "serve --data=a --port=80 --workers=65536",
-            "--workers takes a number from 1 to 65535",
-        ),
-        (
-            "serve --data=a --port=80 --request-time=0",
-            "--request-time takes a number from 1 to 86400",
-        ),
-        (
-            "serve --data=a --port=80 --idle-time=86401",
-            "--idle-time takes a number from 1 to 86400",
-        ),
-        (
-            "serve --data=a --port=80 --threads=65",
-            "--threads takes a number from 1 to 64",
-        ),
-        ("serve --data=a --port=80 --host=", hosts),
-        (
-            "run --data=a --max-jump=07",
-            "--max-jump takes a number from 0 to 100000",
-        ),
-        (
-            "client --port=80 --patience=0",
-            "--patience takes a number from 1 to 7200",
-        ),
-        ("client --port=80 --key=", "--key takes the name of a file"),
-        (
-            "serve --data=a --port=80 --checkpoint-after=-1",
-            "--checkpoint-after takes a number from 0 to 4611686018427387904",
-        ),
-        ("run --dat a", "unexpected argument '--dat' found"),
-        ("drll", "unrecognized subcommand 'drll'"),
-        (
-            "drill",
-            "the following required arguments were not provided: <COUNT> <SEED>",
-        ),
-        ("drill 1000001 7", "COUNT takes a number from 0 to 1000000"),
-        (
-            "drill 5 18446744073709551616",
-            "SEED takes a number from 0 to 18446744073709551615",
-        ),
-        ("drill 5 7 9", "unexpected argument '9' found"),
-        (
-            "client",
-            "the following required arguments were not provided: --port <P>",
-        ),
-    ];
-    for (line, wanted) in rows {
+    for (line, wanted) in &WRONG_LINES {
         let text = wrong_with(rt.alloc(), line)?;
-        assert_eq!(rt; text.as_str(), wanted);
+        assert_eq!(rt; text.as_str(), *wanted);
     }
     Ok(())
 }
 
+static HELPS: [(&str, &str); 14] = [
+    ("help", "Usage: bus <COMMAND>"),
+    ("help serve", "Usage: bus serve"),
+    ("serve --help", "[default: 400]"),
+    ("help client", "1 to 7200 [default: 120]"),
+    ("run -h", "Example: bus run"),
+    ("help check", "--look"),
+    ("help serve", "--log"),
+    ("help serve", "[default: 60]"),
+    ("help serve", "[default: 600]"),
+    ("help serve", "[default: 268435456]"),
+    ("help run", "--checkpoint"),
+    ("help drill", "0 to 1000000"),
+    ("drill -h", "Example: bus drill 2000 7"),
+    ("--version", "bus 0.1.0"),
+];
+
 #[test]
 fn helps_with_each_command(rt: HostRuntime) -> Result<(), Fail> {
-    let rows = [
-        ("help", "Usage: bus <COMMAND>"),
-        ("help serve", "Usage: bus serve"),
-        ("serve --help", "[default: 400]"),
-        ("help client", "1 to 7200 [default: 120]"),
-        ("run -h", "Example: bus run"),
-        ("help check", "--look"),
-        ("help serve", "--log"),
-        ("help serve", "[default: 60]"),
-        ("help serve", "[default: 600]"),
-        ("help serve", "[default: 268435456]"),
-        ("help run", "--checkpoint"),
-        ("help drill", "0 to 1000000"),
-        ("drill -h", "Example: bus drill 2000 7"),
-        ("--version", "bus 0.1.0"),
-    ];
-    for (line, wanted) in rows {
+    for (line, wanted) in &HELPS {
         let text = help_for(rt.alloc(), line)?;
-        assert!(rt; text.as_str().contains(wanted), "{text}");
+        assert!(rt; text.as_str().contains(*wanted), "{text}");
     }
     Ok(())
 }

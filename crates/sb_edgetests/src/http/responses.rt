@@ -26,32 +26,33 @@ fn bytes_of(alloc: Global, status: Status) -> Result<Vec<u8>, Fail> {
     written(alloc, response)
 }
 
+static STATUS_LINES: [(Status, &str); 14] = [
+    (Status::Ok, "200 OK"),
+    (Status::Created, "201 Created"),
+    (Status::NoContent, "204 No Content"),
+    (Status::BadRequest, "400 Bad Request"),
+    (Status::Unauthorized, "401 Unauthorized"),
+    (Status::Forbidden, "403 Forbidden"),
+    (Status::NotFound, "404 Not Found"),
+    (Status::MethodNotAllowed, "405 Method Not Allowed"),
+    (Status::Conflict, "409 Conflict"),
+    (Status::Gone, "410 Gone"),
+    (Status::PayloadTooLarge, "413 Payload Too Large"),
+    (
+        Status::HeaderFieldsTooLarge,
+        "431 Request Header Fields Too Large",
+    ),
+    (Status::InternalServerError, "500 Internal Server Error"),
+    (Status::ServiceUnavailable, "503 Service Unavailable"),
+];
+
 // RFC 9110, section 15: each status line.
 #[test]
 fn status_lines(rt: HostRuntime) -> Result<(), Fail> {
-    let rows = [
-        (Status::Ok, "200 OK"),
-        (Status::Created, "201 Created"),
-        (Status::NoContent, "204 No Content"),
-        (Status::BadRequest, "400 Bad Request"),
-        (Status::Unauthorized, "401 Unauthorized"),
-        (Status::Forbidden, "403 Forbidden"),
-        (Status::NotFound, "404 Not Found"),
-        (Status::MethodNotAllowed, "405 Method Not Allowed"),
-        (Status::Conflict, "409 Conflict"),
-        (Status::Gone, "410 Gone"),
-        (Status::PayloadTooLarge, "413 Payload Too Large"),
-        (
-            Status::HeaderFieldsTooLarge,
-            "431 Request Header Fields Too Large",
-        ),
-        (Status::InternalServerError, "500 Internal Server Error"),
-        (Status::ServiceUnavailable, "503 Service Unavailable"),
-    ];
-    for (status, line) in rows {
-        let bytes = bytes_of(rt.alloc(), status)?;
+    for (status, line) in &STATUS_LINES {
+        let bytes = bytes_of(rt.alloc(), *status)?;
         let rest = bytes.strip_prefix(b"HTTP/1.1 ").ok_or("another version")?;
-        let rest = rest.strip_prefix(line.as_bytes()).ok_or(line)?;
+        let rest = rest.strip_prefix(line.as_bytes()).ok_or(*line)?;
         assert!(rt; rest.starts_with(b"\r\n"), "{line}");
     }
     Ok(())

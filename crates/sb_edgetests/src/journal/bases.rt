@@ -54,7 +54,7 @@ impl Judge for Keeping {
 }
 
 // The second file of a journal: the base `base`, the record 3 with the payload `x`, and the record 4 with none.
-const WITH_BASE: [u8; 74] = [
+static WITH_BASE: [u8; 74] = [
     1, 0x53, 0x42, 0x4e, 0x53, 0x4a, 0x52, 0x4e, 0x4c, 1, 0xa1, 0xb2, 0xc3, 0xd4, 0xe5, 0xf6, 0x07,
     0x18, 0, 0, 0, 0, 0, 0, 0, 2, 0, 0, 0, 0, 0, 0, 0, 3, 0, 0, 0, 0, 0, 0, 0, 4, b'b', b'a', b's',
     b'e', 1, 0, 0, 0, 1, 0, 0, 0, 0, 0, 0, 0, 3, b'x', 1, 0, 0, 0, 0, 0, 0, 0, 0, 0, 0, 0, 4, 0,
